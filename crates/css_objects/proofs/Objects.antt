@@ -10,13 +10,18 @@ use Rattle.css_objects.specs.declared.sheets.SheetOrigin.{SheetOrigin}
 use Rattle.css_objects.specs.declared.sheets.SheetOrigin.TheVariants.{UserAgent, Regular}
 use Rattle.css_objects.specs.Ranges.{range_fields, range_from, range_kind}
 use Rattle.css_objects.specs.Sheets.{is_sheet, sheet_kind, origin_name, origin_named, origin_kind, header_fields, header_from, header_kind}
-use Rattle.css_objects.specs.Selectors.{weight_fields, weight_from, weight_kind, selector_fields, selector_from, selector_kind, selectors_fields, selectors_from, selectors_kind}
-use Rattle.css_objects.specs.Styles.{property_fields, property_from, property_kind, empty_list, style_fields, style_from, style_kind, is_inline, is_in_sheet, inline_kind, rule_style_kind}
-use Rattle.css_objects.specs.Rules.{rule_fields, rule_from, rule_kind, ascend, match_fields, match_from, match_kind, inherited_fields, inherited_from, inherited_kind, matched_fields, matched_from, matched_kind}
+use Rattle.css_objects.specs.Selectors.{weight_fields, weight_from, weight_kind, selector_fields, selector_from, selector_kind}
+use Rattle.css_objects.specs.Selectors.{selectors_fields, selectors_from, selectors_kind}
+use Rattle.css_objects.specs.Styles.{property_fields, property_from, property_kind, empty_list, style_fields, style_from, style_kind}
+use Rattle.css_objects.specs.Styles.{is_inline, is_in_sheet, inline_kind, rule_style_kind}
+use Rattle.css_objects.specs.Rules.{rule_fields, rule_from, rule_kind, ascend, match_fields, match_from, match_kind, inherited_fields}
+use Rattle.css_objects.specs.Rules.{inherited_from, inherited_kind, matched_fields, matched_from, matched_kind}
 use Rattle.css_objects.specs.Results.{sheet_text_result, class_names_result, styles_result, selectors_result, rule_result}
-use Rattle.css_objects.specs.Laws.{IsSoundKind, SelectorHasUtf8, SelectorsHaveUtf8, PropertyHasUtf8, StyleHasUtf8, RuleHasUtf8, MatchHasUtf8, InheritedHasUtf8, MatchedHaveUtf8}
+use Rattle.css_objects.specs.Laws.{IsSoundKind, SelectorHasUtf8, SelectorsHaveUtf8, PropertyHasUtf8, StyleHasUtf8, RuleHasUtf8}
+use Rattle.css_objects.specs.Laws.{MatchHasUtf8, InheritedHasUtf8, MatchedHaveUtf8}
 use Rattle.css_objects.proofs.SheetIds.{the_sheet, sheet_read, sheet_text-utf8}
-use Rattle.css_objects.proofs.SoundKinds.{sound, whole_sound, text_sound, refined_sound, fields_sound, weaker, list_sound, no_more, needed, optional, flagged, object_sound}
+use Rattle.css_objects.proofs.SoundKinds.{sound, whole_sound, text_sound, refined_sound, fields_sound, weaker, list_sound, no_more, needed}
+use Rattle.css_objects.proofs.SoundKinds.{optional, flagged, object_sound}
 
 -- ---- ids, origins and the empty list
 
@@ -43,7 +48,8 @@ origin_utf8 UserAgent = IsUtf8-are_ascii (codes "user-agent") refl
 origin_utf8 Regular = IsUtf8-are_ascii (codes "regular") refl
 
 pub origin_sound : IsSoundKind origin_kind (λ _. ⊤) 0
-origin_sound = sound (choice_lawful origin_name (UserAgent ∷ Regular ∷ []) origin_again) refl (λ o f u. origin_utf8 o) (λ o. omega arith) (λ o. refl)
+origin_sound = sound (choice_lawful origin_name (UserAgent ∷ Regular ∷ []) origin_again) refl (λ o f u. origin_utf8 o) (λ o. omega arith)
+    (λ o. refl)
 
 empty_take : (d : Data) (x : ⊤) → empty_list.reads d ≡ Some x → (empty_list.spell x ≡ d) × (empty_list.fits x ≡ true)
 empty_take null x e = absurd cc
@@ -55,7 +61,8 @@ empty_take (array (item d ds)) x e = absurd cc
 empty_take (object ms) x e = absurd cc
 
 pub empty_sound : IsSoundKind empty_list (λ _. ⊤) 1
-empty_sound = sound (record { takes = empty_take; again = λ x f. refl; plain = λ x f l. refl }) refl (λ x f u. tt) (λ x. omega arith) (λ x. refl)
+empty_sound = sound (record { takes = empty_take; again = λ x f. refl; plain = λ x f l. refl }) refl (λ x f u. tt) (λ x. omega arith)
+    (λ x. refl)
 
 -- ---- objects
 
@@ -69,7 +76,8 @@ range_sound =
     (needed (codes "endColumn") whole_sound
     (needed (codes "endLine") whole_sound
     (needed (codes "startColumn") whole_sound
-    (needed (codes "startLine") whole_sound (no_more 0) refl refl (omega arith)) refl refl (omega arith)) refl refl (omega arith)) refl refl (omega arith))))
+    (needed (codes "startLine") whole_sound (no_more 0) refl refl (omega arith)) refl refl (omega arith)) refl refl (omega arith)) refl
+    refl (omega arith))))
 
 pub header_sound : IsSoundKind header_kind (λ _. ⊤) 1
 header_sound =
@@ -100,21 +108,25 @@ selectors_sound =
 
 pub property_sound : IsSoundKind property_kind PropertyHasUtf8 2
 property_sound =
-    weaker (λ p u. (u.0, (any_some p.range, (u.1, (u.2, tt))))) (fields_sound property_fields property_from (λ f. refl) (λ p. refl) (object_sound
+    weaker (λ p u. (u.0, (any_some p.range, (u.1, (u.2, tt)))))
+    (fields_sound property_fields property_from (λ f. refl) (λ p. refl) (object_sound
     (flagged (codes "important")
     (needed (codes "name") text_sound
     (optional (codes "range") range_sound
     (needed (codes "text") text_sound
-    (needed (codes "value") text_sound (no_more 1) refl refl (omega arith)) refl refl (omega arith)) refl refl (omega arith)) refl refl (omega arith)) refl refl)))
+    (needed (codes "value") text_sound (no_more 1) refl refl (omega arith)) refl refl (omega arith)) refl refl (omega arith)) refl refl
+    (omega arith)) refl refl)))
 
 pub style_sound : IsSoundKind style_kind StyleHasUtf8 4
 style_sound =
-    weaker (λ s u. (u.0, (u.1, (any_some s.range, (tt, (any_some s.sheet, tt)))))) (fields_sound style_fields style_from (λ f. refl) (λ s. refl) (object_sound
+    weaker (λ s u. (u.0, (u.1, (any_some s.range, (tt, (any_some s.sheet, tt))))))
+    (fields_sound style_fields style_from (λ f. refl) (λ s. refl) (object_sound
     (needed (codes "cssProperties") (list_sound property_sound)
     (needed (codes "cssText") text_sound
     (optional (codes "range") range_sound
     (needed (codes "shorthandEntries") empty_sound
-    (optional (codes "styleSheetId") sheet_sound (no_more 3) refl refl (omega arith)) refl refl (omega arith)) refl refl (omega arith)) refl refl (omega arith)) refl refl (omega arith))))
+    (optional (codes "styleSheetId") sheet_sound (no_more 3) refl refl (omega arith)) refl refl (omega arith)) refl refl (omega arith))
+    refl refl (omega arith)) refl refl (omega arith))))
 
 pub inline_sound : IsSoundKind inline_kind StyleHasUtf8 4
 inline_sound = refined_sound is_inline style_sound
@@ -128,7 +140,8 @@ rule_sound =
     (needed (codes "origin") origin_sound
     (needed (codes "selectorList") selectors_sound
     (needed (codes "style") rule_style_sound
-    (needed (codes "styleSheetId") sheet_sound (no_more 4) refl refl (omega arith)) refl refl (omega arith)) refl refl (omega arith)) refl refl (omega arith))))
+    (needed (codes "styleSheetId") sheet_sound (no_more 4) refl refl (omega arith)) refl refl (omega arith)) refl refl (omega arith)) refl
+    refl (omega arith))))
 
 each_whole : (ns : List ℕ) → AllByRecursion (λ _. ⊤) ns
 each_whole [] = tt
@@ -151,21 +164,30 @@ matched_sound =
     weaker (λ m u. (u.0, (u.1, (u.2, tt)))) (fields_sound matched_fields matched_from (λ f. refl) (λ m. refl) (object_sound
     (needed (codes "inherited") (list_sound inherited_sound)
     (optional (codes "inlineStyle") inline_sound
-    (needed (codes "matchedCSSRules") (list_sound match_sound) (no_more 9) refl refl (omega arith)) refl refl (omega arith)) refl refl (omega arith))))
+    (needed (codes "matchedCSSRules") (list_sound match_sound) (no_more 9) refl refl (omega arith)) refl refl (omega arith)) refl refl
+    (omega arith))))
 
 -- ---- results
 
 pub sheet_text_sound : IsSoundKind sheet_text_result IsUtf8 1
-sheet_text_sound = weaker (λ s u. (u, tt)) (fields_sound _ _ (λ f. refl) (λ s. refl) (object_sound (needed (codes "text") text_sound (no_more 0) refl refl (omega arith))))
+sheet_text_sound = weaker (λ s u. (u, tt))
+    (fields_sound _ _ (λ f. refl) (λ s. refl) (object_sound (needed (codes "text") text_sound (no_more 0) refl refl (omega arith))))
 
 pub class_names_sound : IsSoundKind class_names_result (AllByRecursion IsUtf8) 2
-class_names_sound = weaker (λ ss u. (u, tt)) (fields_sound _ _ (λ f. refl) (λ ss. refl) (object_sound (needed (codes "classNames") (list_sound text_sound) (no_more 1) refl refl (omega arith))))
+class_names_sound = weaker (λ ss u. (u, tt))
+    (fields_sound _ _ (λ f. refl) (λ ss. refl)
+    (object_sound (needed (codes "classNames") (list_sound text_sound) (no_more 1) refl refl (omega arith))))
 
 pub styles_sound : IsSoundKind styles_result (AllByRecursion StyleHasUtf8) 6
-styles_sound = weaker (λ ss u. (u, tt)) (fields_sound _ _ (λ f. refl) (λ ss. refl) (object_sound (needed (codes "styles") (list_sound rule_style_sound) (no_more 5) refl refl (omega arith))))
+styles_sound = weaker (λ ss u. (u, tt))
+    (fields_sound _ _ (λ f. refl) (λ ss. refl)
+    (object_sound (needed (codes "styles") (list_sound rule_style_sound) (no_more 5) refl refl (omega arith))))
 
 pub new_selectors_sound : IsSoundKind selectors_result SelectorsHaveUtf8 5
-new_selectors_sound = weaker (λ s u. (u, tt)) (fields_sound _ _ (λ f. refl) (λ s. refl) (object_sound (needed (codes "selectorList") selectors_sound (no_more 4) refl refl (omega arith))))
+new_selectors_sound = weaker (λ s u. (u, tt))
+    (fields_sound _ _ (λ f. refl) (λ s. refl)
+    (object_sound (needed (codes "selectorList") selectors_sound (no_more 4) refl refl (omega arith))))
 
 pub new_rule_sound : IsSoundKind rule_result RuleHasUtf8 6
-new_rule_sound = weaker (λ r u. (u, tt)) (fields_sound _ _ (λ f. refl) (λ r. refl) (object_sound (needed (codes "rule") rule_sound (no_more 5) refl refl (omega arith))))
+new_rule_sound = weaker (λ r u. (u, tt))
+    (fields_sound _ _ (λ f. refl) (λ r. refl) (object_sound (needed (codes "rule") rule_sound (no_more 5) refl refl (omega arith))))

@@ -1,5 +1,6 @@
 -- The texts of the ids of sheets.
-use Rattle.std.proofs.Common.{◌≡◌, ℕ, zero, suc, ◌^◌, ◌<◌, ◌≤◌, List, [], ◌∷◌, length, get_or, Bool, true, false, Some, None, Result, Ok, Err, refl, sym, ap, ◌∙◌, subst, arith, lt-ltb, ltb-true}
+use Rattle.std.proofs.Common.{◌≡◌, ℕ, zero, suc, ◌^◌, ◌<◌, ◌≤◌, List, [], ◌∷◌, length, get_or, Bool, true, false, Some, None, Result, Ok}
+use Rattle.std.proofs.Common.{Err, refl, sym, ap, ◌∙◌, subst, arith, lt-ltb, ltb-true}
 use Rattle.std.specs.Prelude.{◌≢◌, nat_lt, drop, bytes_eq, decimal, IsUtf8, if◌then◌else◌}
 use Rattle.std.specs.Str.Parse.{digits_value, AllDigits, ParsesUnsigned}
 use Rattle.std.proofs.lemmas.Fmt.{decimal_is_IsNumeral, decimal-digits_value, parse-decimal, first_decimal, decimal_digit, IsAscii-decimal}
@@ -71,7 +72,8 @@ read_low text digits is low =
     omega arith)
 
 -- no number of 64 bits
-pub read_no_number : {E : Type 0} (text digits : List ℕ) (r : Result ℕ E) (error : E) → text ≡ 115 ∷ digits → r ≡ Err error → ParsesUnsigned 64 10 digits r → None ≡ sheet_in text
+pub read_no_number : {E : Type 0} (text digits : List ℕ) (r : Result ℕ E) (error : E) → text ≡ 115 ∷ digits → r ≡ Err error
+    → ParsesUnsigned 64 10 digits r → None ≡ sheet_in text
 read_no_number {E} text digits r error is failed parses =
     no_sheet text (λ n f e.
     let same : decimal n ≡ digits = tail_is (decimal n) digits (e ∙ is) in
@@ -80,18 +82,21 @@ read_no_number {E} text digits r error is failed parses =
     absurd cc)
 
 -- the digits are those of the number
-number_digits : {E : Type 0} (digits : List ℕ) (r : Result ℕ E) (n : ℕ) → r ≡ Ok n → ParsesUnsigned 64 10 digits r → (get_or digits 0 0 ≡ 48 → ⊥) → (get_or digits 0 0 ≡ 43 → ⊥) → decimal n ≡ digits
+number_digits : {E : Type 0} (digits : List ℕ) (r : Result ℕ E) (n : ℕ) → r ≡ Ok n → ParsesUnsigned 64 10 digits r
+    → (get_or digits 0 0 ≡ 48 → ⊥) → (get_or digits 0 0 ≡ 43 → ⊥) → decimal n ≡ digits
 number_digits {E} digits r n found parses first plus =
     let own = numerals_by_value _ tells_digits in
     let read : (AllDigits 10 digits × (0 < length digits) × (digits_value 10 digits < 2 ^ 64)) × (n ≡ digits_value 10 digits) =
-    subst (λ (q : Result ℕ E). OkIff q (AllDigits 10 digits × (0 < length digits) × (digits_value 10 digits < 2 ^ 64)) (digits_value 10 digits)) found (parse_plain own 64 digits r parses plus) in
+    subst (λ (q : Result ℕ E). OkIff q (AllDigits 10 digits × (0 < length digits) × (digits_value 10 digits < 2 ^ 64))
+    (digits_value 10 digits)) found (parse_plain own 64 digits r parses plus) in
     ap decimal read.1 ∙ decimal-digits_value own digits read.0.0 read.0.1 (λ e. absurd (first e)) read.0.2
 
 above_zero : (digits : List ℕ) (m : ℕ) → (get_or digits 0 0 ≡ 48 → ⊥) → decimal m ≡ digits → 0 < m
 above_zero digits zero first e = absurd (first (ap (λ l. get_or l 0 0) (sym e ∙ decimal_digit 0 (omega arith))))
 above_zero digits (suc m) first e = omega arith
 
-pub read_number : {E : Type 0} (text digits : List ℕ) (r : Result ℕ E) (n : ℕ) → text ≡ 115 ∷ digits → r ≡ Ok n → ParsesUnsigned 64 10 digits r → (get_or digits 0 0 ≡ 48 → ⊥) → (get_or digits 0 0 ≡ 43 → ⊥)
+pub read_number : {E : Type 0} (text digits : List ℕ) (r : Result ℕ E) (n : ℕ) → text ≡ 115 ∷ digits → r ≡ Ok n
+    → ParsesUnsigned 64 10 digits r → (get_or digits 0 0 ≡ 48 → ⊥) → (get_or digits 0 0 ≡ 43 → ⊥)
     → n < 2 ^ 53 → Some n ≡ sheet_in text
 read_number text digits r n is found parses first plus small =
     let same : decimal n ≡ digits = number_digits digits r n found parses first plus in
@@ -101,4 +106,5 @@ read_number text digits r n is found parses first plus small =
 -- ---- its bytes
 
 pub sheet_text-utf8 : (n : ℕ) → is_sheet n ≡ true → IsUtf8 (sheet_text n)
-sheet_text-utf8 n f = IsUtf8-append (115 ∷ []) (decimal n) (IsUtf8-are_ascii (115 ∷ []) refl) (IsUtf8-from_ascii (decimal n) (IsAscii-decimal n (sheet_bounds n f).1))
+sheet_text-utf8 n f = IsUtf8-append (115 ∷ []) (decimal n) (IsUtf8-are_ascii (115 ∷ []) refl)
+    (IsUtf8-from_ascii (decimal n) (IsAscii-decimal n (sheet_bounds n f).1))

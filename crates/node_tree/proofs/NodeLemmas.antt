@@ -45,7 +45,8 @@ module _ {R : Type 0} where
   from-zero (node r c t) = refl
 
   -- the tree at a place, and those after it
-  pub from-tree_at : (i : ℕ) (n : Nodes R) → i < width n → (b : Branch R) × (tree_at i n ≡ Some b) × (from i n ≡ node b.row b.children (from (suc i) n))
+  pub from-tree_at : (i : ℕ) (n : Nodes R) → i < width n
+      → (b : Branch R) × (tree_at i n ≡ Some b) × (from i n ≡ node b.row b.children (from (suc i) n))
   from-tree_at i none h = absurd (omega arith)
   from-tree_at zero (node r c t) h = (record { row = r; children = c }, refl, ap (node r c) (sym (from-zero t)))
   from-tree_at (suc i) (node r c t) h = from-tree_at i t (omega arith)

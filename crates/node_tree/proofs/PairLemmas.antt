@@ -1,5 +1,6 @@
 -- An attribute set and dropped, and set back.
-use Rattle.std.proofs.Common.{◌≡◌, ℕ, List, [], ◌∷◌, Option, Some, None, Bool, true, false, cond, bytes_eq, nat_cmp, is_eq, ◌&&◌, Ordering, Less, Equal, Greater, subst, refl, sym, ap, ◌∙◌}
+use Rattle.std.proofs.Common.{◌≡◌, ℕ, List, [], ◌∷◌, Option, Some, None, Bool, true, false, cond, bytes_eq, nat_cmp, is_eq, ◌&&◌, Ordering}
+use Rattle.std.proofs.Common.{Less, Equal, Greater, subst, refl, sym, ap, ◌∙◌}
 use Rattle.std.specs.List.{list_all}
 use Rattle.std.specs.Ordering.{match_ordering, is_lt, ordering_reverse}
 use Rattle.std.specs.Cmp.Lexicographic.{slice_cmp}
@@ -53,20 +54,24 @@ below_trans a b (p ∷ ps) e f = before_trans a b p.0 e f
 pub value-below : (n : List ℕ) (ps : List Pair) → is_below n ps ≡ true → is_ascending ps ≡ true → value_of n ps ≡ None
 value-below n [] e h = refl
 value-below n (p ∷ ps) e h =
-    rw (same_name n p.0 Less (lt_less _ e)) (value-below n ps (below_trans n p.0 ps e (left _ _ h)) (right (is_below p.0 ps) (is_ascending ps) h))
+    rw (same_name n p.0 Less (lt_less _ e))
+    (value-below n ps (below_trans n p.0 ps e (left _ _ h)) (right (is_below p.0 ps) (is_ascending ps) h))
 
 -- ---- attributes are in order
 
-is_below-placed_at : (o : Ordering) (name : List ℕ) (p q : Pair) (qs : List Pair) → is_before name p.0 ≡ true → is_before name q.0 ≡ true → is_below name (match_ordering o (p ∷ q ∷ qs) ((q.0, p.1) ∷ qs) (q ∷ placed p qs)) ≡ true
+is_below-placed_at : (o : Ordering) (name : List ℕ) (p q : Pair) (qs : List Pair) → is_before name p.0 ≡ true → is_before name q.0 ≡ true
+    → is_below name (match_ordering o (p ∷ q ∷ qs) ((q.0, p.1) ∷ qs) (q ∷ placed p qs)) ≡ true
 is_below-placed_at Less name p q qs e f = e
 is_below-placed_at Equal name p q qs e f = f
 is_below-placed_at Greater name p q qs e f = f
 
-is_below-placed : (name : List ℕ) (p : Pair) (qs : List Pair) → is_before name p.0 ≡ true → is_below name qs ≡ true → is_below name (placed p qs) ≡ true
+is_below-placed : (name : List ℕ) (p : Pair) (qs : List Pair) → is_before name p.0 ≡ true → is_below name qs ≡ true
+    → is_below name (placed p qs) ≡ true
 is_below-placed name p [] e f = e
 is_below-placed name p (q ∷ qs) e f = is_below-placed_at (slice_cmp nat_cmp p.0 q.0) name p q qs e f
 
-is_ascending-placed_at : (o : Ordering) (p q : Pair) (qs : List Pair) → slice_cmp nat_cmp p.0 q.0 ≡ o → is_below q.0 qs ≡ true → is_ascending qs ≡ true → is_ascending (placed p qs) ≡ true
+is_ascending-placed_at : (o : Ordering) (p q : Pair) (qs : List Pair) → slice_cmp nat_cmp p.0 q.0 ≡ o → is_below q.0 qs ≡ true
+    → is_ascending qs ≡ true → is_ascending (placed p qs) ≡ true
     → is_ascending (match_ordering o (p ∷ q ∷ qs) ((q.0, p.1) ∷ qs) (q ∷ placed p qs)) ≡ true
 is_ascending-placed_at Less p q qs is below rest placed_rest = both _ _ (ap is_lt is) (both _ _ below rest)
 is_ascending-placed_at Equal p q qs is below rest placed_rest = both _ _ below rest
@@ -85,7 +90,8 @@ is_ascending-placed p (q ∷ qs) h =
 -- ---- an attribute set
 
 module _ (n v : List ℕ) where
-  value-placed_at : (o : Ordering) (q : Pair) (qs : List Pair) → slice_cmp nat_cmp n q.0 ≡ o → value_of n (placed (n, v) qs) ≡ Some v → value_of n (match_ordering o ((n, v) ∷ q ∷ qs) ((q.0, v) ∷ qs) (q ∷ placed (n, v) qs)) ≡ Some v
+  value-placed_at : (o : Ordering) (q : Pair) (qs : List Pair) → slice_cmp nat_cmp n q.0 ≡ o → value_of n (placed (n, v) qs) ≡ Some v
+      → value_of n (match_ordering o ((n, v) ∷ q ∷ qs) ((q.0, v) ∷ qs) (q ∷ placed (n, v) qs)) ≡ Some v
   value-placed_at Less q qs is h = rw (equal_name n) refl
   value-placed_at Equal q qs is h = rw (same_name n q.0 Equal is) refl
   value-placed_at Greater q qs is h = rw (same_name n q.0 Greater is) h
@@ -94,28 +100,35 @@ module _ (n v : List ℕ) where
   value-placed [] = rw (equal_name n) refl
   value-placed (q ∷ qs) = value-placed_at (slice_cmp nat_cmp n q.0) q qs refl (value-placed qs)
 
-  names-placed_at : (f : List ℕ → Bool) (o : Ordering) (q : Pair) (qs : List Pair) → f n ≡ true → f q.0 ≡ true → list_all (λ p. f p.0) qs ≡ true → list_all (λ p. f p.0) (placed (n, v) qs) ≡ true
+  names-placed_at : (f : List ℕ → Bool) (o : Ordering) (q : Pair) (qs : List Pair) → f n ≡ true → f q.0 ≡ true
+      → list_all (λ p. f p.0) qs ≡ true → list_all (λ p. f p.0) (placed (n, v) qs) ≡ true
       → list_all (λ p. f p.0) (match_ordering o ((n, v) ∷ q ∷ qs) ((q.0, v) ∷ qs) (q ∷ placed (n, v) qs)) ≡ true
   names-placed_at f Less q qs e g h k = both _ _ e (both _ _ g h)
   names-placed_at f Equal q qs e g h k = both _ _ g h
   names-placed_at f Greater q qs e g h k = both _ _ g k
 
-  pub names-placed : (f : List ℕ → Bool) (qs : List Pair) → f n ≡ true → list_all (λ p. f p.0) qs ≡ true → list_all (λ p. f p.0) (placed (n, v) qs) ≡ true
+  pub names-placed : (f : List ℕ → Bool) (qs : List Pair) → f n ≡ true → list_all (λ p. f p.0) qs ≡ true
+      → list_all (λ p. f p.0) (placed (n, v) qs) ≡ true
   names-placed f [] e h = both _ _ e refl
-  names-placed f (q ∷ qs) e h = names-placed_at f (slice_cmp nat_cmp n q.0) q qs e (left _ _ h) (right (f q.0) _ h) (names-placed f qs e (right (f q.0) _ h))
+  names-placed f (q ∷ qs) e h = names-placed_at f (slice_cmp nat_cmp n q.0) q qs e (left _ _ h) (right (f q.0) _ h)
+      (names-placed f qs e (right (f q.0) _ h))
 
 -- ---- an attribute dropped
 
 module _ (n : List ℕ) where
-  names-without_at : (f : List ℕ → Bool) (b : Bool) (q : Pair) (qs rest : List Pair) → f q.0 ≡ true → list_all (λ p. f p.0) qs ≡ true → list_all (λ p. f p.0) rest ≡ true → list_all (λ p. f p.0) (cond b qs (q ∷ rest)) ≡ true
+  names-without_at : (f : List ℕ → Bool) (b : Bool) (q : Pair) (qs rest : List Pair) → f q.0 ≡ true → list_all (λ p. f p.0) qs ≡ true
+      → list_all (λ p. f p.0) rest ≡ true → list_all (λ p. f p.0) (cond b qs (q ∷ rest)) ≡ true
   names-without_at f true q qs rest g h k = h
   names-without_at f false q qs rest g h k = both _ _ g k
 
-  pub names-without : (f : List ℕ → Bool) (qs : List Pair) → list_all (λ p. f p.0) qs ≡ true → list_all (λ p. f p.0) (pairs_without n qs) ≡ true
+  pub names-without : (f : List ℕ → Bool) (qs : List Pair) → list_all (λ p. f p.0) qs ≡ true
+      → list_all (λ p. f p.0) (pairs_without n qs) ≡ true
   names-without f [] h = refl
-  names-without f (q ∷ qs) h = names-without_at f (bytes_eq q.0 n) q qs (pairs_without n qs) (left _ _ h) (right (f q.0) _ h) (names-without f qs (right (f q.0) _ h))
+  names-without f (q ∷ qs) h = names-without_at f (bytes_eq q.0 n) q qs (pairs_without n qs) (left _ _ h) (right (f q.0) _ h)
+      (names-without f qs (right (f q.0) _ h))
 
-  below-without_at : (a : List ℕ) (b : Bool) (q : Pair) (qs rest : List Pair) → is_before a q.0 ≡ true → is_below q.0 qs ≡ true → is_below a (cond b qs (q ∷ rest)) ≡ true
+  below-without_at : (a : List ℕ) (b : Bool) (q : Pair) (qs rest : List Pair) → is_before a q.0 ≡ true → is_below q.0 qs ≡ true
+      → is_below a (cond b qs (q ∷ rest)) ≡ true
   below-without_at a true q qs rest e f = below_trans a q.0 qs e f
   below-without_at a false q qs rest e f = e
 
@@ -123,7 +136,8 @@ module _ (n : List ℕ) where
   below-without a [] e h = refl
   below-without a (q ∷ qs) e h = below-without_at a (bytes_eq q.0 n) q qs (pairs_without n qs) e (left _ _ h)
 
-  ascending-without_at : (b : Bool) (q : Pair) (qs rest : List Pair) → is_ascending qs ≡ true → is_below q.0 rest ≡ true → is_ascending rest ≡ true → is_ascending (cond b qs (q ∷ rest)) ≡ true
+  ascending-without_at : (b : Bool) (q : Pair) (qs rest : List Pair) → is_ascending qs ≡ true → is_below q.0 rest ≡ true
+      → is_ascending rest ≡ true → is_ascending (cond b qs (q ∷ rest)) ≡ true
   ascending-without_at true q qs rest h e k = h
   ascending-without_at false q qs rest h e k = both _ _ e k
 
@@ -138,7 +152,8 @@ module _ (n : List ℕ) where
   below_same : (q : Pair) (qs : List Pair) → bytes_eq q.0 n ≡ true → is_below q.0 qs ≡ true → is_below n qs ≡ true
   below_same q qs e h = subst (λ (m : List ℕ). is_below m qs ≡ true) ((bytes_eq-Decides q.0 n).0 e) h
 
-  value-without_at : (b : Bool) (q : Pair) (qs : List Pair) → bytes_eq q.0 n ≡ b → is_below q.0 qs ≡ true → is_ascending qs ≡ true → value_of n (pairs_without n qs) ≡ None → value_of n (cond b qs (q ∷ pairs_without n qs)) ≡ None
+  value-without_at : (b : Bool) (q : Pair) (qs : List Pair) → bytes_eq q.0 n ≡ b → is_below q.0 qs ≡ true → is_ascending qs ≡ true
+      → value_of n (pairs_without n qs) ≡ None → value_of n (cond b qs (q ∷ pairs_without n qs)) ≡ None
   value-without_at true q qs is e h k = value-below n qs (below_same q qs is e) h
   value-without_at false q qs is e h k = rw is k
 
@@ -155,8 +170,10 @@ module _ (n v : List ℕ) where
   some_injective : (u w : List ℕ) → ◌≡◌ {A = Option (List ℕ)} (Some u) (Some w) → u ≡ w
   some_injective u w e = cc
 
-  set_set_at : (w : List ℕ) (o : Ordering) (q : Pair) (qs : List Pair) → slice_cmp nat_cmp n q.0 ≡ o → cond (bytes_eq q.0 n) (Some q.1) (value_of n qs) ≡ Some w → is_below q.0 qs ≡ true → is_ascending qs ≡ true
-      → (value_of n qs ≡ Some w → placed (n, w) (placed (n, v) qs) ≡ qs) → placed (n, w) (match_ordering o ((n, v) ∷ q ∷ qs) ((q.0, v) ∷ qs) (q ∷ placed (n, v) qs)) ≡ q ∷ qs
+  set_set_at : (w : List ℕ) (o : Ordering) (q : Pair) (qs : List Pair) → slice_cmp nat_cmp n q.0 ≡ o
+      → cond (bytes_eq q.0 n) (Some q.1) (value_of n qs) ≡ Some w → is_below q.0 qs ≡ true → is_ascending qs ≡ true
+      → (value_of n qs ≡ Some w → placed (n, w) (placed (n, v) qs) ≡ qs)
+      → placed (n, w) (match_ordering o ((n, v) ∷ q ∷ qs) ((q.0, v) ∷ qs) (q ∷ placed (n, v) qs)) ≡ q ∷ qs
   set_set_at w Less q qs is e below rest after =
       let f : value_of n qs ≡ Some w = rw (same_name n q.0 Less is) at e in
       let g : value_of n qs ≡ None = value-below n qs (below_trans n q.0 qs (ap is_lt is) below) rest in
@@ -176,8 +193,10 @@ module _ (n v : List ℕ) where
       let rest = right (is_below q.0 qs) (is_ascending qs) h in
       set_set_at w (slice_cmp nat_cmp n q.0) q qs refl e below rest (λ f. set_set w qs f rest)
 
-  set_drop_at : (o : Ordering) (q : Pair) (qs : List Pair) → slice_cmp nat_cmp n q.0 ≡ o → cond (bytes_eq q.0 n) (Some q.1) (value_of n qs) ≡ None
-      → (value_of n qs ≡ None → pairs_without n (placed (n, v) qs) ≡ qs) → pairs_without n (match_ordering o ((n, v) ∷ q ∷ qs) ((q.0, v) ∷ qs) (q ∷ placed (n, v) qs)) ≡ q ∷ qs
+  set_drop_at : (o : Ordering) (q : Pair) (qs : List Pair) → slice_cmp nat_cmp n q.0 ≡ o
+      → cond (bytes_eq q.0 n) (Some q.1) (value_of n qs) ≡ None
+      → (value_of n qs ≡ None → pairs_without n (placed (n, v) qs) ≡ qs)
+      → pairs_without n (match_ordering o ((n, v) ∷ q ∷ qs) ((q.0, v) ∷ qs) (q ∷ placed (n, v) qs)) ≡ q ∷ qs
   set_drop_at Less q qs is e after = rw (equal_name n) refl
   set_drop_at Equal q qs is e after =
       let f : ◌≡◌ {A = Option (List ℕ)} (Some q.1) None = rw (same_name n q.0 Equal is) at e in
@@ -194,7 +213,8 @@ module _ (n v : List ℕ) where
   placed-below [] e = refl
   placed-below (q ∷ qs) e = rw (lt_less (slice_cmp nat_cmp n q.0) e) refl
 
-  drop_set_later : (o : Ordering) (q : Pair) (qs rest : List Pair) → slice_cmp nat_cmp n q.0 ≡ o → bytes_eq q.0 n ≡ false → value_of n qs ≡ Some v → is_below q.0 qs ≡ true → is_ascending qs ≡ true
+  drop_set_later : (o : Ordering) (q : Pair) (qs rest : List Pair) → slice_cmp nat_cmp n q.0 ≡ o → bytes_eq q.0 n ≡ false
+      → value_of n qs ≡ Some v → is_below q.0 qs ≡ true → is_ascending qs ≡ true
       → placed (n, v) rest ≡ qs → match_ordering o ((n, v) ∷ q ∷ rest) ((q.0, v) ∷ rest) (q ∷ placed (n, v) rest) ≡ q ∷ qs
   drop_set_later Less q qs rest is other e below asc after =
       let g : value_of n qs ≡ None = value-below n qs (below_trans n q.0 qs (ap is_lt is) below) asc in
@@ -202,13 +222,15 @@ module _ (n v : List ℕ) where
   drop_set_later Equal q qs rest is other e below asc after = let f : bytes_eq q.0 n ≡ true = same_name n q.0 Equal is in absurd (cc)
   drop_set_later Greater q qs rest is other e below asc after = ap (◌∷◌ q) after
 
-  drop_set_at : (b : Bool) (q : Pair) (qs : List Pair) → bytes_eq q.0 n ≡ b → cond b (Some q.1) (value_of n qs) ≡ Some v → is_below q.0 qs ≡ true → is_ascending qs ≡ true
+  drop_set_at : (b : Bool) (q : Pair) (qs : List Pair) → bytes_eq q.0 n ≡ b → cond b (Some q.1) (value_of n qs) ≡ Some v
+      → is_below q.0 qs ≡ true → is_ascending qs ≡ true
       → (value_of n qs ≡ Some v → placed (n, v) (pairs_without n qs) ≡ qs) → placed (n, v) (cond b qs (q ∷ pairs_without n qs)) ≡ q ∷ qs
   drop_set_at true q qs is e below asc after =
       let name : q.0 ≡ n = (bytes_eq-Decides q.0 n).0 is in
       let value : q.1 ≡ v = some_injective q.1 v e in
       placed-below qs (below_same n q qs is below) ∙ λ i. (sym name i, sym value i) ∷ qs
-  drop_set_at false q qs is e below asc after = drop_set_later (slice_cmp nat_cmp n q.0) q qs (pairs_without n qs) refl is e below asc (after e)
+  drop_set_at false q qs is e below asc after = drop_set_later (slice_cmp nat_cmp n q.0) q qs (pairs_without n qs) refl is e below asc
+      (after e)
 
   pub drop_set : (qs : List Pair) → value_of n qs ≡ Some v → is_ascending qs ≡ true → placed (n, v) (pairs_without n qs) ≡ qs
   drop_set [] e h = absurd (cc)
@@ -220,7 +242,8 @@ module _ (n v : List ℕ) where
 -- ---- a name that is not there
 
 module _ (n : List ℕ) where
-  without-absent_at : (b : Bool) (q : Pair) (qs rest : List Pair) → cond b (Some q.1) (value_of n qs) ≡ None → (value_of n qs ≡ None → rest ≡ qs) → cond b qs (q ∷ rest) ≡ q ∷ qs
+  without-absent_at : (b : Bool) (q : Pair) (qs rest : List Pair) → cond b (Some q.1) (value_of n qs) ≡ None
+      → (value_of n qs ≡ None → rest ≡ qs) → cond b qs (q ∷ rest) ≡ q ∷ qs
   without-absent_at true q qs rest e after = absurd (cc)
   without-absent_at false q qs rest e after = ap (◌∷◌ q) (after e)
 

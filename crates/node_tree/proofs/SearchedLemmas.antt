@@ -1,5 +1,6 @@
 -- What is found in a search for a name.
-use Rattle.std.proofs.Common.{◌≡◌, ℕ, zero, suc, ◌+◌, ◌<◌, ◌≤◌, true, List, [], ◌∷◌, length, drop, slice_get, slice_set, Some, None, Result, Ok, Err, Ordering, Less, Equal, Greater, nat_cmp, refl, sym, ap, subst, ◌∙◌, arith}
+use Rattle.std.proofs.Common.{◌≡◌, ℕ, zero, suc, ◌+◌, ◌<◌, ◌≤◌, true, List, [], ◌∷◌, length, drop, slice_get, slice_set, Some, None, Result}
+use Rattle.std.proofs.Common.{Ok, Err, Ordering, Less, Equal, Greater, nat_cmp, refl, sym, ap, subst, ◌∙◌, arith}
 use Rattle.std.specs.List.{insert, remove}
 use Rattle.std.specs.Ordering.{match_ordering, is_lt}
 use Rattle.std.specs.Cmp.Lexicographic.{slice_cmp}
@@ -15,16 +16,28 @@ drop-get (x ∷ ks) (suc i) k e = drop-get ks i k e
 
 module _ (n v : List ℕ) where
   abbrev pub Searched : List Pair → Result ℕ ℕ → Type 0
-  Searched qs (Ok i) = (was : Pair) × (slice_get qs i ≡ Some was) × (placed (n, v) qs ≡ slice_set qs i (was.0, v)) × (value_of n qs ≡ Some was.1) × (pairs_without n qs ≡ remove qs i)
+  Searched qs (Ok i) = (was : Pair) × (slice_get qs i ≡ Some was) × (placed (n, v) qs ≡ slice_set qs i (was.0, v))
+      × (value_of n qs ≡ Some was.1) × (pairs_without n qs ≡ remove qs i)
   Searched qs (Err i) = (i ≤ length qs) × (placed (n, v) qs ≡ insert qs i (n, v)) × (is_ascending qs ≡ true → value_of n qs ≡ None)
 
-  searched_at : (q : Pair) (qs : List Pair) (o : Ordering) (r : Result ℕ ℕ) → slice_cmp nat_cmp n q.0 ≡ o → Searched qs r → Searched (q ∷ qs) (match_ordering o (Err 0) (Ok 0) (further r))
+  searched_at : (q : Pair) (qs : List Pair) (o : Ordering) (r : Result ℕ ℕ) → slice_cmp nat_cmp n q.0 ≡ o → Searched qs r
+      → Searched (q ∷ qs) (match_ordering o (Err 0) (Ok 0) (further r))
   searched_at q qs Less r is rest = (omega arith, rw is refl, λ h. value-below n (q ∷ qs) (ap is_lt is) h)
   searched_at q qs Equal r is rest = (q, refl, rw is refl, rw (same_name n q.0 Equal is) refl, rw (same_name n q.0 Equal is) refl)
-  searched_at q qs Greater (Ok i) is (was, at, put, value, without) =
-      (was, at, rw is (ap (λ ps. q ∷ ps) put), rw (same_name n q.0 Greater is) value, rw (same_name n q.0 Greater is) (ap (λ ps. q ∷ ps) without))
-  searched_at q qs Greater (Err i) is (within, put, absent) =
-      (omega arith, rw is (ap (λ ps. q ∷ ps) put), λ h. rw (same_name n q.0 Greater is) (absent (right (is_below q.0 qs) (is_ascending qs) h)))
+  searched_at q qs Greater (Ok i) is (was, at, put, value, without) = (
+    was,
+    at,
+    rw is (ap (λ ps. q ∷ ps) put),
+    rw (same_name n q.0 Greater is) value,
+    rw (same_name n q.0 Greater is)
+        (ap (λ ps. q ∷ ps) without),
+  )
+  searched_at q qs Greater (Err i) is (within, put, absent) = (
+    omega arith,
+    rw is (ap (λ ps. q ∷ ps) put),
+    λ h. rw (same_name n q.0 Greater is)
+        (absent (right (is_below q.0 qs) (is_ascending qs) h)),
+  )
 
   pub searched : (qs : List Pair) → Searched qs (search_name n qs)
   searched [] = (omega arith, refl, λ h. refl)
@@ -40,21 +53,29 @@ pub shifted_zero : (r : Result ℕ ℕ) → r ≡ shifted 0 r
 shifted_zero (Ok j) = let e : j ≡ 0 + j = omega arith in ap (λ k. Ok k) e
 shifted_zero (Err j) = let e : j ≡ 0 + j = omega arith in ap (λ k. Err k) e
 
-module _ (name : List ℕ) (all : List Pair) (i : ℕ) (q : Pair) (at : slice_get all i ≡ Some q) (so_far : search_name name all ≡ shifted i (search_name name (drop i all))) where
-  opened : search_name name all ≡ shifted i (match_ordering (slice_cmp nat_cmp name q.0) (Err 0) (Ok 0) (further (search_name name (drop (i + 1) all))))
+module _ (name : List ℕ) (all : List Pair) (i : ℕ) (q : Pair) (at : slice_get all i ≡ Some q)
+    (so_far : search_name name all ≡ shifted i (search_name name (drop i all))) where
+  opened : search_name name all ≡ shifted i
+      (match_ordering (slice_cmp nat_cmp name q.0) (Err 0) (Ok 0) (further (search_name name (drop (i + 1) all))))
   opened =
       let e : i + 1 ≡ suc i = omega arith in
       let next : drop i all ≡ q ∷ drop (i + 1) all = rw e (drop-get all i q at) in
       so_far ∙ ap (λ ps. shifted i (search_name name ps)) next
 
   pub search_less : slice_cmp nat_cmp name q.0 ≡ Less → Err i ≡ search_name name all
-  search_less is = let e : i ≡ i + 0 = omega arith in ap (λ k. Err k) e ∙ sym (opened ∙ ap (λ o. shifted i (match_ordering o (Err 0) (Ok 0) (further (search_name name (drop (i + 1) all))))) is)
+  search_less is = let e : i ≡ i
+      + 0 = omega arith in ap (λ k. Err k) e ∙ sym
+      (opened ∙ ap (λ o. shifted i (match_ordering o (Err 0) (Ok 0) (further (search_name name (drop (i + 1) all))))) is)
 
   pub search_equal : slice_cmp nat_cmp name q.0 ≡ Equal → Ok i ≡ search_name name all
-  search_equal is = let e : i ≡ i + 0 = omega arith in ap (λ k. Ok k) e ∙ sym (opened ∙ ap (λ o. shifted i (match_ordering o (Err 0) (Ok 0) (further (search_name name (drop (i + 1) all))))) is)
+  search_equal is = let e : i ≡ i
+      + 0 = omega arith in ap (λ k. Ok k) e ∙ sym
+      (opened ∙ ap (λ o. shifted i (match_ordering o (Err 0) (Ok 0) (further (search_name name (drop (i + 1) all))))) is)
 
   pub search_greater : slice_cmp nat_cmp name q.0 ≡ Greater → search_name name all ≡ shifted (i + 1) (search_name name (drop (i + 1) all))
-  search_greater is = opened ∙ ap (λ o. shifted i (match_ordering o (Err 0) (Ok 0) (further (search_name name (drop (i + 1) all))))) is ∙ shifted_further i (search_name name (drop (i + 1) all))
+  search_greater is = opened ∙ ap
+      (λ o. shifted i (match_ordering o (Err 0) (Ok 0) (further (search_name name (drop (i + 1) all))))) is ∙ shifted_further i
+      (search_name name (drop (i + 1) all))
 
 pub get-within : {A : Type 0} (xs : List A) (i : ℕ) (x : A) → slice_get xs i ≡ Some x → i < length xs
 get-within [] i x e = absurd (cc)

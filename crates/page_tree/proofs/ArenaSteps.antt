@@ -1,5 +1,6 @@
 -- Slots taken out one by one, lists of serials, and trees copied out.
-use Rattle.std.proofs.Common.{◌≡◌, ℕ, zero, suc, ◌+◌, ◌-◌, ◌<◌, ◌≤◌, Bool, true, false, cond, List, [], ◌∷◌, ◌++◌, length, get_or, slice_get, drop, Option, Some, None, IsSome, Result, Ok, Err, OnOk, OnErr, refl, sym, ap, subst, ◌∙◌, arith}
+use Rattle.std.proofs.Common.{◌≡◌, ℕ, zero, suc, ◌+◌, ◌-◌, ◌<◌, ◌≤◌, Bool, true, false, cond, List, [], ◌∷◌, ◌++◌, length, get_or}
+use Rattle.std.proofs.Common.{slice_get, drop, Option, Some, None, IsSome, Result, Ok, Err, OnOk, OnErr, refl, sym, ap, subst, ◌∙◌, arith}
 use Rattle.std.specs.Option.{option_map_or}
 use Rattle.std.specs.Ordering.{nat_cmp}
 use Rattle.std.specs.BTreeMap as map
@@ -10,7 +11,8 @@ use Rattle.node_tree.specs.Arena.{Shrinks, IsFiled, slot_tree, slot_trees, kept_
 use Rattle.node_tree.proofs.NodeLemmas.{nodes_of-append, beside_assoc, beside-none}
 use Rattle.node_tree.proofs.ArenaLemmas.{files-turn, files-same}
 use Rattle.page_tree.specs.Pages.{PageRow, row_serial}
-use Rattle.page_tree.specs.Arenas.{page_slots, slot_row, slots_in, keys_in, Filed, Turned, SameSlots, listed, is_numbered, place_in, first_in, next_in}
+use Rattle.page_tree.specs.Arenas.{page_slots, slot_row, slots_in, keys_in, Filed, Turned, SameSlots, listed, is_numbered, place_in}
+use Rattle.page_tree.specs.Arenas.{first_in, next_in}
 use Rattle.page_tree.specs.declared.arenas.Arena.{Arena}
 use Rattle.page_tree.specs.declared.slots.Slot.{Slot}
 
@@ -23,7 +25,8 @@ pub record SoFar (old new : ℕ → Option Slot) (all rest : List ℕ) : Type 0 
 pub SoFar-start : (a : ℕ → Option Slot) (all : List ℕ) → SoFar a a all all
 SoFar-start a all = record { kept = λ k s e z. e; only = λ k s e. (e, refl); within = λ x. omega arith }
 
-pub SoFar-step : (old now new : ℕ → Option Slot) (all rest : List ℕ) (x : ℕ) → SoFar old now all (x ∷ rest) → Shrinks page_slots now new (λ y. listed y (x ∷ [])) → SoFar old new all rest
+pub SoFar-step : (old now new : ℕ → Option Slot) (all rest : List ℕ) (x : ℕ) → SoFar old now all (x ∷ rest)
+    → Shrinks page_slots now new (λ y. listed y (x ∷ [])) → SoFar old new all rest
 SoFar-step old now new all rest x before shrinks =
     record {
       kept = λ k s e z. let w = before.within s.serial in shrinks.kept k s (before.kept k s e z) (omega arith);
@@ -34,7 +37,8 @@ SoFar-step old now new all rest x before shrinks =
 pub SoFar-end : (old new : ℕ → Option Slot) (all : List ℕ) → SoFar old new all [] → Shrinks page_slots old new (λ y. listed y all)
 SoFar-end old new all done = record { kept = done.kept; only = λ k s e. done.only k s e }
 
-pub SoFar-turn : (old now new : ℕ → Option Slot) (all : List ℕ) (i x : ℕ) → i < length all → get_or all i 0 ≡ x → SoFar old now all (drop i all) → Shrinks page_slots now new (λ y. listed y (x ∷ [])) → SoFar old new all (drop (i + 1) all)
+pub SoFar-turn : (old now new : ℕ → Option Slot) (all : List ℕ) (i x : ℕ) → i < length all → get_or all i 0 ≡ x
+    → SoFar old now all (drop i all) → Shrinks page_slots now new (λ y. listed y (x ∷ [])) → SoFar old new all (drop (i + 1) all)
 SoFar-turn old now new all i x within at before shrinks =
     let here : drop i all ≡ x ∷ drop (i + 1) all = drop_more all i 0 within ∙ ap (λ y. y ∷ drop (i + 1) all) at in
     SoFar-step old now new all (drop (i + 1) all) x (subst (λ (r : List ℕ). SoFar old now all r) here before) shrinks
@@ -45,11 +49,13 @@ listed-append x (y ∷ xs) ys = let e = listed-append x xs ys in omega arith
 
 -- ---- lists of serials
 
-module _ (x : ℕ) (bs : List (Branch PageRow)) (i : ℕ) (b : Branch PageRow) (done mid new first : List ℕ) (within : i < length bs) (is : b ≡ get_or bs i b) where
+module _ (x : ℕ) (bs : List (Branch PageRow)) (i : ℕ) (b : Branch PageRow) (done mid new first : List ℕ) (within : i < length bs)
+    (is : b ≡ get_or bs i b) where
   here : drop i bs ≡ b ∷ drop (i + 1) bs
   here = drop_more bs i b within ∙ ap (λ y. y ∷ drop (i + 1) bs) (sym is)
 
-  pub list_turn : listed x done + tally row_serial x (nodes_of (drop i bs)) ≡ listed x first + tally row_serial x (nodes_of bs) → mid ≡ done ++ b.row.serial ∷ [] → listed x new ≡ listed x mid + tally row_serial x b.children
+  pub list_turn : listed x done + tally row_serial x (nodes_of (drop i bs)) ≡ listed x first + tally row_serial x (nodes_of bs)
+      → mid ≡ done ++ b.row.serial ∷ [] → listed x new ≡ listed x mid + tally row_serial x b.children
       → listed x new + tally row_serial x (nodes_of (drop (i + 1) bs)) ≡ listed x first + tally row_serial x (nodes_of bs)
   list_turn so_far pushed below =
       let e = ap (λ l. tally row_serial x (nodes_of l)) here in
@@ -57,7 +63,8 @@ module _ (x : ℕ) (bs : List (Branch PageRow)) (i : ℕ) (b : Branch PageRow) (
       let q = listed-append x done (b.row.serial ∷ []) in
       omega (arith, e, p, q)
 
-  pub count_turn : (n m l f : ℕ) → n + node_count (nodes_of (drop i bs)) ≡ f + node_count (nodes_of bs) → m ≡ n + 1 → l ≡ m + node_count b.children → l + node_count (nodes_of (drop (i + 1) bs)) ≡ f + node_count (nodes_of bs)
+  pub count_turn : (n m l f : ℕ) → n + node_count (nodes_of (drop i bs)) ≡ f + node_count (nodes_of bs) → m ≡ n + 1
+      → l ≡ m + node_count b.children → l + node_count (nodes_of (drop (i + 1) bs)) ≡ f + node_count (nodes_of bs)
   count_turn n m l f so_far pushed below = let e = ap (λ l. node_count (nodes_of l)) here in omega (arith, e)
 
 -- ---- trees copied out
@@ -67,7 +74,9 @@ drop-get [] i k e = absurd (cc)
 drop-get (x ∷ ks) zero k e = let same : x ≡ k = cc in ap (λ y. y ∷ ks) same
 drop-get (x ∷ ks) (suc i) k e = drop-get ks i k e
 
-module _ (slots : ℕ → Option Slot) (below : List ℕ → Nodes PageRow) (ks : List ℕ) (i k : ℕ) (done : List (Branch PageRow)) (whole : Nodes PageRow) (at : slice_get ks i ≡ Some k) (so_far : beside (nodes_of done) (slot_trees page_slots slots below (drop i ks)) ≡ whole) where
+module _ (slots : ℕ → Option Slot) (below : List ℕ → Nodes PageRow) (ks : List ℕ) (i k : ℕ) (done : List (Branch PageRow))
+    (whole : Nodes PageRow) (at : slice_get ks i ≡ Some k)
+    (so_far : beside (nodes_of done) (slot_trees page_slots slots below (drop i ks)) ≡ whole) where
   next_is : drop i ks ≡ k ∷ drop (i + 1) ks
   next_is = let e : i + 1 ≡ suc i = omega arith in rw e (drop-get ks i k at)
 
@@ -75,9 +84,11 @@ module _ (slots : ℕ → Option Slot) (below : List ℕ → Nodes PageRow) (ks 
   opened = sym (ap (λ js. beside (nodes_of done) (slot_trees page_slots slots below js)) next_is) ∙ so_far
 
   pub nest_none : slots k ≡ None → beside (nodes_of done) (slot_trees page_slots slots below (drop (i + 1) ks)) ≡ whole
-  nest_none vacant = sym (ap (λ (o : Option Slot). beside (nodes_of done) (slot_tree page_slots slots o below (slot_trees page_slots slots below (drop (i + 1) ks)))) vacant) ∙ opened
+  nest_none vacant = sym (ap (λ (o : Option Slot). beside (nodes_of done)
+      (slot_tree page_slots slots o below (slot_trees page_slots slots below (drop (i + 1) ks)))) vacant) ∙ opened
 
-  pub nest_some : (slot : Slot) (tree : Branch PageRow) (new : List (Branch PageRow)) → slots k ≡ Some slot → tree ≡ record { row = slot_row slot; children = below slot.children } → new ≡ done ++ tree ∷ []
+  pub nest_some : (slot : Slot) (tree : Branch PageRow) (new : List (Branch PageRow)) → slots k ≡ Some slot
+      → tree ≡ record { row = slot_row slot; children = below slot.children } → new ≡ done ++ tree ∷ []
       → beside (nodes_of new) (slot_trees page_slots slots below (drop (i + 1) ks)) ≡ whole
   nest_some slot tree new found is pushed =
       let after = slot_trees page_slots slots below (drop (i + 1) ks) in
@@ -89,13 +100,15 @@ module _ (slots : ℕ → Option Slot) (below : List ℕ → Nodes PageRow) (ks 
       ∙ opened
 
 pub nest_end : (slots : ℕ → Option Slot) (levels : ℕ) (ks rest : List ℕ) (done : List (Branch PageRow)) → 0 < levels → rest ≡ []
-    → beside (nodes_of done) (slot_trees page_slots slots (kept_trees page_slots slots (levels - 1)) rest) ≡ slot_trees page_slots slots (kept_trees page_slots slots (levels - 1)) ks
+    → beside (nodes_of done) (slot_trees page_slots slots (kept_trees page_slots slots (levels - 1)) rest)
+    ≡ slot_trees page_slots slots (kept_trees page_slots slots (levels - 1)) ks
     → nodes_of done ≡ kept_trees page_slots slots levels ks
 nest_end slots zero ks rest done some empty so_far = absurd (omega arith)
 nest_end slots (suc levels) ks rest done some empty so_far =
     let e : suc levels - 1 ≡ levels = omega arith in
     sym (beside-none (nodes_of done))
-    ∙ sym (ap (λ (js : List ℕ). beside (nodes_of done) (slot_trees page_slots slots (kept_trees page_slots slots (suc levels - 1)) js)) empty)
+    ∙ sym (ap (λ (js : List ℕ). beside (nodes_of done)
+    (slot_trees page_slots slots (kept_trees page_slots slots (suc levels - 1)) js)) empty)
     ∙ so_far
     ∙ ap (λ (l : ℕ). slot_trees page_slots slots (kept_trees page_slots slots l) ks) e
 
@@ -110,10 +123,12 @@ module _ (a : Arena) (serial : ℕ) (ks : List ℕ) (i k : ℕ) (at : slice_get 
   key_next = let e : i + 1 ≡ suc i = omega arith in rw e (drop-get ks i k at)
 
   pub place_here : is_numbered a serial k ≡ true → place_in a serial (drop i ks) ≡ 0
-  place_here e = ap (λ (js : List ℕ). place_in a serial js) key_next ∙ ap (λ (b : Bool). cond {A = ℕ} b 0 (suc (place_in a serial (drop (i + 1) ks)))) e
+  place_here e = ap (λ (js : List ℕ). place_in a serial js) key_next ∙ ap
+      (λ (b : Bool). cond {A = ℕ} b 0 (suc (place_in a serial (drop (i + 1) ks)))) e
 
   pub place_on : is_numbered a serial k ≡ false → place_in a serial (drop i ks) ≡ suc (place_in a serial (drop (i + 1) ks))
-  place_on e = ap (λ (js : List ℕ). place_in a serial js) key_next ∙ ap (λ (b : Bool). cond {A = ℕ} b 0 (suc (place_in a serial (drop (i + 1) ks)))) e
+  place_on e = ap (λ (js : List ℕ). place_in a serial js) key_next ∙ ap
+      (λ (b : Bool). cond {A = ℕ} b 0 (suc (place_in a serial (drop (i + 1) ks)))) e
 
 pub place_le : (a : Arena) (serial : ℕ) (ks : List ℕ) → place_in a serial ks ≤ length ks
 place_le a serial [] = omega arith
@@ -124,7 +139,8 @@ place_le a serial (k ∷ ks) =
     ]
 
 -- the serials of one tree
-pub listing_of : (x : ℕ) (l new first : List ℕ) (ts : List (Branch PageRow)) (b : Branch PageRow) → l ≡ new → first ≡ [] → ts ≡ b ∷ [] → listed x new ≡ listed x first + tally row_serial x (nodes_of ts) → listed x l ≡ tally row_serial x (alone b)
+pub listing_of : (x : ℕ) (l new first : List ℕ) (ts : List (Branch PageRow)) (b : Branch PageRow) → l ≡ new → first ≡ [] → ts ≡ b ∷ []
+    → listed x new ≡ listed x first + tally row_serial x (nodes_of ts) → listed x l ≡ tally row_serial x (alone b)
 listing_of x l new first ts b same empty one e =
     let p = ap (λ (y : List ℕ). listed x y) same in
     let q = ap (λ (y : List ℕ). listed x y) empty in
@@ -137,13 +153,16 @@ pub either_way : {A E : Type 0} (r : Result A E) (P Q F : Type 0) → OnOk r P �
 either_way (Ok x) P Q F p q f g = f p
 either_way (Err e) P Q F p q f g = g q
 
-pub filed_turned : (a b : Arena) (key : ℕ) (slot : Slot) (f : Slot → Slot) → slots_in a key ≡ Some slot → (f slot).serial ≡ slot.serial → Turned a b key f → b.keys ≡ a.keys → Filed a → Filed b
+pub filed_turned : (a b : Arena) (key : ℕ) (slot : Slot) (f : Slot → Slot) → slots_in a key ≡ Some slot → (f slot).serial ≡ slot.serial
+    → Turned a b key f → b.keys ≡ a.keys → Filed a → Filed b
 filed_turned a b key slot f at number_is turned keys_are files =
-    subst (λ m. IsFiled page_slots (slots_in b) (map.get nat_cmp m)) (sym keys_are) (files-turn page_slots (slots_in a) (slots_in b) (keys_in a) (keys_in a) key slot (f slot) files (turned slot at) number_is)
+    subst (λ m. IsFiled page_slots (slots_in b) (map.get nat_cmp m)) (sym keys_are)
+    (files-turn page_slots (slots_in a) (slots_in b) (keys_in a) (keys_in a) key slot (f slot) files (turned slot at) number_is)
 
 pub filed_same : (a b : Arena) → SameSlots a b → b.keys ≡ a.keys → Filed a → Filed b
 filed_same a b same keys_are files =
-    subst (λ m. IsFiled page_slots (slots_in b) (map.get nat_cmp m)) (sym keys_are) (files-same page_slots (slots_in a) (slots_in b) (keys_in a) (keys_in a) files same (λ y. refl))
+    subst (λ m. IsFiled page_slots (slots_in b) (map.get nat_cmp m)) (sym keys_are)
+    (files-same page_slots (slots_in a) (slots_in b) (keys_in a) (keys_in a) files same (λ y. refl))
 
 pub some_slot : (o : Option Slot) → IsSome o → (slot : Slot) × (o ≡ Some slot)
 some_slot None some = absurd (cc)
@@ -155,10 +174,12 @@ module _ (a : Arena) where
   pub first_end : (ks : List ℕ) (i : ℕ) → length ks ≤ i → 0 ≡ first_in a (drop i ks)
   first_end ks i past = sym (ap (λ (js : List ℕ). first_in a js) (drop_all i ks past))
 
-  pub first_at : (ks : List ℕ) (i k : ℕ) → slice_get ks i ≡ Some k → first_in a (drop i ks) ≡ option_map_or (λ (s : Slot). s.serial) (slots_in a k) 0
+  pub first_at : (ks : List ℕ) (i k : ℕ) → slice_get ks i ≡ Some k
+      → first_in a (drop i ks) ≡ option_map_or (λ (s : Slot). s.serial) (slots_in a k) 0
   first_at ks i k at = ap (λ (js : List ℕ). first_in a js) (drop-get ks i k at)
 
-  next_step : (b : Bool) (p next : ℕ) (k : ℕ) (ks : List ℕ) → first_in a (drop (suc p) ks) ≡ next → first_in a (drop (suc (cond {A = ℕ} b 0 (suc p))) (k ∷ ks)) ≡ cond b (first_in a ks) next
+  next_step : (b : Bool) (p next : ℕ) (k : ℕ) (ks : List ℕ) → first_in a (drop (suc p) ks) ≡ next
+      → first_in a (drop (suc (cond {A = ℕ} b 0 (suc p))) (k ∷ ks)) ≡ cond b (first_in a ks) next
   next_step true p next k ks e = refl
   next_step false p next k ks e = e
 

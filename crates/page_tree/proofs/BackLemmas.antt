@@ -1,5 +1,6 @@
 -- The edit that leads back leads back.
-use Rattle.std.proofs.Common.{◌≡◌, ◌⊎◌, ℕ, zero, suc, ◌+◌, ◌<◌, ◌≤◌, ◌==◌, List, Bool, true, false, not, ◌&&◌, ◌||◌, Option, Some, None, is_some, unwrap_or, inl, inr, subst, refl, sym, ap, ◌∙◌, arith}
+use Rattle.std.proofs.Common.{◌≡◌, ◌⊎◌, ℕ, zero, suc, ◌+◌, ◌<◌, ◌≤◌, ◌==◌, List, Bool, true, false, not, ◌&&◌, ◌||◌, Option, Some, None}
+use Rattle.std.proofs.Common.{is_some, unwrap_or, inl, inr, subst, refl, sym, ap, ◌∙◌, arith}
 use Rattle.std.proofs.lemmas.Bool.{not-false, not_from_true, le-leb, eq-eqb, eqb-true}
 use Rattle.node_tree.specs.Nodes.{Nodes, none, node, Branch, alone, map_branch}
 use Rattle.node_tree.specs.Labels.{Pair, Label, is_document, is_doctype, is_element, has_value, value_of, is_formed_label}
@@ -10,16 +11,20 @@ use Rattle.node_tree.proofs.KeyLemmas.{tally-at, tally_row, find-stands, put-at,
 use Rattle.node_tree.proofs.ChangeLemmas.{at-old, at-new, at-back, count-at, tally_in-at, alone-put, parent-at, child-stands, child_of}
 use Rattle.page_tree.specs.Forms.{are_formed, are_named}
 use Rattle.page_tree.specs.Pages.{PageRow, row_serial, row_label, node_at, parent_at, level_at}
-use Rattle.page_tree.specs.Edits.{with_attribute, without_attribute, with_value, relabelled, with_child, without_child, put_before, taken_out, put_in, changed_at, after_tree, back_tree, restored, label_at, children_at, next_sibling, sibling_after, is_among}
+use Rattle.page_tree.specs.Edits.{with_attribute, without_attribute, with_value, relabelled, with_child, without_child, put_before}
+use Rattle.page_tree.specs.Edits.{taken_out, put_in, changed_at, after_tree, back_tree, restored, label_at, children_at, next_sibling}
+use Rattle.page_tree.specs.Edits.{sibling_after, is_among}
 use Rattle.page_tree.specs.EditFaults.{is_live, kind_at, may_hold, CanAttach, CanApply, first_fault, edit_faults}
 use Rattle.page_tree.specs.EditLaws.{LeadsBack, BackLaw}
 use Rattle.page_tree.specs.declared.edits.TreeEdit.{TreeEdit}
 use Rattle.page_tree.specs.declared.edits.TreeEdit.TheVariants.{SetAttr, DropAttr, SetText, Attach, Detach}
 use Rattle.node_tree.proofs.PairLemmas.{both, left}
 use Rattle.node_tree.proofs.PairLemmas.{value-placed, value-without, set_set, set_drop, drop_set}
-use Rattle.page_tree.proofs.ChildLemmas.{Inserted, tally-inserted, count-inserted, height-inserted, inserted-taken, child-put, take-put, put-take, next-put_among, next-put_last, next-among, among-tally}
+use Rattle.page_tree.proofs.ChildLemmas.{Inserted, tally-inserted, count-inserted, height-inserted, inserted-taken, child-put, take-put}
+use Rattle.page_tree.proofs.ChildLemmas.{put-take, next-put_among, next-put_last, next-among, among-tally}
 use Rattle.page_tree.proofs.WholeLemmas.{Sound, Whole, whole-later, whole-valid, formed-sound, inserted-sound}
-use Rattle.page_tree.proofs.EditLemmas.{clear, unfaulted, changed, serial-live, live-tally, level-changed, ascending-element, parted, fits-live, whole-after}
+use Rattle.page_tree.proofs.EditLemmas.{clear, unfaulted, changed, serial-live, live-tally, level-changed, ascending-element, parted}
+use Rattle.page_tree.proofs.EditLemmas.{fits-live, whole-after}
 
 -- ---- a change taken back
 
@@ -27,15 +32,18 @@ abbrev first_branch : Branch PageRow → Nodes PageRow → Branch PageRow
 first_branch d none = d
 first_branch d (node r c t) = record { row = r; children = c }
 
-module _ {next : ℕ} (serial : ℕ) (change : Branch PageRow → Branch PageRow) (tree : Branch PageRow) (live : is_live serial tree ≡ true) (whole : Whole next (alone (changed_at serial change tree)))
+module _ {next : ℕ} (serial : ℕ) (change : Branch PageRow → Branch PageRow) (tree : Branch PageRow) (live : is_live serial tree ≡ true)
+    (whole : Whole next (alone (changed_at serial change tree)))
     (same : (change (node_at serial tree)).row.serial ≡ (node_at serial tree).row.serial) where
   pub turned-stands : Stands (change (node_at serial tree)) (alone (changed_at serial change tree))
   turned-stands = let e = changed serial change tree live in (e.0, alone (changed_at serial change tree), at-new e.1)
 
   turned-found : find row_serial serial (alone (changed_at serial change tree)) ≡ Some (change (node_at serial tree))
   turned-found =
-      subst (λ (s : ℕ). find row_serial s (alone (changed_at serial change tree)) ≡ Some (change (node_at serial tree))) (same ∙ serial-live serial tree live)
-      (find-stands row_serial (change (node_at serial tree)) (alone (changed_at serial change tree)) turned-stands (whole.distinct (change (node_at serial tree)).row.serial))
+      subst (λ (s : ℕ). find row_serial s (alone (changed_at serial change tree)) ≡ Some (change (node_at serial tree)))
+      (same ∙ serial-live serial tree live)
+      (find-stands row_serial (change (node_at serial tree)) (alone (changed_at serial change tree)) turned-stands
+      (whole.distinct (change (node_at serial tree)).row.serial))
 
   -- the changed node is live, and as it was made
   pub turned-live : is_live serial (changed_at serial change tree) ≡ true
@@ -47,34 +55,49 @@ module _ {next : ℕ} (serial : ℕ) (change : Branch PageRow → Branch PageRow
   put_back : put_in serial (node_at serial tree) (changed_at serial change tree) ≡ tree
   put_back =
       let e = changed serial change tree live in
-      let back : put row_serial (change (node_at serial tree)).row.serial (node_at serial tree) (alone (changed_at serial change tree)) ≡ alone tree = put-at row_serial (at-back e.1) (whole.distinct (change (node_at serial tree)).row.serial) in
-      let there : put row_serial serial (node_at serial tree) (alone (changed_at serial change tree)) ≡ alone tree = subst (λ (s : ℕ). put row_serial s (node_at serial tree) (alone (changed_at serial change tree)) ≡ alone tree) (same ∙ serial-live serial tree live) back in
-      let trees : alone (put_in serial (node_at serial tree) (changed_at serial change tree)) ≡ alone tree = sym (alone-put row_serial serial (node_at serial tree) (changed_at serial change tree)) ∙ there in
+      let back : put row_serial (change (node_at serial tree)).row.serial (node_at serial tree) (alone (changed_at serial change tree))
+      ≡ alone tree = put-at row_serial (at-back e.1) (whole.distinct (change (node_at serial tree)).row.serial) in
+      let there : put row_serial serial (node_at serial tree) (alone (changed_at serial change tree))
+      ≡ alone tree = subst (λ (s : ℕ). put row_serial s (node_at serial tree) (alone (changed_at serial change tree)) ≡ alone tree)
+      (same ∙ serial-live serial tree live) back in
+      let trees : alone (put_in serial (node_at serial tree) (changed_at serial change tree))
+      ≡ alone tree = sym (alone-put row_serial serial (node_at serial tree) (changed_at serial change tree)) ∙ there in
       ap (first_branch tree) trees
 
   -- and what makes the node as it was makes the tree as it was
-  pub turned-back : (undo : Branch PageRow → Branch PageRow) → undo (change (node_at serial tree)) ≡ node_at serial tree → changed_at serial undo (changed_at serial change tree) ≡ tree
+  pub turned-back : (undo : Branch PageRow → Branch PageRow) → undo (change (node_at serial tree)) ≡ node_at serial tree
+      → changed_at serial undo (changed_at serial change tree) ≡ tree
   turned-back undo is =
-      let there : changed_at serial undo (changed_at serial change tree) ≡ put_in serial (undo (change (node_at serial tree))) (changed_at serial change tree) = ap (λ (b : Branch PageRow). put_in serial (undo b) (changed_at serial change tree)) turned-node in
-      let back : put_in serial (undo (change (node_at serial tree))) (changed_at serial change tree) ≡ put_in serial (node_at serial tree) (changed_at serial change tree) = ap (λ (b : Branch PageRow). put_in serial b (changed_at serial change tree)) is in
+      let there : changed_at serial undo (changed_at serial change tree)
+      ≡ put_in serial (undo (change (node_at serial tree))) (changed_at serial change tree) = ap
+      (λ (b : Branch PageRow). put_in serial (undo b) (changed_at serial change tree)) turned-node in
+      let back : put_in serial (undo (change (node_at serial tree))) (changed_at serial change tree)
+      ≡ put_in serial (node_at serial tree) (changed_at serial change tree) = ap
+      (λ (b : Branch PageRow). put_in serial b (changed_at serial change tree)) is in
       there ∙ (back ∙ put_back)
 
 -- ---- labels
 
-module _ {next : ℕ} (serial : ℕ) (f : Label → Label) (tree : Branch PageRow) (live : is_live serial tree ≡ true) (whole : Whole next (alone (changed_at serial (relabelled f) tree))) where
+module _ {next : ℕ} (serial : ℕ) (f : Label → Label) (tree : Branch PageRow) (live : is_live serial tree ≡ true)
+    (whole : Whole next (alone (changed_at serial (relabelled f) tree))) where
   label-turned : label_at serial (changed_at serial (relabelled f) tree) ≡ f (label_at serial tree)
   label-turned = ap (λ (b : Branch PageRow). b.row.label) (turned-node serial (relabelled f) tree live whole refl)
 
   live-turned : is_live serial (changed_at serial (relabelled f) tree) ≡ true
   live-turned = turned-live serial (relabelled f) tree live whole refl
 
-  label-back : (g : Label → Label) → g (f (label_at serial tree)) ≡ label_at serial tree → changed_at serial (relabelled g) (changed_at serial (relabelled f) tree) ≡ tree
+  label-back : (g : Label → Label) → g (f (label_at serial tree)) ≡ label_at serial tree
+      → changed_at serial (relabelled g) (changed_at serial (relabelled f) tree) ≡ tree
   label-back g is =
       turned-back serial (relabelled f) tree live whole refl (relabelled g)
-      (ap (λ (l : Label). record { row = record { serial = (node_at serial tree).row.serial; label = l }; children = (node_at serial tree).children }) is)
+      (ap (λ (l : Label). record {
+        row = record { serial = (node_at serial tree).row.serial; label = l };
+        children = (node_at serial tree).children;
+      }) is)
 
 module _ {next : ℕ} (tree : Branch PageRow) (whole : Whole next (alone tree)) where
-  set_leads : (serial : ℕ) (name value : List ℕ) (was : Option (List ℕ)) → CanApply next (SetAttr serial name value) tree → value_of name (label_at serial tree).attributes ≡ was → LeadsBack (restored serial name was) (SetAttr serial name value) tree next
+  set_leads : (serial : ℕ) (name value : List ℕ) (was : Option (List ℕ)) → CanApply next (SetAttr serial name value) tree
+      → value_of name (label_at serial tree).attributes ≡ was → LeadsBack (restored serial name was) (SetAttr serial name value) tree next
   set_leads serial name value None can is =
       let tests = clear (edit_faults (SetAttr serial name value) tree) can.fits in
       let live = not-false _ tests.0 in
@@ -86,11 +109,22 @@ module _ {next : ℕ} (tree : Branch PageRow) (whole : Whole next (alone tree)) 
         taken = record {
           fits = unfaulted (edit_faults (DropAttr serial name) (after_tree (SetAttr serial name value) tree)) (
             not_from_true _ (live-turned serial (with_attribute name value) tree live later),
-            (not_from_true _ (ap (λ (l : Label). is_element l.kind) label ∙ not-false _ tests.1.0), (tests.1.1.0, (not_from_true _ (ap (λ (l : Label). is_some (value_of name l.attributes)) label ∙ ap (λ (o : Option (List ℕ)). is_some o) there), tt))),
+            (
+              not_from_true _ (ap (λ (l : Label). is_element l.kind) label ∙ not-false _ tests.1.0),
+              (
+                tests.1.1.0,
+                (
+                  not_from_true _
+                      (ap (λ (l : Label). is_some (value_of name l.attributes)) label ∙ ap (λ (o : Option (List ℕ)). is_some o) there),
+                  tt,
+                ),
+              ),
+            ),
           );
           ready = tt;
         };
-        tree_back = label-back serial (with_attribute name value) tree live later (without_attribute name) (ap (λ (a : List Pair). record l { attributes = a }) (set_drop name value l.attributes is));
+        tree_back = label-back serial (with_attribute name value) tree live later (without_attribute name)
+            (ap (λ (a : List Pair). record l { attributes = a }) (set_drop name value l.attributes is));
         edit_back = ap (λ (l : Label). restored serial name (value_of name l.attributes)) label ∙ ap (restored serial name) there;
       }
   set_leads serial name value (Some old) can is =
@@ -103,15 +137,21 @@ module _ {next : ℕ} (tree : Branch PageRow) (whole : Whole next (alone tree)) 
       let label = label-turned serial (with_attribute name value) tree live later in
       record {
         taken = record {
-          fits = unfaulted (edit_faults (SetAttr serial name old) (after_tree (SetAttr serial name value) tree))
-              (not_from_true _ (live-turned serial (with_attribute name value) tree live later), (not_from_true _ (ap (λ (l : Label). is_element l.kind) label ∙ element), (tests.1.1.0, tt)));
+          fits = unfaulted (edit_faults (SetAttr serial name old) (after_tree (SetAttr serial name value) tree)) (
+            not_from_true _ (live-turned serial (with_attribute name value) tree live later),
+            (not_from_true _ (ap (λ (l : Label). is_element l.kind) label ∙ element), (tests.1.1.0, tt)),
+          );
           ready = tt;
         };
-        tree_back = label-back serial (with_attribute name value) tree live later (with_attribute name old) (ap (λ (a : List Pair). record l { attributes = a }) (set_set name value old l.attributes is (ascending-element l element fits.formed)));
-        edit_back = ap (λ (l : Label). restored serial name (value_of name l.attributes)) label ∙ ap (restored serial name) (value-placed name value l.attributes);
+        tree_back = label-back serial (with_attribute name value) tree live later (with_attribute name old)
+            (ap (λ (a : List Pair). record l { attributes = a })
+            (set_set name value old l.attributes is (ascending-element l element fits.formed)));
+        edit_back = ap (λ (l : Label). restored serial name (value_of name l.attributes)) label ∙ ap (restored serial name)
+            (value-placed name value l.attributes);
       }
 
-  drop_leads : (serial : ℕ) (name : List ℕ) (was : Option (List ℕ)) → CanApply next (DropAttr serial name) tree → value_of name (label_at serial tree).attributes ≡ was → LeadsBack (restored serial name was) (DropAttr serial name) tree next
+  drop_leads : (serial : ℕ) (name : List ℕ) (was : Option (List ℕ)) → CanApply next (DropAttr serial name) tree
+      → value_of name (label_at serial tree).attributes ≡ was → LeadsBack (restored serial name was) (DropAttr serial name) tree next
   drop_leads serial name None can is =
       let tests = clear (edit_faults (DropAttr serial name) tree) can.fits in
       let there = not-false _ tests.1.1.1.0 in
@@ -128,15 +168,20 @@ module _ {next : ℕ} (tree : Branch PageRow) (whole : Whole next (alone tree)) 
       let label = label-turned serial (without_attribute name) tree live later in
       record {
         taken = record {
-          fits = unfaulted (edit_faults (SetAttr serial name old) (after_tree (DropAttr serial name) tree))
-              (not_from_true _ (live-turned serial (without_attribute name) tree live later), (not_from_true _ (ap (λ (l : Label). is_element l.kind) label ∙ element), (tests.1.1.0, tt)));
+          fits = unfaulted (edit_faults (SetAttr serial name old) (after_tree (DropAttr serial name) tree)) (
+            not_from_true _ (live-turned serial (without_attribute name) tree live later),
+            (not_from_true _ (ap (λ (l : Label). is_element l.kind) label ∙ element), (tests.1.1.0, tt)),
+          );
           ready = tt;
         };
-        tree_back = label-back serial (without_attribute name) tree live later (with_attribute name old) (ap (λ (a : List Pair). record l { attributes = a }) (drop_set name old l.attributes is ascending));
-        edit_back = ap (λ (l : Label). restored serial name (value_of name l.attributes)) label ∙ ap (restored serial name) (value-without name l.attributes ascending);
+        tree_back = label-back serial (without_attribute name) tree live later (with_attribute name old)
+            (ap (λ (a : List Pair). record l { attributes = a }) (drop_set name old l.attributes is ascending));
+        edit_back = ap (λ (l : Label). restored serial name (value_of name l.attributes)) label ∙ ap (restored serial name)
+            (value-without name l.attributes ascending);
       }
 
-  text_leads : (serial : ℕ) (value : List ℕ) → CanApply next (SetText serial value) tree → LeadsBack (SetText serial (label_at serial tree).value) (SetText serial value) tree next
+  text_leads : (serial : ℕ) (value : List ℕ) → CanApply next (SetText serial value) tree
+      → LeadsBack (SetText serial (label_at serial tree).value) (SetText serial value) tree next
   text_leads serial value can =
       let tests = clear (edit_faults (SetText serial value) tree) can.fits in
       let live = not-false _ tests.0 in
@@ -144,8 +189,10 @@ module _ {next : ℕ} (tree : Branch PageRow) (whole : Whole next (alone tree)) 
       let label = label-turned serial (with_value value) tree live later in
       record {
         taken = record {
-          fits = unfaulted (edit_faults (SetText serial (label_at serial tree).value) (after_tree (SetText serial value) tree))
-              (not_from_true _ (live-turned serial (with_value value) tree live later), (not_from_true _ (ap (λ (l : Label). has_value l.kind) label ∙ not-false _ tests.1.0), tt));
+          fits = unfaulted (edit_faults (SetText serial (label_at serial tree).value) (after_tree (SetText serial value) tree)) (
+            not_from_true _ (live-turned serial (with_value value) tree live later),
+            (not_from_true _ (ap (λ (l : Label). has_value l.kind) label ∙ not-false _ tests.1.0), tt),
+          );
           ready = tt;
         };
         tree_back = label-back serial (with_value value) tree live later (with_value (label_at serial tree).value) refl;
@@ -162,7 +209,8 @@ or_cases : (a b : Bool) → (a || b) ≡ true → (a ≡ true) ⊎ (b ≡ true)
 or_cases true b e = inl refl
 or_cases false b e = inr e
 
-module _ {next : ℕ} (tree : Branch PageRow) (whole : Whole next (alone tree)) (parent before : ℕ) (w : Branch PageRow) (can : CanApply next (Attach parent before w) tree) where
+module _ {next : ℕ} (tree : Branch PageRow) (whole : Whole next (alone tree)) (parent before : ℕ) (w : Branch PageRow)
+    (can : CanApply next (Attach parent before w) tree) where
   abbrev tree_after : Branch PageRow
   tree_after = changed_at parent (with_child before w) tree
 
@@ -187,7 +235,9 @@ module _ {next : ℕ} (tree : Branch PageRow) (whole : Whole next (alone tree)) 
   attach_found =
       let stands = turned-stands parent (with_child before w) tree attach_live attach_later refl in
       find-stands row_serial w (alone tree_after)
-      (stands-below (with_child before w (node_at parent tree)) w (alone tree_after) stands (child-stands row_serial w.row.serial (put_before before w (children_at parent tree)) w attach_child)) (attach_later.distinct w.row.serial)
+      (stands-below (with_child before w (node_at parent tree)) w (alone tree_after) stands
+      (child-stands row_serial w.row.serial (put_before before w (children_at parent tree)) w attach_child))
+      (attach_later.distinct w.row.serial)
 
   attach_parent : parent_at w.row.serial tree_after ≡ parent
   attach_parent =
@@ -212,15 +262,23 @@ module _ {next : ℕ} (tree : Branch PageRow) (whole : Whole next (alone tree)) 
       let live = ap (λ (o : Option (Branch PageRow)). is_some o) attach_found in
       let is : node_at w.row.serial tree_after ≡ w = ap (λ (o : Option (Branch PageRow)). unwrap_or o tree_after) attach_found in
       let not_document : is_document w.row.label.kind ≡ false = document_apart w can.ready.formed in
-      let children : children_at parent tree_after ≡ put_before before w (children_at parent tree) = ap (λ (b : Branch PageRow). b.children) (turned-node parent (with_child before w) tree attach_live attach_later refl) in
+      let children : children_at parent tree_after
+      ≡ put_before before w (children_at parent tree) = ap (λ (b : Branch PageRow). b.children)
+      (turned-node parent (with_child before w) tree attach_live attach_later refl) in
       let sibling : sibling_after w.row.serial parent tree_after ≡ before = ap (next_sibling w.row.serial) children ∙ attach_next in
       record {
-        taken = record { fits = unfaulted (edit_faults (Detach w.row.serial) tree_after) (not_from_true _ live, (ap (λ (b : Branch PageRow). is_document b.row.label.kind) is ∙ not_document, tt)); ready = tt };
+        taken = record {
+          fits = unfaulted (edit_faults (Detach w.row.serial) tree_after)
+              (not_from_true _ live, (ap (λ (b : Branch PageRow). is_document b.row.label.kind) is ∙ not_document, tt));
+          ready = tt;
+        };
         tree_back =
             ap (λ (p : ℕ). changed_at p (without_child w.row.serial) tree_after) attach_parent
             ∙ turned-back parent (with_child before w) tree attach_live attach_later refl (without_child w.row.serial)
-            (ap (λ (c : Nodes PageRow). record { row = (node_at parent tree).row; children = c }) (take-put w before (children_at parent tree) attach_absent));
-        edit_back = ap (λ (p : ℕ). Attach p (sibling_after w.row.serial p tree_after) (node_at w.row.serial tree_after)) attach_parent ∙ (λ i. Attach parent (sibling i) (is i));
+            (ap (λ (c : Nodes PageRow). record { row = (node_at parent tree).row; children = c })
+            (take-put w before (children_at parent tree) attach_absent));
+        edit_back = ap (λ (p : ℕ). Attach p (sibling_after w.row.serial p tree_after) (node_at w.row.serial tree_after)) attach_parent ∙
+            (λ i. Attach parent (sibling i) (is i));
       }
     where
       document_apart : (b : Branch PageRow) → are_formed true (alone (map_branch row_label b)) ≡ true → is_document b.row.label.kind ≡ false
@@ -285,7 +343,15 @@ module _ {next : ℕ} (tree : Branch PageRow) (whole : Whole next (alone tree)) 
       document_stands false p h top e = refl
 
       document_holds : (b : Branch PageRow) → Sound (Some (kind_at parent tree)) (alone b) → Sound (Some Document) (alone b)
-      document_holds b s = (record { formed = s.0.formed; named = s.0.named; stands = document_stands (is_document b.row.label.kind) (is_doctype b.row.label.kind) _ _ s.0.stands }, s.1, tt)
+      document_holds b s = (
+        record {
+          formed = s.0.formed;
+          named = s.0.named;
+          stands = document_stands (is_document b.row.label.kind) (is_doctype b.row.label.kind) _ _ s.0.stands;
+        },
+        s.1,
+        tt,
+      )
 
   pub form-named : are_named (alone (map_branch row_label taken)) ≡ true
   form-named = (formed-sound (kind_at parent tree) (alone taken) taken-sound).named
@@ -322,7 +388,9 @@ module _ {next : ℕ} (tree : Branch PageRow) (whole : Whole next (alone tree)) 
             let there = among-tally sibling (children_at parent left_tree) e in
             let turned = turned-stands parent (without_child serial) tree detach_parent detach-later refl in
             let among = tally_in-at row_serial sibling turned.2 in
-            let is : tally row_serial sibling (children_at parent left_tree) ≡ tally row_serial sibling (taken_out serial (children_at parent tree)) = ap (λ (b : Branch PageRow). tally row_serial sibling b.children) detach_node in
+            let is : tally row_serial sibling (children_at parent left_tree)
+            ≡ tally row_serial sibling (taken_out serial (children_at parent tree)) = ap
+            (λ (b : Branch PageRow). tally row_serial sibling b.children) detach_node in
             inr (live-tally sibling left_tree (omega arith))
       ]
 
@@ -335,7 +403,8 @@ module _ {next : ℕ} (tree : Branch PageRow) (whole : Whole next (alone tree)) 
       let h = height-map_rows row_label (alone taken) in
       let k = node_count-map_rows row_label taken.children in
       let e = detach-at in
-      let level : level_at parent left_tree ≡ e.0 = level-changed parent left_tree (at-new e.1) (serial-live parent tree detach_parent) detach-later.distinct in
+      let level : level_at parent left_tree
+      ≡ e.0 = level-changed parent left_tree (at-new e.1) (serial-live parent tree detach_parent) detach-later.distinct in
       let above = height_above-at (at-old e.1) in
       let tall = height-inserted detach-inserted in
       let count = count-at e.1 in
@@ -343,7 +412,8 @@ module _ {next : ℕ} (tree : Branch PageRow) (whole : Whole next (alone tree)) 
       let low = whole.low in
       let few = whole.few in
       unfaulted (edit_faults (Attach parent sibling taken) left_tree) (
-        not_from_true _ (both _ _ (turned-live parent (without_child serial) tree detach_parent detach-later refl) (place_or (λ x. is_live x left_tree) sibling_live)),
+        not_from_true _ (both _ _ (turned-live parent (without_child serial) tree detach_parent detach-later refl)
+            (place_or (λ x. is_live x left_tree) sibling_live)),
         (
           not_from_true _ (place_or (λ x. is_among x (children_at parent left_tree)) sibling_place),
           (
@@ -352,7 +422,11 @@ module _ {next : ℕ} (tree : Branch PageRow) (whole : Whole next (alone tree)) 
               not_from_true _ (le-leb _ _ (omega arith)),
               (
                 not_from_true _ form-named,
-                (not_from_true _ (ap (λ (b : Branch PageRow). may_hold b.row.label.kind taken.row.label.kind) detach_node ∙ held_part (is_document taken.row.label.kind) _ taken-sound.0.stands), tt),
+                (
+                  not_from_true _ (ap (λ (b : Branch PageRow). may_hold b.row.label.kind taken.row.label.kind) detach_node ∙ held_part
+                      (is_document taken.row.label.kind) _ taken-sound.0.stands),
+                  tt,
+                ),
               ),
             ),
           ),
@@ -363,7 +437,8 @@ module _ {next : ℕ} (tree : Branch PageRow) (whole : Whole next (alone tree)) 
   detach_leads = record {
     taken = record { fits = detach_fits; ready = detach-ready };
     tree_back = turned-back parent (without_child serial) tree detach_parent detach-later refl (with_child sibling taken)
-        (ap (λ (c : Nodes PageRow). record { row = (node_at parent tree).row; children = c }) (put-take serial taken (children_at parent tree) detach_child once zeros));
+        (ap (λ (c : Nodes PageRow). record { row = (node_at parent tree).row; children = c })
+        (put-take serial taken (children_at parent tree) detach_child once zeros));
     edit_back = ap Detach (serial-live serial tree detach_live);
   }
     where
@@ -371,7 +446,8 @@ module _ {next : ℕ} (tree : Branch PageRow) (whole : Whole next (alone tree)) 
       once x = let among = tally_in-at row_serial x detach-at.1 in let d = whole.distinct x in omega arith
 
       zeros : tally row_serial 0 (children_at parent tree) ≡ 0
-      zeros = let among = tally_in-at row_serial 0 detach-at.1 in let z = zero_at 0 (tally row_serial 0 (alone tree)) (whole.least 0) refl in omega arith
+      zeros = let among = tally_in-at row_serial 0 detach-at.1 in let z = zero_at 0 (tally row_serial 0 (alone tree))
+          (whole.least 0) refl in omega arith
 
 -- ---- each edit
 
@@ -381,12 +457,20 @@ can-later next then (DropAttr serial name) tree h can = record { fits = can.fits
 can-later next then (SetText serial value) tree h can = record { fits = can.fits; ready = tt }
 can-later next then (Attach parent before w) tree h can = record {
   fits = can.fits;
-  ready = record { formed = can.ready.formed; distinct = can.ready.distinct; least = can.ready.least; below_next = λ x p. let b = can.ready.below_next x p in omega arith; apart = can.ready.apart };
+  ready = record {
+    formed = can.ready.formed;
+    distinct = can.ready.distinct;
+    least = can.ready.least;
+    below_next = λ x p. let b = can.ready.below_next x p in omega arith;
+    apart = can.ready.apart;
+  };
 }
 can-later next then (Detach serial) tree h can = record { fits = can.fits; ready = tt }
 
-leads : {next : ℕ} (e : TreeEdit) (tree : Branch PageRow) → Whole next (alone tree) → CanApply next e tree → LeadsBack (back_tree e tree) e tree next
-leads (SetAttr serial name value) tree whole can = set_leads tree whole serial name value (value_of name (label_at serial tree).attributes) can refl
+leads : {next : ℕ} (e : TreeEdit) (tree : Branch PageRow) → Whole next (alone tree) → CanApply next e tree
+    → LeadsBack (back_tree e tree) e tree next
+leads (SetAttr serial name value) tree whole can = set_leads tree whole serial name value
+    (value_of name (label_at serial tree).attributes) can refl
 leads (DropAttr serial name) tree whole can = drop_leads tree whole serial name (value_of name (label_at serial tree).attributes) can refl
 leads (SetText serial value) tree whole can = text_leads tree whole serial value can
 leads (Attach parent before w) tree whole can = attach_leads tree whole parent before w can

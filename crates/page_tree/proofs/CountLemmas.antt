@@ -1,5 +1,6 @@
 -- A page has as many nodes as its map has serials.
-use Rattle.std.proofs.Common.{◌≡◌, ℕ, suc, ◌+◌, ◌<◌, ◌==◌, Bool, true, false, cond, List, [], ◌∷◌, ◌++◌, length, Option, Some, None, is_some, Less, nat_cmp, refl, ap, subst, ◌∙◌, inl, inr, arith}
+use Rattle.std.proofs.Common.{◌≡◌, ℕ, suc, ◌+◌, ◌<◌, ◌==◌, Bool, true, false, cond, List, [], ◌∷◌, ◌++◌, length, Option, Some, None}
+use Rattle.std.proofs.Common.{is_some, Less, nat_cmp, refl, ap, subst, ◌∙◌, inl, inr, arith}
 use Rattle.std.proofs.lemmas.Bool.{cases_eq, eq-eqb, eqb-true, ne_eqb}
 use Rattle.std.proofs.lemmas.Bool.Decides.{nat_tests}
 use Rattle.std.specs.Ordering.{is_eq}
@@ -26,11 +27,14 @@ abbrev without : ℕ → List ℕ → List ℕ
 without x [] = []
 without x (y ∷ ys) = cond (y == x) ys (y ∷ without x ys)
 
-listed_step : (b : Bool) (z x y : ℕ) (ys rest : List ℕ) → (b ≡ true → y ≡ x) → (b ≡ false → listed z rest + cond {A = ℕ} (x == z) 1 0 ≡ listed z ys) → listed z (cond b ys (y ∷ rest)) + cond {A = ℕ} (x == z) 1 0 ≡ cond {A = ℕ} (y == z) 1 0 + listed z ys
+listed_step : (b : Bool) (z x y : ℕ) (ys rest : List ℕ) → (b ≡ true → y ≡ x)
+    → (b ≡ false → listed z rest + cond {A = ℕ} (x == z) 1 0 ≡ listed z ys)
+    → listed z (cond b ys (y ∷ rest)) + cond {A = ℕ} (x == z) 1 0 ≡ cond {A = ℕ} (y == z) 1 0 + listed z ys
 listed_step true z x y ys rest same k = let e = ap (λ w. cond {A = ℕ} (w == z) 1 0) (same refl) in omega arith
 listed_step false z x y ys rest same k = let h = k refl in omega arith
 
-length_step : (b : Bool) (y : ℕ) (ys rest : List ℕ) → (b ≡ false → suc (length rest) ≡ length ys) → suc (length (cond b ys (y ∷ rest))) ≡ suc (length ys)
+length_step : (b : Bool) (y : ℕ) (ys rest : List ℕ) → (b ≡ false → suc (length rest) ≡ length ys)
+    → suc (length (cond b ys (y ∷ rest))) ≡ suc (length ys)
 length_step true y ys rest k = refl
 length_step false y ys rest k = ap suc (k refl)
 
@@ -40,7 +44,8 @@ behind false n some e = omega arith
 
 listed-without : (z x : ℕ) (ys : List ℕ) → 0 < listed x ys → listed z (without x ys) + cond {A = ℕ} (x == z) 1 0 ≡ listed z ys
 listed-without z x [] some = absurd (omega arith)
-listed-without z x (y ∷ ys) some = listed_step (y == x) z x y ys (without x ys) (λ e. eqb-true y x e) (λ e. listed-without z x ys (behind (y == x) (listed x ys) some e))
+listed-without z x (y ∷ ys) some = listed_step (y == x) z x y ys (without x ys) (λ e. eqb-true y x e)
+    (λ e. listed-without z x ys (behind (y == x) (listed x ys) some e))
 
 length-without : (x : ℕ) (ys : List ℕ) → 0 < listed x ys → suc (length (without x ys)) ≡ length ys
 length-without x [] some = absurd (omega arith)
@@ -96,7 +101,8 @@ unlisted k (y ∷ ks) (first, rest) =
     let r = unlisted k ks rest in
     omega arith
 
-listed_key : (x : ℕ) (es : List (ℕ × ℕ)) → IsStrictlySortedBy nat_cmp (keys_of es) → listed x (keys_of es) ≡ cond {A = ℕ} (is_some (lookup (is_at (nat_cmp x)) es)) 1 0
+listed_key : (x : ℕ) (es : List (ℕ × ℕ)) → IsStrictlySortedBy nat_cmp (keys_of es)
+    → listed x (keys_of es) ≡ cond {A = ℕ} (is_some (lookup (is_at (nat_cmp x)) es)) 1 0
 unfolding IsStrictlySortedBy
 listed_key x [] sorted = refl
 listed_key x (e ∷ es) (above, sorted) =
@@ -119,7 +125,9 @@ module _ (a : Arena) (root next : ℕ) (page : IsPage a root next) (ordered : Is
       let key = listed_key x a.keys.entries ordered in
       let own = listed-serials x (alone (tree_of a root)) in
       (elim (keys_in a x) as (λ o. keys_in a x ≡ o → listed x (keys_of a.keys.entries) ≡ listed x (serials (alone (tree_of a root)))) [
-        | Some k ↦ λ e. let once_key = key ∙ ap (λ (o : Option ℕ). cond {A = ℕ} (is_some o) 1 0) e in let there = there_at x k e in let o = once a root next page x in omega arith
+        | Some k ↦ λ e. let once_key = key ∙ ap
+            (λ (o : Option ℕ). cond {A = ℕ}
+            (is_some o) 1 0) e in let there = there_at x k e in let o = once a root next page x in omega arith
         | None ↦ λ e. let no_key = key ∙ ap (λ (o : Option ℕ). cond {A = ℕ} (is_some o) 1 0) e in let gone = gone_at x e in omega arith
       ]) refl
     where
@@ -129,7 +137,10 @@ module _ (a : Arena) (root next : ℕ) (page : IsPage a root next) (ordered : Is
           subst (λ y. 0 < tally row_serial y (alone (tree_of a root))) serial_is (page.arena.reached k slot at)
 
       gone_at : (x : ℕ) → keys_in a x ≡ None → tally row_serial x (alone (tree_of a root)) ≡ 0
-      gone_at x e = tally_absent x (alone (tree_of a root)) (let f = subst (λ (o : Option Slot). Looks o (find_in x (tree_of a root))) (ap (λ (o : Option ℕ). option_and_then (slots_in a) o) e) (looks a root next page x) in ap (λ (o : Option (Branch PageRow)). is_some o) f)
+      gone_at x e = tally_absent x (alone (tree_of a root))
+          (let f = subst (λ (o : Option Slot). Looks o (find_in x (tree_of a root)))
+          (ap (λ (o : Option ℕ). option_and_then (slots_in a) o) e) (looks a root next page x) in ap
+          (λ (o : Option (Branch PageRow)). is_some o) f)
 
   pub count_is : btree_map_len a.keys ≡ branch_count (tree_of a root)
   count_is =

@@ -7,7 +7,8 @@ use Rattle.page_tree.specs.Pages.{PageRow, document_label}
 use Rattle.page_tree.specs.Edits.{after_all, after_tree, back_tree, moved_before, copy_edits, move_edits}
 use Rattle.page_tree.specs.EditFaults.{first_fault, insert_fault, move_fault, copy_fault}
 use Rattle.page_tree.specs.declared.edits.TreeEdit.TheVariants.{SetAttr, DropAttr, SetText, Attach, Detach}
-use Rattle.page_tree.specs.declared.edit_faults.EditFault.TheVariants.{NoNode, NotElement, NotText, IsDocument, NotChild, Inside, BadName, NoAttr, NotContainer}
+use Rattle.page_tree.specs.declared.edit_faults.EditFault.TheVariants.{NoNode, NotElement, NotText, IsDocument, NotChild, Inside, BadName}
+use Rattle.page_tree.specs.declared.edit_faults.EditFault.TheVariants.{NoAttr, NotContainer}
 
 abbrev text : Label
 text = record { kind = Text; name = []; value = codes "T"; attributes = [] }
@@ -29,7 +30,8 @@ at serial l = record { serial = serial; label = l }
 
 -- a doctype 2, an element 3 with a text 4 and an element 5, and a text 6
 abbrev page : Branch PageRow
-page = page_of (node (at 2 doctype) none (node (at 3 (element b_is_1)) (node (at 4 text) none (node (at 5 (element [])) none none)) (node (at 6 text) none none)))
+page = page_of (node (at 2 doctype) none
+    (node (at 3 (element b_is_1)) (node (at 4 text) none (node (at 5 (element [])) none none)) (node (at 6 text) none none)))
 
 -- ---- inverses
 
@@ -46,7 +48,9 @@ the_last_goes_back_last : back_tree (Detach 6) page ≡ Attach 1 0 (record { row
 the_last_goes_back_last = refl
 
 attributes_stand_in_order : after_tree (SetAttr 3 (codes "a") []) page
-    ≡ page_of (node (at 2 doctype) none (node (at 3 (element ((codes "a", []) ∷ b_is_1))) (node (at 4 text) none (node (at 5 (element [])) none none)) (node (at 6 text) none none)))
+    ≡ page_of (node (at 2 doctype) none
+    (node (at 3 (element ((codes "a", []) ∷ b_is_1))) (node (at 4 text) none (node (at 5 (element [])) none none))
+    (node (at 6 text) none none)))
 attributes_stand_in_order = refl
 
 -- ---- moves
@@ -61,12 +65,18 @@ before_itself_elsewhere_is_no_place : move_fault 4 1 4 page ≡ Some NotChild
 before_itself_elsewhere_is_no_place = refl
 
 to_the_end : after_all (move_edits 4 3 0 page) (record { tree = page; next = 7 })
-    ≡ record { tree = page_of (node (at 2 doctype) none (node (at 3 (element b_is_1)) (node (at 5 (element [])) none (node (at 4 text) none none)) (node (at 6 text) none none))); next = 7 }
+    ≡ record {
+      tree = page_of (node (at 2 doctype) none
+          (node (at 3 (element b_is_1)) (node (at 5 (element [])) none (node (at 4 text) none none)) (node (at 6 text) none none)));
+      next = 7;
+    }
 to_the_end = refl
 
 a_copy_has_new_serials : after_all (copy_edits 3 1 6 (record { tree = page; next = 7 })) (record { tree = page; next = 7 })
     ≡ record {
-      tree = page_of (node (at 2 doctype) none (node (at 3 (element b_is_1)) (node (at 4 text) none (node (at 5 (element [])) none none)) (node (at 7 (element b_is_1)) (node (at 8 text) none (node (at 9 (element [])) none none)) (node (at 6 text) none none))));
+      tree = page_of (node (at 2 doctype) none
+          (node (at 3 (element b_is_1)) (node (at 4 text) none (node (at 5 (element [])) none none))
+          (node (at 7 (element b_is_1)) (node (at 8 text) none (node (at 9 (element [])) none none)) (node (at 6 text) none none))));
       next = 10;
     }
 a_copy_has_new_serials = refl

@@ -1,5 +1,6 @@
 -- The edits that an insert and a copy mean are taken.
-use Rattle.std.proofs.Common.{◌≡◌, ◌⊎◌, ℕ, zero, suc, ◌+◌, ◌<◌, ◌≤◌, max, Bool, true, false, ◌&&◌, inl, inr, subst, refl, sym, ap, ◌∙◌, arith}
+use Rattle.std.proofs.Common.{◌≡◌, ◌⊎◌, ℕ, zero, suc, ◌+◌, ◌<◌, ◌≤◌, max, Bool, true, false, ◌&&◌, inl, inr, subst, refl, sym, ap, ◌∙◌}
+use Rattle.std.proofs.Common.{arith}
 use Rattle.std.proofs.lemmas.Bool.{not-false, not_from_true, cases_lt}
 use Rattle.node_tree.specs.Nodes.{Nodes, none, node, Branch, alone, node_count, branch_count, map_branch}
 use Rattle.node_tree.specs.Labels.{Label}
@@ -58,15 +59,24 @@ module _ (page : PageValue) (form : Branch Label) (valid : IsValid page) where
 
   -- a new serial is none of those before
   new_serial : (x : ℕ) → 0 < times_in x (numbered_branch page.next form) → page.next ≤ x
-  new_serial x p = elim (cases_lt x page.next) [ inl lt ↦ absurd (let e = tally-numbered_below x page.next (alone form) lt in omega arith) | inr ge ↦ omega arith ]
+  new_serial x p = elim (cases_lt x page.next) [
+    | inl lt ↦ absurd
+        (let e = tally-numbered_below x page.next (alone form) lt in omega arith)
+    | inr ge ↦ omega arith
+  ]
 
   pub numbered-ready : CanInsert form → CanAttach (page.next + branch_count form) (numbered_branch page.next form) page.tree
   numbered-ready can = record {
     formed = subst (λ (f : Branch Label). CanInsert f) (sym form-numbered) can;
     distinct = λ x. let o = tally-numbered_once x page.next (alone form) in omega arith;
     least = λ x p. let n = new_serial x p in let l = next_least in omega arith;
-    below_next = λ x p. elim (cases_lt x (page.next + branch_count form)) [ inl lt ↦ lt | inr ge ↦ absurd (let e = tally-numbered_above x page.next (alone form) (omega arith) in omega arith) ];
-    apart = λ x p. let n = new_serial x p in elim (some_times x) [ inl z ↦ z | inr q ↦ absurd (let b = valid.below_next x q in omega arith) ];
+    below_next = λ x p. elim (cases_lt x (page.next + branch_count form)) [
+      | inl lt ↦ lt
+      | inr ge ↦ absurd
+          (let e = tally-numbered_above x page.next (alone form) (omega arith) in omega arith)
+    ];
+    apart = λ x p. let n = new_serial x p in elim
+        (some_times x) [ inl z ↦ z | inr q ↦ absurd (let b = valid.below_next x q in omega arith) ];
   }
     where
       zero_or_more : (k : ℕ) → (k ≡ 0) ⊎ (0 < k)
@@ -88,7 +98,8 @@ insert-leads page parent before form valid can clear_of = record {
   ends = ap (λ (n : ℕ). record (after (Attach parent before (numbered_branch page.next form)) page) { next = n }) same_next;
 }
   where
-    same_next : max (page.next + branch_count form) (suc (greatest_serial (alone (numbered_branch page.next form)))) ≡ max page.next (suc (greatest_serial (alone (numbered_branch page.next form))))
+    same_next : max (page.next + branch_count form) (suc (greatest_serial (alone (numbered_branch page.next form))))
+        ≡ max page.next (suc (greatest_serial (alone (numbered_branch page.next form))))
     same_next = let g = greatest-numbered page.next (alone form) (next_least page form valid) in omega arith
 
 -- ---- a copy
@@ -103,7 +114,23 @@ copy-leads page serial parent before valid clear_of =
     let tests = clear (copy_faults serial parent before page.tree) clear_of in
     let lives = all_three (is_live serial page.tree) (is_live parent page.tree) (is_live_or_0 before page.tree) (not-false _ tests.0) in
     let whole = whole-valid page valid in
-    let detach : CanApply page.next (Detach serial) page.tree = record { fits = unfaulted (edit_faults (Detach serial) page.tree) (not_from_true _ lives.0, (tests.1.0, tt)); ready = tt } in
+    let detach : CanApply page.next
+    (Detach serial) page.tree = record {
+      fits = unfaulted (edit_faults (Detach serial) page.tree)
+          (not_from_true _ lives.0, (tests.1.0, tt));
+      ready = tt;
+    } in
     insert-leads page parent before (form_at serial page.tree) valid (form-sound page.tree whole serial detach)
-    (unfaulted (attach_faults parent before (form_at serial page.tree) page.tree)
-    (not_from_true _ (both _ _ lives.1 lives.2), (tests.1.1.0, (tests.1.1.1.0, (tests.1.1.1.1.0, (not_from_true _ (form-named page.tree whole serial detach), (tests.1.1.1.1.1.0, tt)))))))
+    (unfaulted (attach_faults parent before (form_at serial page.tree) page.tree) (
+      not_from_true _ (both _ _ lives.1 lives.2),
+      (
+        tests.1.1.0,
+        (
+          tests.1.1.1.0,
+          (
+            tests.1.1.1.1.0,
+            (not_from_true _ (form-named page.tree whole serial detach), (tests.1.1.1.1.1.0, tt)),
+          ),
+        ),
+      ),
+    ))

@@ -1,5 +1,6 @@
 -- The parent and the siblings of a node, as a zipper has them.
-use Rattle.std.proofs.Common.{◌≡◌, ℕ, zero, suc, ◌+◌, ◌<◌, ◌≤◌, ◌==◌, false, List, [], ◌∷◌, length, Option, Some, None, unwrap_or, refl, sym, ap, ◌∙◌, arith}
+use Rattle.std.proofs.Common.{◌≡◌, ℕ, zero, suc, ◌+◌, ◌<◌, ◌≤◌, ◌==◌, false, List, [], ◌∷◌, length, Option, Some, None, unwrap_or, refl}
+use Rattle.std.proofs.Common.{sym, ap, ◌∙◌, arith}
 use Rattle.std.specs.Option.{option_map}
 use Rattle.node_tree.specs.Nodes.{Nodes, none, node, Branch, alone, width, node_count}
 use Rattle.node_tree.proofs.NodeLemmas.{width_le-node_count}
@@ -15,7 +16,8 @@ some_there (suc n) e = omega arith
 
 -- the parent's serial is that of what stands above, where there is one
 pub parent_at-of : (tree : Branch PageRow) (x : ℕ) (z : Zipper) → find_zipper x tree ≡ Some z → parent_at x tree ≡ serial_above z.above
-parent_at-of tree x z e = ap (λ o. unwrap_or o 0) (parent-found x [] [] (alone tree) ∙ ap (λ (o : Option Zipper). option_map (λ z. serial_above z.above) o) e)
+parent_at-of tree x z e = ap (λ o. unwrap_or o 0)
+    (parent-found x [] [] (alone tree) ∙ ap (λ (o : Option Zipper). option_map (λ z. serial_above z.above) o) e)
 
 -- a node of the tree is found by its serial
 pub live-of : (tree : Branch PageRow) (x : ℕ) (z : Zipper) → find_zipper x tree ≡ Some z → find_in x tree ≡ Some z.branch
@@ -29,7 +31,8 @@ pub data ParentBy (tree : Branch PageRow) (z : Zipper) (serial : ℕ) : Type 0 w
 pub parent_by : (tree : Branch PageRow) → AreApart tree → (z : Zipper) → IsOf tree z → ParentBy tree z (serial_above z.above)
 parent_by tree apart z of = up z.above (of-parent tree z) refl
   where
-    up : (above : List Generation) → ((p : Zipper) → IsOf tree z → parent_of z ≡ Some p → IsOf tree p) → above ≡ z.above → ParentBy tree z (serial_above above)
+    up : (above : List Generation) → ((p : Zipper) → IsOf tree z → parent_of z ≡ Some p → IsOf tree p) → above ≡ z.above
+        → ParentBy tree z (serial_above above)
     up [] step is = at_top refl (ap (λ (l : List Generation). parent_of (record z { above = l })) (sym is))
     up (g ∷ above) step is =
         let leads : parent_of z ≡ Some (zipper_of g above) = ap (λ (l : List Generation). parent_of (record z { above = l })) (sym is) in
@@ -37,7 +40,8 @@ parent_by tree apart z of = up z.above (of-parent tree z) refl
 
 -- ---- how many siblings there are
 
-pub length-earlier_in : (above : List Generation) (before : List (Branch PageRow)) (here : Nodes PageRow) → length (earlier_in above before here) ≡ length before
+pub length-earlier_in : (above : List Generation) (before : List (Branch PageRow)) (here : Nodes PageRow)
+    → length (earlier_in above before here) ≡ length before
 length-earlier_in above [] here = refl
 length-earlier_in above (b ∷ before) here = ap suc (length-earlier_in above before (node b.row b.children here))
 
@@ -45,16 +49,33 @@ length-in_row : (above : List Generation) (before : List (Branch PageRow)) (n : 
 length-in_row above before none = refl
 length-in_row above before (node r c t) = ap suc (length-in_row above (record { row = r; children = c } ∷ before) t)
 
-node_count-siblings : (before : List (Branch PageRow)) (here : Nodes PageRow) → length before + node_count here ≤ node_count (siblings_of before here)
+node_count-siblings : (before : List (Branch PageRow)) (here : Nodes PageRow)
+    → length before + node_count here ≤ node_count (siblings_of before here)
 node_count-siblings [] here = omega arith
 node_count-siblings (b ∷ before) here = omega (arith, node_count-siblings before (node b.row b.children here))
 
 -- no node of a tree has more below it than the tree
-node_count-fits : (tree : Branch PageRow) (above : List Generation) (row : Nodes PageRow) → Fits tree above row → node_count row ≤ suc (node_count tree.children)
+node_count-fits : (tree : Branch PageRow) (above : List Generation) (row : Nodes PageRow) → Fits tree above row
+    → node_count row ≤ suc (node_count tree.children)
 node_count-fits tree [] row fits = omega (arith, ap (λ (n : Nodes PageRow). node_count n) fits)
 node_count-fits tree (g ∷ above) row fits =
-    omega (arith, ap (λ (n : Nodes PageRow). node_count n) fits.0, node_count-fits tree above _ fits.1, node_count-siblings g.before (node g.branch.row g.branch.children g.after))
+    omega (
+      arith,
+      ap (λ (n : Nodes PageRow). node_count n) fits.0,
+      node_count-fits tree above _ fits.1,
+      node_count-siblings g.before
+          (node g.branch.row g.branch.children g.after),
+    )
 
 pub few-siblings : (tree : Branch PageRow) (z : Zipper) → IsOf tree z → length (earlier z) + length (later z) ≤ node_count tree.children
 few-siblings tree z fits =
-    omega (arith, length-earlier_in z.above z.before (node z.branch.row z.branch.children z.after), length-in_row z.above (z.branch ∷ z.before) z.after, width_le-node_count z.after, node_count-fits tree z.above _ fits, node_count-siblings z.before (node z.branch.row z.branch.children z.after))
+    omega (
+      arith,
+      length-earlier_in z.above z.before (node z.branch.row z.branch.children z.after),
+      length-in_row z.above
+          (z.branch ∷ z.before) z.after,
+      width_le-node_count z.after,
+      node_count-fits tree z.above _ fits,
+      node_count-siblings z.before
+          (node z.branch.row z.branch.children z.after),
+    )

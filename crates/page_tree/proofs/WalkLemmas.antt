@@ -1,7 +1,9 @@
 -- Walks down a page: what is left of the trees at a place, and one tree more.
-use Rattle.std.proofs.Common.{◌≡◌, ℕ, suc, ◌+◌, ◌-◌, ◌<◌, ◌≤◌, max, nat_le, true, false, List, [], ◌∷◌, ◌++◌, Some, None, Result, Ok, Err, IfOk, sym, ap, ◌∙◌, arith}
+use Rattle.std.proofs.Common.{◌≡◌, ℕ, suc, ◌+◌, ◌-◌, ◌<◌, ◌≤◌, max, nat_le, true, false, List, [], ◌∷◌, ◌++◌, Some, None, Result, Ok, Err}
+use Rattle.std.proofs.Common.{IfOk, sym, ap, ◌∙◌, arith}
 use Rattle.std.proofs.lemmas.Bool.Decides.{nat_tests}
-use Rattle.node_tree.specs.Nodes.{Nodes, none, node, Branch, nodes_of, from, tree_at, width, node_count, branch_count, height, beside, map_rows, map_branch}
+use Rattle.node_tree.specs.Nodes.{Nodes, none, node, Branch, nodes_of, from, tree_at, width, node_count, branch_count, height, beside}
+use Rattle.node_tree.specs.Nodes.{map_rows, map_branch}
 use Rattle.node_tree.proofs.NodeLemmas.{from-zero, beside-none, node_count-map_rows}
 use Rattle.node_tree.specs.Keys.{At, here, within, past}
 use Rattle.page_tree.specs.Forms.{max_nodes}
@@ -47,7 +49,8 @@ module _ (n : Nodes PageRow) (i : ℕ) (b : Branch PageRow) (inside : i < width 
     pub high_over : 0 < levels → nat_le (height b.children) (levels - 1) ≡ false → false ≡ nat_le (height n) levels
     high_over some e = sym (over_high (height b.children) (height (from (i + 1) n)) levels some e) ∙ here_high
 
-    pub high_turn : 0 < levels → nat_le (height b.children) (levels - 1) ≡ true → nat_le (height (from (i + 1) n)) levels ≡ nat_le (height n) levels
+    pub high_turn : 0 < levels → nat_le (height b.children) (levels - 1) ≡ true
+        → nat_le (height (from (i + 1) n)) levels ≡ nat_le (height n) levels
     high_turn some e = sym (next_high (height b.children) (height (from (i + 1) n)) levels some e) ∙ here_high
 
   module _ (room left : ℕ) (so_far : room_after (node_count (from i n)) left ≡ room_after (node_count n) room) where
@@ -60,37 +63,50 @@ module _ (n : Nodes PageRow) (i : ℕ) (b : Branch PageRow) (inside : i < width 
     pub room_over : 0 < left → room_after (node_count b.children) (left - 1) ≡ None → None ≡ room_after (node_count n) room
     room_over some e = sym (over_room (node_count b.children) (node_count (from (i + 1) n)) left some e) ∙ inside_room
 
-    pub room_turn : (rest : ℕ) → 0 < left → room_after (node_count b.children) (left - 1) ≡ Some rest → room_after (node_count (from (i + 1) n)) rest ≡ room_after (node_count n) room
+    pub room_turn : (rest : ℕ) → 0 < left → room_after (node_count b.children) (left - 1) ≡ Some rest
+        → room_after (node_count (from (i + 1) n)) rest ≡ room_after (node_count n) room
     room_turn rest some e = sym (next_room (node_count b.children) (node_count (from (i + 1) n)) left rest some e) ∙ inside_room
 
-  module _ (done new : List (Branch PageRow)) (tree : Branch PageRow) (first next after : ℕ) (so_far : beside (nodes_of done) (numbered next (map_rows row_label (from i n))) ≡ numbered first (map_rows row_label n)) where
-    pub copy_turn : (below : Nodes PageRow) → below ≡ numbered (next + 1) (map_rows row_label b.children) → after ≡ next + 1 + node_count (map_rows row_label b.children)
+  module _ (done new : List (Branch PageRow)) (tree : Branch PageRow) (first next after : ℕ)
+      (so_far : beside (nodes_of done) (numbered next (map_rows row_label (from i n))) ≡ numbered first (map_rows row_label n)) where
+    pub copy_turn : (below : Nodes PageRow) → below ≡ numbered (next + 1) (map_rows row_label b.children)
+        → after ≡ next + 1 + node_count (map_rows row_label b.children)
         → tree ≡ record { row = record { serial = next; label = b.row.label }; children = below } → new ≡ done ++ tree ∷ []
         → beside (nodes_of new) (numbered after (map_rows row_label (from (i + 1) n))) ≡ numbered first (map_rows row_label n)
     copy_turn below below_is after_is is pushed =
         let whole = sym (ap (λ m. beside (nodes_of done) (numbered next (map_rows row_label m))) opened) ∙ so_far in
-        ap (λ (l : List (Branch PageRow)). beside (nodes_of l) (numbered after (map_rows row_label (from (i + 1) n)))) (pushed ∙ ap (λ t. done ++ t ∷ []) is)
-        ∙ number_turn done b.row.label (map_rows row_label b.children) below (map_rows row_label (from (i + 1) n)) (map_rows row_label n) first next after whole below_is after_is
+        ap (λ (l : List (Branch PageRow)). beside (nodes_of l) (numbered after (map_rows row_label (from (i + 1) n))))
+        (pushed ∙ ap (λ t. done ++ t ∷ []) is)
+        ∙ number_turn done b.row.label (map_rows row_label b.children) below (map_rows row_label (from (i + 1) n))
+        (map_rows row_label n) first next after whole below_is after_is
 
 -- nothing is left
 
-pub high_end : (n : Nodes PageRow) (i levels : ℕ) → from i n ≡ none → nat_le (height (from i n)) levels ≡ nat_le (height n) levels → true ≡ nat_le (height n) levels
+pub high_end : (n : Nodes PageRow) (i levels : ℕ) → from i n ≡ none → nat_le (height (from i n)) levels ≡ nat_le (height n) levels
+    → true ≡ nat_le (height n) levels
 high_end n i levels ended so_far = low levels ∙ sym (ap (λ m. nat_le (height m) levels) ended) ∙ so_far
   where
     low : (l : ℕ) → true ≡ nat_le 0 l
     low l = grind (arith, nat_tests)
 
-pub room_end : (n : Nodes PageRow) (i room left : ℕ) → from i n ≡ none → room_after (node_count (from i n)) left ≡ room_after (node_count n) room → Some left ≡ room_after (node_count n) room
+pub room_end : (n : Nodes PageRow) (i room left : ℕ) → from i n ≡ none
+    → room_after (node_count (from i n)) left ≡ room_after (node_count n) room → Some left ≡ room_after (node_count n) room
 room_end n i room left ended so_far = all_left left ∙ sym (ap (λ m. room_after (node_count m) left) ended) ∙ so_far
   where
     all_left : (l : ℕ) → Some l ≡ room_after 0 l
     all_left l = grind (arith, nat_tests)
 
-pub copy_start : (n : Nodes PageRow) (first : ℕ) (done : List (Branch PageRow)) → done ≡ [] → beside (nodes_of done) (numbered first (map_rows row_label (from 0 n))) ≡ numbered first (map_rows row_label n)
-copy_start n first done empty = ap (λ (l : List (Branch PageRow)). beside (nodes_of l) (numbered first (map_rows row_label (from 0 n)))) empty ∙ ap (λ m. numbered first (map_rows row_label m)) (from-zero n)
+pub copy_start : (n : Nodes PageRow) (first : ℕ) (done : List (Branch PageRow)) → done ≡ []
+    → beside (nodes_of done) (numbered first (map_rows row_label (from 0 n))) ≡ numbered first (map_rows row_label n)
+copy_start n first done empty = ap
+    (λ (l : List (Branch PageRow)). beside (nodes_of l) (numbered first (map_rows row_label (from 0 n)))) empty ∙ ap
+    (λ m. numbered first (map_rows row_label m)) (from-zero n)
 
-pub copy_end : (n : Nodes PageRow) (i : ℕ) (done : List (Branch PageRow)) (first next : ℕ) → from i n ≡ none → beside (nodes_of done) (numbered next (map_rows row_label (from i n))) ≡ numbered first (map_rows row_label n) → nodes_of done ≡ numbered first (map_rows row_label n)
-copy_end n i done first next ended so_far = sym (beside-none (nodes_of done)) ∙ sym (ap (λ m. beside (nodes_of done) (numbered next (map_rows row_label m))) ended) ∙ so_far
+pub copy_end : (n : Nodes PageRow) (i : ℕ) (done : List (Branch PageRow)) (first next : ℕ) → from i n ≡ none
+    → beside (nodes_of done) (numbered next (map_rows row_label (from i n))) ≡ numbered first (map_rows row_label n)
+    → nodes_of done ≡ numbered first (map_rows row_label n)
+copy_end n i done first next ended so_far = sym (beside-none (nodes_of done)) ∙ sym
+    (ap (λ m. beside (nodes_of done) (numbered next (map_rows row_label m))) ended) ∙ so_far
 
 pub count_end : (n : Nodes PageRow) (i next total : ℕ) → from i n ≡ none → next + node_count (from i n) ≡ total → next ≡ total
 count_end n i next total ended so_far = let e = ap (λ m. node_count m) ended in omega arith
@@ -109,6 +125,7 @@ count_node page valid x live =
     let rows = node_count-map_rows row_label page.tree.children in
     omega arith
 
-pub copied_next : {T E : Type 0} (r : Result (T × ℕ) E) (P : T × ℕ → Type 0) (first : ℕ) (w : Branch PageRow) → IfOk r (λ x. P x × (x.1 ≡ first + branch_count w)) → IfOk r (λ x. x.1 ≡ first + branch_count (map_branch row_label w))
+pub copied_next : {T E : Type 0} (r : Result (T × ℕ) E) (P : T × ℕ → Type 0) (first : ℕ) (w : Branch PageRow)
+    → IfOk r (λ x. P x × (x.1 ≡ first + branch_count w)) → IfOk r (λ x. x.1 ≡ first + branch_count (map_branch row_label w))
 copied_next (Ok x) P first w (p, e) = let rows = node_count-map_rows row_label w.children in omega arith
 copied_next (Err e) P first w p = p

@@ -1,5 +1,6 @@
 -- A valid page as a property of each node, and what one changed node leaves of it.
-use Rattle.std.proofs.Common.{◌≡◌, ◌⊎◌, ℕ, zero, suc, ◌+◌, ◌<◌, ◌≤◌, List, [], ◌∷◌, Bool, true, false, not, ◌&&◌, ◌||◌, Option, Some, None, inl, inr, subst, refl, sym, arith}
+use Rattle.std.proofs.Common.{◌≡◌, ◌⊎◌, ℕ, zero, suc, ◌+◌, ◌<◌, ◌≤◌, List, [], ◌∷◌, Bool, true, false, not, ◌&&◌, ◌||◌, Option, Some, None}
+use Rattle.std.proofs.Common.{inl, inr, subst, refl, sym, arith}
 use Rattle.std.proofs.lemmas.Bool.{not-true}
 use Rattle.node_tree.specs.Nodes.{Nodes, none, node, Branch, alone, node_count, branch_count, height, map_rows, is_no_node}
 use Rattle.node_tree.specs.Labels.{Pair, Label, is_document, is_doctype, holds, is_formed_label, is_named_label}
@@ -49,22 +50,37 @@ stand_parts top false false p e f = absurd (cc)
 labels : Nodes PageRow → Nodes Label
 labels = map_rows row_label
 
-pub sound-formed : (above : Kind) (n : Nodes PageRow) → are_formed (is_document above) (map_rows row_label n) ≡ true → are_named (map_rows row_label n) ≡ true → (holds above || is_no_node (map_rows row_label n)) ≡ true → Sound (Some above) n
+pub sound-formed : (above : Kind) (n : Nodes PageRow) → are_formed (is_document above) (map_rows row_label n) ≡ true
+    → are_named (map_rows row_label n) ≡ true → (holds above || is_no_node (map_rows row_label n)) ≡ true → Sound (Some above) n
 sound-formed above none e f g = tt
 sound-formed above (node r c t) e f g =
-    let e0 = left (is_formed_label r.label && may_stand (is_document above) r.label.kind && (holds r.label.kind || is_no_node (map_rows row_label c)) && are_formed false (map_rows row_label c)) (are_formed (is_document above) (map_rows row_label t)) e in
-    let rest = right (is_formed_label r.label && may_stand (is_document above) r.label.kind && (holds r.label.kind || is_no_node (map_rows row_label c)) && are_formed false (map_rows row_label c)) (are_formed (is_document above) (map_rows row_label t)) e in
-    let below = right (is_formed_label r.label && may_stand (is_document above) r.label.kind && (holds r.label.kind || is_no_node (map_rows row_label c))) (are_formed false (map_rows row_label c)) e0 in
-    let e1 = left (is_formed_label r.label && may_stand (is_document above) r.label.kind && (holds r.label.kind || is_no_node (map_rows row_label c))) (are_formed false (map_rows row_label c)) e0 in
-    let bare = right (is_formed_label r.label && may_stand (is_document above) r.label.kind) (holds r.label.kind || is_no_node (map_rows row_label c)) e1 in
-    let e2 = left (is_formed_label r.label && may_stand (is_document above) r.label.kind) (holds r.label.kind || is_no_node (map_rows row_label c)) e1 in
+    let e0 = left (is_formed_label r.label && may_stand (is_document above) r.label.kind
+    && (holds r.label.kind || is_no_node (map_rows row_label c)) && are_formed false (map_rows row_label c))
+    (are_formed (is_document above) (map_rows row_label t)) e in
+    let rest = right (is_formed_label r.label && may_stand (is_document above) r.label.kind
+    && (holds r.label.kind || is_no_node (map_rows row_label c)) && are_formed false (map_rows row_label c))
+    (are_formed (is_document above) (map_rows row_label t)) e in
+    let below = right (is_formed_label r.label && may_stand (is_document above) r.label.kind
+    && (holds r.label.kind || is_no_node (map_rows row_label c))) (are_formed false (map_rows row_label c)) e0 in
+    let e1 = left (is_formed_label r.label && may_stand (is_document above) r.label.kind
+    && (holds r.label.kind || is_no_node (map_rows row_label c))) (are_formed false (map_rows row_label c)) e0 in
+    let bare = right (is_formed_label r.label && may_stand (is_document above) r.label.kind)
+    (holds r.label.kind || is_no_node (map_rows row_label c)) e1 in
+    let e2 = left (is_formed_label r.label && may_stand (is_document above) r.label.kind)
+    (holds r.label.kind || is_no_node (map_rows row_label c)) e1 in
     let formed = left (is_formed_label r.label) (may_stand (is_document above) r.label.kind) e2 in
     let stands = right (is_formed_label r.label) (may_stand (is_document above) r.label.kind) e2 in
     let f0 = left (is_named_label r.label && are_named (map_rows row_label c)) (are_named (map_rows row_label t)) f in
     let not_document : is_document r.label.kind ≡ false = not-true _ (left (not (is_document r.label.kind)) _ stands) in (
-      record { formed = formed; named = left _ _ f0; stands = stand_parts (is_document above) (is_document r.label.kind) (holds above) (is_doctype r.label.kind) stands g },
-      sound-formed r.label.kind c (subst (λ (b : Bool). are_formed b (map_rows row_label c) ≡ true) (sym not_document) below) (right (is_named_label r.label) (are_named (map_rows row_label c)) f0) bare,
-      sound-formed above t rest (right (is_named_label r.label && are_named (map_rows row_label c)) (are_named (map_rows row_label t)) f) (holds_still (holds above) (is_no_node (map_rows row_label t)) g),
+      record {
+        formed = formed;
+        named = left _ _ f0;
+        stands = stand_parts (is_document above) (is_document r.label.kind) (holds above) (is_doctype r.label.kind) stands g;
+      },
+      sound-formed r.label.kind c (subst (λ (b : Bool). are_formed b (map_rows row_label c) ≡ true) (sym not_document) below)
+          (right (is_named_label r.label) (are_named (map_rows row_label c)) f0) bare,
+      sound-formed above t rest (right (is_named_label r.label && are_named (map_rows row_label c)) (are_named (map_rows row_label t)) f)
+          (holds_still (holds above) (is_no_node (map_rows row_label t)) g),
     )
   where
     holds_still : (h b : Bool) → (h || false) ≡ true → (h || b) ≡ true
@@ -98,12 +114,15 @@ formed-sound above (node r c t) (fits, below, beside) =
     let parts = stand_whole (is_document above) (is_document r.label.kind) (holds above) (is_doctype r.label.kind) fits.stands in
     let not_document : is_document r.label.kind ≡ false = not-true _ (left (not (is_document r.label.kind)) _ fits.stands) in
     record {
-      formed = both _ _ (both _ _ (both _ _ (both _ _ fits.formed parts.0) u.holder) (subst (λ (b : Bool). are_formed b (map_rows row_label c) ≡ true) not_document u.formed)) v.formed;
+      formed = both _ _ (both _ _ (both _ _ (both _ _ fits.formed parts.0) u.holder)
+          (subst (λ (b : Bool). are_formed b (map_rows row_label c) ≡ true) not_document u.formed)) v.formed;
       named = both _ _ (both _ _ fits.named u.named) v.named;
       holder = always_held (holds above) false parts.1;
     }
 
-document_label_at : (k : Kind) (name value : List ℕ) (a : List Pair) → is_document k ≡ true → is_formed_label (record { kind = k; name = name; value = value; attributes = a }) ≡ true → is_named_label (record { kind = k; name = name; value = value; attributes = a }) ≡ true
+document_label_at : (k : Kind) (name value : List ℕ) (a : List Pair) → is_document k ≡ true
+    → is_formed_label (record { kind = k; name = name; value = value; attributes = a }) ≡ true
+    → is_named_label (record { kind = k; name = name; value = value; attributes = a }) ≡ true
 document_label_at Document name value [] e f = refl
 document_label_at Document name value (p ∷ ps) e f = absurd (cc)
 document_label_at Element name value a e f = absurd (cc)
@@ -164,15 +183,26 @@ valid-whole page whole =
 -- ---- one node changed
 
 module _ {old new : Branch PageRow} where
-  pub sound-at : {depth : ℕ} {n m : Nodes PageRow} (above : Option Kind) → At old new depth n m → old.row.label.kind ≡ new.row.label.kind → is_formed_label new.row.label ≡ true → is_named_label new.row.label ≡ true → Sound (Some new.row.label.kind) new.children
+  pub sound-at : {depth : ℕ} {n m : Nodes PageRow} (above : Option Kind) → At old new depth n m → old.row.label.kind ≡ new.row.label.kind
+      → is_formed_label new.row.label ≡ true → is_named_label new.row.label ≡ true → Sound (Some new.row.label.kind) new.children
       → Sound above n → Sound above m
-  sound-at above (here t) kind formed named below (fits, c, beside) =
-      (record { formed = formed; named = named; stands = subst (λ (k : Kind). stands_under above k ≡ true) kind fits.stands }, below, beside)
-  sound-at above (within depth r c m t e) kind formed named below (fits, s, beside) = (fits, sound-at (Some r.label.kind) e kind formed named below s, beside)
-  sound-at above (past depth r c t m e) kind formed named below (fits, s, beside) = (fits, s, sound-at above e kind formed named below beside)
+  sound-at above (here t) kind formed named below (fits, c, beside) = (
+    record {
+      formed = formed;
+      named = named;
+      stands = subst (λ (k : Kind). stands_under above k ≡ true) kind fits.stands;
+    },
+    below,
+    beside,
+  )
+  sound-at above (within depth r c m t e) kind formed named below (fits, s, beside) =
+      (fits, sound-at (Some r.label.kind) e kind formed named below s, beside)
+  sound-at above (past depth r c t m e) kind formed named below (fits, s, beside) =
+      (fits, s, sound-at above e kind formed named below beside)
 
   -- what holds of the node before the change
-  pub sound-there : {depth : ℕ} {n m : Nodes PageRow} (above : Option Kind) → At old new depth n m → Sound above n → (a : Option Kind) × Fits a old.row.label × Sound (Some old.row.label.kind) old.children
+  pub sound-there : {depth : ℕ} {n m : Nodes PageRow} (above : Option Kind) → At old new depth n m → Sound above n
+      → (a : Option Kind) × Fits a old.row.label × Sound (Some old.row.label.kind) old.children
   sound-there above (here t) (fits, c, beside) = (above, fits, c)
   sound-there above (within depth r c m t e) (fits, s, beside) = sound-there (Some r.label.kind) e s
   sound-there above (past depth r c t m e) (fits, s, beside) = sound-there above e beside
@@ -199,7 +229,8 @@ pub record Owes (next depth : ℕ) (old new : Branch PageRow) (n : Nodes PageRow
   pub serials : (x : ℕ) → tally_in row_serial x new ≤ tally_in row_serial x old + more x
   pub are_new : AreNew next n more
 
-pub whole-at : {old new : Branch PageRow} {depth next then : ℕ} {n m : Nodes PageRow} → next ≤ then → Whole next n → At old new depth n m → Owes then depth old new n → Whole then m
+pub whole-at : {old new : Branch PageRow} {depth next then : ℕ} {n m : Nodes PageRow} → next ≤ then → Whole next n → At old new depth n m
+    → Owes then depth old new n → Whole then m
 whole-at {old} {new} {depth} {next} {then} {n} {m} later whole e owes =
     let low = whole.low in
     let h = height-at e in
@@ -211,13 +242,23 @@ whole-at {old} {new} {depth} {next} {then} {n} {m} later whole e owes =
       low = omega arith;
       few = omega arith;
       distinct = λ x. let t = tally-at row_serial x e in let s = owes.serials x in let o = owes.are_new.once x in omega arith;
-      least = λ x p. let t = tally-at row_serial x e in let s = owes.serials x in elim (sum_cases (owes.more x) (tally row_serial x n) (omega arith)) [ inl q ↦ owes.are_new.least x q | inr q ↦ whole.least x q ];
-      below = λ x p. let t = tally-at row_serial x e in let s = owes.serials x in elim (sum_cases (owes.more x) (tally row_serial x n) (omega arith)) [ inl q ↦ owes.are_new.below x q | inr q ↦ let b = whole.below x q in omega arith ];
+      least = λ x p. let t = tally-at row_serial x e in let s = owes.serials x in elim
+          (sum_cases (owes.more x) (tally row_serial x n) (omega arith)) [ inl q ↦ owes.are_new.least x q | inr q ↦ whole.least x q ];
+      below = λ x p. let t = tally-at row_serial x e in let s = owes.serials x in elim
+          (sum_cases (owes.more x) (tally row_serial x n)
+          (omega arith)) [ inl q ↦ owes.are_new.below x q | inr q ↦ let b = whole.below x q in omega arith ];
     }
 
 -- a page goes on being whole as its next serial goes on
 pub whole-later : {next then : ℕ} {n : Nodes PageRow} → next ≤ then → Whole next n → Whole then n
-whole-later later whole = record { sound = whole.sound; low = whole.low; few = whole.few; distinct = whole.distinct; least = whole.least; below = λ x p. let b = whole.below x p in omega arith }
+whole-later later whole = record {
+  sound = whole.sound;
+  low = whole.low;
+  few = whole.few;
+  distinct = whole.distinct;
+  least = whole.least;
+  below = λ x p. let b = whole.below x p in omega arith;
+}
 
 -- ---- a tree among others
 

@@ -1,8 +1,10 @@
 -- What a pipe in memory gives.
-use Rattle.std.proofs.Common.{◌≡◌, ℕ, ◌+◌, ◌-◌, ◌≤◌, ◌<◌, List, ◌++◌, length, take, drop, min, set, refl, sym, ◌∙◌, ap, inl, inr, arith, length-append}
+use Rattle.std.proofs.Common.{◌≡◌, ℕ, ◌+◌, ◌-◌, ◌≤◌, ◌<◌, List, ◌++◌, length, take, drop, min, set, refl, sym, ◌∙◌, ap, inl, inr, arith}
+use Rattle.std.proofs.Common.{length-append}
 use Rattle.std.proofs.lemmas.Bool.{cases_lt, cases_eq, ne_eqb}
 use Rattle.std.proofs.Math.Seq.{drop-append-add}
-use Rattle.std.proofs.lemmas.List.{take-append-drop, take-take, take_min, drop-take, length-take-le, length-drop, set-append_left, set-append_right, set_past, length-set, take_at, drop_at}
+use Rattle.std.proofs.lemmas.List.{take-append-drop, take-take, take_min, drop-take, length-take-le, length-drop, set-append_left}
+use Rattle.std.proofs.lemmas.List.{set-append_right, set_past, length-set, take_at, drop_at}
 use Rattle.pipe_frames.specs.Pipe.{GivesPiece, waiting}
 use Rattle.pipe_frames.specs.Calls.{Flow, pipe_of, replaced, lying_pipe}
 
@@ -20,7 +22,8 @@ length-piece bytes passed count within = length-take-le count (drop passed bytes
 -- a pipe that gives what was sent moves the next bytes
 pub Moves-flow : (bytes before after : List ℕ) (passed count : ℕ) → passed + count ≤ length bytes
     → after ≡ before ++ take (passed + count - passed) (drop passed bytes)
-    → GivesPiece (pipe_of (record { sent = bytes; passed = passed })) (pipe_of (record { sent = bytes; passed = passed + count })) before after count
+    → GivesPiece (pipe_of (record { sent = bytes; passed = passed }))
+    (pipe_of (record { sent = bytes; passed = passed + count })) before after count
 Moves-flow bytes before after passed count within into = record {
   piece = take count (drop passed bytes);
   count = length-piece bytes passed count within;

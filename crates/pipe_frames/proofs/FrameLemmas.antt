@@ -1,10 +1,12 @@
 -- The frames of bytes that are joined, and of texts that are framed.
-use Rattle.std.proofs.Common.{◌≡◌, ◌≢◌, ℕ, ◌+◌, ◌-◌, ◌<◌, List, [], ◌∷◌, ◌++◌, length, take, get_or, refl, sym, ◌∙◌, ap, inl, inr, append_assoc, append-nil, arith, length-append}
+use Rattle.std.proofs.Common.{◌≡◌, ◌≢◌, ℕ, ◌+◌, ◌-◌, ◌<◌, List, [], ◌∷◌, ◌++◌, length, take, get_or, refl, sym, ◌∙◌, ap, inl, inr}
+use Rattle.std.proofs.Common.{append_assoc, append-nil, arith, length-append}
 use Rattle.std.proofs.lemmas.Bool.{cases_eq, ne_eqb}
 use Rattle.std.proofs.lemmas.List.Elements.{All-nil, All-cons, All-head, All-tail}
 use Rattle.std.proofs.lemmas.List.{take_more, take_at}
 use Rattle.std.specs.List.{All, flat_map}
-use Rattle.pipe_frames.specs.Frames.{Frames, IsText, framed, bytes_of, IsFrame, Splits, lengthened, put_front, frames_of, frames_from, held_after, continued, with_frame, IsCounted}
+use Rattle.pipe_frames.specs.Frames.{Frames, IsText, framed, bytes_of, IsFrame, Splits, lengthened, put_front, frames_of, frames_from}
+use Rattle.pipe_frames.specs.Frames.{held_after, continued, with_frame, IsCounted}
 
 abbrev IsLetter : ℕ → Type 0
 IsLetter byte = byte ≢ 0

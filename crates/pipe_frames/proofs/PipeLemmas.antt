@@ -1,5 +1,6 @@
 -- What was sent and given since an earlier moment, over calls that follow one another.
-use Rattle.std.proofs.Common.{◌≡◌, ℕ, ◌+◌, ◌≤◌, List, [], ◌++◌, length, take, drop, refl, sym, ◌∙◌, ap, append_assoc, append-nil, arith, length-append}
+use Rattle.std.proofs.Common.{◌≡◌, ℕ, ◌+◌, ◌≤◌, List, [], ◌++◌, length, take, drop, refl, sym, ◌∙◌, ap, append_assoc, append-nil, arith}
+use Rattle.std.proofs.Common.{length-append}
 use Rattle.std.proofs.lemmas.List.{drop_all, drop_at, append_cancel_left, drop-drop}
 use Rattle.pipe_frames.specs.Pipe.{Pipe, GivesPiece, waiting, GivesPrefix, IsLevel, sent_since, given_since, since, Extends}
 

@@ -1,5 +1,6 @@
 -- What a sink has taken, and a source has given, over calls that follow one another.
-use Rattle.std.proofs.Common.{◌≡◌, ℕ, ◌+◌, ◌≤◌, ◌<◌, List, [], ◌++◌, length, take, drop, Some, None, refl, sym, ◌∙◌, ap, append_assoc, append-nil, arith, length-append}
+use Rattle.std.proofs.Common.{◌≡◌, ℕ, ◌+◌, ◌≤◌, ◌<◌, List, [], ◌++◌, length, take, drop, Some, None, refl, sym, ◌∙◌, ap, append_assoc}
+use Rattle.std.proofs.Common.{append-nil, arith, length-append}
 use Rattle.std.specs.Prelude.{Option}
 use Rattle.std.specs.Io.KnownBytes.{Appends, Consumes, Keeps, IsAtEnd}
 use Rattle.std.proofs.lemmas.List.{take-append-drop, nil_from_length}
@@ -84,7 +85,8 @@ Writes-more before between after piece rest count writes more = record {
 pub Writes-all : (before after : Option (List ℕ)) (piece rest : List ℕ)
     → length rest ≡ 0 → Writes before after piece rest → Appends before after piece
 Writes-all before after piece rest none writes =
-    let all : piece ≡ writes.part = writes.whole ∙ ap (λ bytes. writes.part ++ bytes) (nil_from_length rest none) ∙ append-nil writes.part in
+    let all : piece ≡ writes.part = writes.whole ∙ ap (λ bytes. writes.part ++ bytes)
+    (nil_from_length rest none) ∙ append-nil writes.part in
     rw all writes.wrote
 
 pub Writes-part : (before between after : Option (List ℕ)) (piece rest : List ℕ)

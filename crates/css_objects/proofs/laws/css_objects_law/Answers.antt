@@ -1,4 +1,6 @@
-use Rattle.css_objects.proofs.Objects.{sheet_sound, range_sound, header_sound, selector_sound, selectors_sound, property_sound, inline_sound, rule_style_sound, rule_sound, match_sound, inherited_sound, matched_sound, sheet_text_sound, class_names_sound, styles_sound, new_selectors_sound, new_rule_sound}
+use Rattle.css_objects.proofs.Objects.{sheet_sound, range_sound, header_sound, selector_sound, selectors_sound, property_sound}
+use Rattle.css_objects.proofs.Objects.{inline_sound, rule_style_sound, rule_sound, match_sound, inherited_sound, matched_sound}
+use Rattle.css_objects.proofs.Objects.{sheet_text_sound, class_names_sound, styles_sound, new_selectors_sound, new_rule_sound}
 use Rattle.css_objects.proofs.laws.css_objects_law.Goals as goal
 
 pub returns : goal.returns

@@ -5,4 +5,5 @@ use Rattle.cdp_json.specs.Kinds.{read_items, text}
 use Rattle.css_objects.proofs.results.name_items.Given as goal
 
 abbrev pub invariant-loop-item : goal.invariant-loop-item
-invariant-loop-item l = with_list_front l.names.items (read_items text.reads (items_view (drop l.item-index l.items))) ≡ read_items text.reads (items_view l.items)
+invariant-loop-item l = with_list_front l.names.items (read_items text.reads (items_view (drop l.item-index l.items)))
+    ≡ read_items text.reads (items_view l.items)

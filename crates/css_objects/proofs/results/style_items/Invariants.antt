@@ -6,4 +6,5 @@ use Rattle.css_objects.specs.Styles.{rule_style_kind}
 use Rattle.css_objects.proofs.results.style_items.Given as goal
 
 abbrev pub invariant-loop-item : goal.invariant-loop-item
-invariant-loop-item l = with_list_front l.styles.items (read_items rule_style_kind.reads (items_view (drop l.item-index l.items))) ≡ read_items rule_style_kind.reads (items_view l.items)
+invariant-loop-item l = with_list_front l.styles.items (read_items rule_style_kind.reads (items_view (drop l.item-index l.items)))
+    ≡ read_items rule_style_kind.reads (items_view l.items)

@@ -5,5 +5,6 @@ use Rattle.css_objects.proofs.rules.inherited_items.Goals as goal
 
 pub loop-item-preserved : goal.loop-item-preserved
 loop-item-preserved c =
-    list_turn inherited_kind.reads c.loop-item.entries.items c.push.new.self.items c.in-Some.entry c.args.items.now c.loop-item.item-index c.item-item.result c.loop-item-test.true c.item-item.is
+    list_turn inherited_kind.reads c.loop-item.entries.items c.push.new.self.items c.in-Some.entry c.args.items.now c.loop-item.item-index
+    c.item-item.result c.loop-item-test.true c.item-item.is
     c.in_ok-push.ensures.items (sym c.in-Some.is ∙ c.in_ok-entry.ensures) c.loop-item.invariant

@@ -6,4 +6,5 @@ use Rattle.css_objects.specs.Rules.{inherited_kind}
 use Rattle.css_objects.proofs.rules.inherited_items.Given as goal
 
 abbrev pub invariant-loop-item : goal.invariant-loop-item
-invariant-loop-item l = with_list_front l.entries.items (read_items inherited_kind.reads (items_view (drop l.item-index l.items))) ≡ read_items inherited_kind.reads (items_view l.items)
+invariant-loop-item l = with_list_front l.entries.items (read_items inherited_kind.reads (items_view (drop l.item-index l.items)))
+    ≡ read_items inherited_kind.reads (items_view l.items)

@@ -6,4 +6,5 @@ use Rattle.css_objects.specs.Selectors.{selector_kind}
 use Rattle.css_objects.proofs.selectors.selector_items.Given as goal
 
 abbrev pub invariant-loop-item : goal.invariant-loop-item
-invariant-loop-item l = with_list_front l.selectors.items (read_items selector_kind.reads (items_view (drop l.item-index l.items))) ≡ read_items selector_kind.reads (items_view l.items)
+invariant-loop-item l = with_list_front l.selectors.items (read_items selector_kind.reads (items_view (drop l.item-index l.items)))
+    ≡ read_items selector_kind.reads (items_view l.items)

@@ -6,4 +6,5 @@ use Rattle.css_objects.specs.Styles.{property_kind}
 use Rattle.css_objects.proofs.styles.property_items.Given as goal
 
 abbrev pub invariant-loop-item : goal.invariant-loop-item
-invariant-loop-item l = with_list_front l.properties.items (read_items property_kind.reads (items_view (drop l.item-index l.items))) ≡ read_items property_kind.reads (items_view l.items)
+invariant-loop-item l = with_list_front l.properties.items (read_items property_kind.reads (items_view (drop l.item-index l.items)))
+    ≡ read_items property_kind.reads (items_view l.items)

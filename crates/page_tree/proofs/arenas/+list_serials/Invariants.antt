@@ -8,5 +8,6 @@ use Rattle.page_tree.proofs.arenas.+list_serials.Given as goal
 
 abbrev pub invariant-loop-tree : goal.invariant-loop-tree
 invariant-loop-tree l =
-    ((x : ℕ) → listed x l.serials.items + tally row_serial x (nodes_of (drop l.tree-index l.trees)) ≡ listed x l.initial.serials.items + tally row_serial x (nodes_of l.trees))
+    ((x : ℕ) → listed x l.serials.items + tally row_serial x (nodes_of (drop l.tree-index l.trees))
+    ≡ listed x l.initial.serials.items + tally row_serial x (nodes_of l.trees))
     × (vec_len l.serials + node_count (nodes_of (drop l.tree-index l.trees)) ≡ vec_len l.initial.serials + node_count (nodes_of l.trees))

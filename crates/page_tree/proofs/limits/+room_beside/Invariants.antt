@@ -8,4 +8,5 @@ abbrev pub decreases-room_beside : goal.decreases-room_beside
 decreases-room_beside l = goal.size-room_beside l
 
 abbrev pub invariant-loop-form : goal.invariant-loop-form
-invariant-loop-form l = room_after (node_count (nodes_of (drop l.form-index l.forms))) l.left ≡ room_after (node_count (nodes_of l.forms)) l.room
+invariant-loop-form l = room_after (node_count (nodes_of (drop l.form-index l.forms))) l.left
+    ≡ room_after (node_count (nodes_of l.forms)) l.room

@@ -13,4 +13,5 @@ abbrev pub decreases-read_all : goal.decreases-read_all
 decreases-read_all l = suc (2 * items_depth (items_view l.values.now))
 
 abbrev pub invariant-read_all-loop-v : goal.invariant-read_all-loop-v
-invariant-read_all-loop-v l = option_map (beside (nodes_of l.forms.items)) (forms_of l.top (items_view (drop l.v-index l.values))) ≡ forms_of l.top (items_view l.values)
+invariant-read_all-loop-v l = option_map (beside (nodes_of l.forms.items)) (forms_of l.top (items_view (drop l.v-index l.values)))
+    ≡ forms_of l.top (items_view l.values)

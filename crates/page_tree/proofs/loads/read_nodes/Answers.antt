@@ -18,4 +18,5 @@ returns-clause-fit c =
     let at_values = ap (λ (vs : List Value). forms_of true (items_view vs)) (sym c.deref.ensures.value) in
     let are_read = ap (option_map (λ (v : Vec NodeForm Global). nodes_of v.items)) c.in-Some-2.is in
     let clear = ap (λ (fs : List (Branch Label)). first_true (limit_faults (nodes_of fs))) (sym c.deref-2.ensures.value) in
-    can_load (view c.args.v.now) (nodes_of c.in-Some-2.forms.items) (listed ∙ at_values ∙ sym (c.in_ok-forms.ensures {u = tt}) ∙ are_read) (clear ∙ sym c.in_default-limit_fault.ensures)
+    can_load (view c.args.v.now) (nodes_of c.in-Some-2.forms.items) (listed ∙ at_values ∙ sym (c.in_ok-forms.ensures {u = tt}) ∙ are_read)
+    (clear ∙ sym c.in_default-limit_fault.ensures)

@@ -9,4 +9,5 @@ abbrev pub decreases-are_trees_named : goal.decreases-are_trees_named
 decreases-are_trees_named l = goal.size-are_trees_named l
 
 abbrev pub invariant-loop-tree : goal.invariant-loop-tree
-invariant-loop-tree l = are_named (map_rows row_label (nodes_of (drop l.tree-index l.trees))) ≡ are_named (map_rows row_label (nodes_of l.trees))
+invariant-loop-tree l = are_named (map_rows row_label (nodes_of (drop l.tree-index l.trees)))
+    ≡ are_named (map_rows row_label (nodes_of l.trees))

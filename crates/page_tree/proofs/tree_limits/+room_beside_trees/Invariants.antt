@@ -8,4 +8,5 @@ abbrev pub decreases-room_beside_trees : goal.decreases-room_beside_trees
 decreases-room_beside_trees l = goal.size-room_beside_trees l
 
 abbrev pub invariant-loop-tree : goal.invariant-loop-tree
-invariant-loop-tree l = room_after (node_count (nodes_of (drop l.tree-index l.trees))) l.left ≡ room_after (node_count (nodes_of l.trees)) l.room
+invariant-loop-tree l = room_after (node_count (nodes_of (drop l.tree-index l.trees))) l.left
+    ≡ room_after (node_count (nodes_of l.trees)) l.room

@@ -14,4 +14,5 @@ decreases-nested_all l = 2 * l.levels
 abbrev pub invariant-nested_all-loop-i : goal.invariant-nested_all-loop-i
 invariant-nested_all-loop-i l =
     (0 < l.levels)
-    × (beside (nodes_of l.trees.items) (slot_trees page_slots (slots_in l.self) (stored_trees l.self (l.levels - 1)) (drop l.i l.keys)) ≡ slot_trees page_slots (slots_in l.self) (stored_trees l.self (l.levels - 1)) l.keys)
+    × (beside (nodes_of l.trees.items) (slot_trees page_slots (slots_in l.self) (stored_trees l.self (l.levels - 1)) (drop l.i l.keys))
+    ≡ slot_trees page_slots (slots_in l.self) (stored_trees l.self (l.levels - 1)) l.keys)

@@ -16,5 +16,6 @@ invariant-plant_all-loop-tree l =
     (goal.iterator-plant_all-loop-tree).can_next l.tree-iterator
     × (goal.iterator-plant_all-loop-tree).is_finite l.tree-iterator
     × Filed l.self
-    × Planting page_slots (slots_in l.fn.self) (slots_in l.self) (nodes_of l.fn.trees.items) (nodes_of l.tree-iterator.rest.items) (Some l.parent) l.keys
+    × Planting page_slots (slots_in l.fn.self) (slots_in l.self) (nodes_of l.fn.trees.items) (nodes_of l.tree-iterator.rest.items)
+    (Some l.parent) l.keys
     × (node_count (nodes_of l.tree-iterator.rest.items) ≤ node_count (nodes_of l.fn.trees.items))

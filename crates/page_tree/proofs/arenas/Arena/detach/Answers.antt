@@ -7,4 +7,5 @@ use Rattle.page_tree.proofs.arenas.Arena.detach.Goals as goal
 pub remove_all-requires : goal.remove_all-requires
 remove_all-requires c =
     let (slot, at) = some_slot (slots_in c.args.self.now c.args.key) c.requires.above in
-    filed_turned c.args.self.now c.cut_child.new.self c.args.key slot _ at refl c.cut_child.ensures.slots c.cut_child.ensures.keys c.requires.filed
+    filed_turned c.args.self.now c.cut_child.new.self c.args.key slot _ at refl c.cut_child.ensures.slots c.cut_child.ensures.keys
+    c.requires.filed

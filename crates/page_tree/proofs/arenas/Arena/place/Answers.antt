@@ -7,12 +7,14 @@ use Rattle.page_tree.proofs.arenas.Arena.place.Goals as goal
 
 pub returns-then-is_numbered : goal.returns-then-is_numbered
 returns-then-is_numbered c =
-    let e = place_here c.args.self.now c.args.serial c.args.keys.now c.loop-i.i c.at.result c.at.ensures (sym c.is_numbered.ensures ∙ c.if-is_numbered.true) in
+    let e = place_here c.args.self.now c.args.serial c.args.keys.now c.loop-i.i c.at.result c.at.ensures
+    (sym c.is_numbered.ensures ∙ c.if-is_numbered.true) in
     omega (arith, c.loop-i.invariant)
 
 pub loop-i-preserved : goal.loop-i-preserved
 loop-i-preserved c =
-    let e = place_on c.args.self.now c.args.serial c.args.keys.now c.loop-i.i c.at.result c.at.ensures (sym c.is_numbered.ensures ∙ c.if-is_numbered.false) in
+    let e = place_on c.args.self.now c.args.serial c.args.keys.now c.loop-i.i c.at.result c.at.ensures
+    (sym c.is_numbered.ensures ∙ c.if-is_numbered.false) in
     omega (arith, c.loop-i.invariant)
 
 pub returns : goal.returns

@@ -12,7 +12,10 @@ pub returns : goal.returns
 returns c =
     let below = c.children.ensures ∙ ap (λ (b : Branch PageRow). b.children) c.node.ensures in
     let there = branch_count c.args.self.now.tree in
-    let all : suc (node_count c.children.result) ≡ branch_count (form_at c.args.node c.args.self.now.tree) = omega (arith, ap node_count below, node_count-map_rows row_label (node_at c.args.node c.args.self.now.tree).children) in
+    let all : suc (node_count c.children.result)
+    ≡ branch_count (form_at c.args.node c.args.self.now.tree) = omega
+    (arith, ap node_count below, node_count-map_rows row_label (node_at c.args.node c.args.self.now.tree).children) in
     c.is_some.ensures ∙ ap (λ o. is_some o) c.room_beside_children.ensures
-    ∙ room_below c.room-room.result there (node_count c.children.result) (node_count c.children.result) c.room-room.ensures (omega (arith, c.if-room-eq0.false)) (λ i. node_count c.children.result)
+    ∙ room_below c.room-room.result there (node_count c.children.result) (node_count c.children.result) c.room-room.ensures
+    (omega (arith, c.if-room-eq0.false)) (λ i. node_count c.children.result)
     ∙ ap (λ k. nat_le (there + k) max_nodes) all

@@ -10,7 +10,8 @@ returns-then-parent-eq0 c =
     let at = c.loop-at.at in
     let tree = c.args.self.now.tree in
     let up = step_up c.args.self.now c.valid.ensures at c.loop-at.invariant.live in
-    sym (any_top at c.parent-parent.result tree up c.parent-parent.ensures (λ k. k == c.args.other) (ne_eqb at c.args.other c.loop-at-test.true) c.if-parent-eq0.true) ∙ c.loop-at.invariant.same
+    sym (any_top at c.parent-parent.result tree up c.parent-parent.ensures (λ k. k == c.args.other)
+    (ne_eqb at c.args.other c.loop-at-test.true) c.if-parent-eq0.true) ∙ c.loop-at.invariant.same
     ∙ inside_line c.args.self.now c.valid.ensures c.args.other c.requires.other c.args.serial c.requires.live
 
 pub loop-at-smaller : goal.loop-at-smaller
@@ -25,7 +26,8 @@ loop-at-preserved c =
     let up = step_up c.args.self.now c.valid.ensures at c.loop-at.invariant.live in
     record {
       live = live_above at c.parent-parent.result tree up c.parent-parent.ensures c.if-parent-eq0.false;
-      same = sym (any_up at c.parent-parent.result tree up c.parent-parent.ensures (λ k. k == c.args.other) (ne_eqb at c.args.other c.loop-at-test.true) c.if-parent-eq0.false) ∙ c.loop-at.invariant.same;
+      same = sym (any_up at c.parent-parent.result tree up c.parent-parent.ensures (λ k. k == c.args.other)
+          (ne_eqb at c.args.other c.loop-at-test.true) c.if-parent-eq0.false) ∙ c.loop-at.invariant.same;
     }
 
 pub returns : goal.returns

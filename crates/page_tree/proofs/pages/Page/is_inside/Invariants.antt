@@ -8,7 +8,8 @@ use Rattle.page_tree.proofs.pages.Page.is_inside.Given as goal
 abbrev pub invariant-loop-at : goal.invariant-loop-at
 invariant-loop-at l = record {
   live : IsSome (find_in l.at l.self.tree);
-  same : list_any (λ k. k == l.other) (l.at ∷ ancestors_at l.at l.self.tree) ≡ list_any (λ k. k == l.other) (l.fn.serial ∷ ancestors_at l.fn.serial l.self.tree);
+  same : list_any (λ k. k == l.other) (l.at ∷ ancestors_at l.at l.self.tree)
+      ≡ list_any (λ k. k == l.other) (l.fn.serial ∷ ancestors_at l.fn.serial l.self.tree);
 }
 
 abbrev pub decreases-loop-at : goal.decreases-loop-at

@@ -12,7 +12,10 @@ pub returns : goal.returns
 returns c =
     let below = c.children.ensures ∙ ap (λ (b : Branch PageRow). b.children) c.node.ensures in
     let level = level_at c.args.parent c.args.self.now.tree in
-    let tall : suc (height c.children.result) ≡ height (alone (form_at c.args.node c.args.self.now.tree)) = omega (arith, ap height below, height-map_rows row_label (node_at c.args.node c.args.self.now.tree).children) in
+    let tall : suc (height c.children.result)
+    ≡ height (alone (form_at c.args.node c.args.self.now.tree)) = omega
+    (arith, ap height below, height-map_rows row_label (node_at c.args.node c.args.self.now.tree).children) in
     c.are_children_within.ensures
-    ∙ low_below c.levels_below-levels.result level (height c.children.result) (height c.children.result) c.levels_below-levels.ensures (omega (arith, c.if-levels-eq0.false)) (λ i. height c.children.result)
+    ∙ low_below c.levels_below-levels.result level (height c.children.result) (height c.children.result) c.levels_below-levels.ensures
+    (omega (arith, c.if-levels-eq0.false)) (λ i. height c.children.result)
     ∙ ap (λ k. nat_le (level + k) max_level) tall

@@ -6,9 +6,12 @@ use Rattle.page_tree.proofs.PlaceLemmas.{reads-there, reads-level}
 use Rattle.page_tree.proofs.pages.Page.levels_below.Goals as goal
 
 pub unreachable-requires : goal.unreachable-requires
-unreachable-requires c = reads-there c.self.inside.arena c.self.inside.root c.self.inside.next c.self.invariant c.args.self.now.tree (ap (λ (p : PageValue). p.tree) c.self.view_is) c.args.node c.requires (sym c.find.ensures ∙ ap (λ o. option_copied o) c.in-None.is)
+unreachable-requires c = reads-there c.self.inside.arena c.self.inside.root c.self.inside.next c.self.invariant c.args.self.now.tree
+    (ap (λ (p : PageValue). p.tree) c.self.view_is) c.args.node c.requires (sym c.find.ensures ∙ ap (λ o. option_copied o) c.in-None.is)
 
 pub returns : goal.returns
 returns c =
-    let level = reads-level c.self.inside.arena c.self.inside.root c.self.inside.next c.self.invariant c.args.self.now.tree (ap (λ (p : PageValue). p.tree) c.self.view_is) c.args.node c.in-Some.slot.now (sym c.find.ensures ∙ ap (λ o. option_copied o) c.in-Some.is) in
+    let level = reads-level c.self.inside.arena c.self.inside.root c.self.inside.next c.self.invariant c.args.self.now.tree
+    (ap (λ (p : PageValue). p.tree) c.self.view_is) c.args.node c.in-Some.slot.now
+    (sym c.find.ensures ∙ ap (λ o. option_copied o) c.in-Some.is) in
     omega (arith, level, c.climb.ensures.rise, c.climb.ensures.few)

@@ -11,4 +11,5 @@ copied None = refl
 copied (Some x) = refl
 
 pub returns : goal.returns
-returns c = c.is_some.ensures ∙ copied c.find.result ∙ looks-live (option_copied c.find.result) (find_in c.args.serial c.args.self.now.tree) c.find.ensures
+returns c = c.is_some.ensures ∙ copied c.find.result ∙ looks-live (option_copied c.find.result)
+    (find_in c.args.serial c.args.self.now.tree) c.find.ensures

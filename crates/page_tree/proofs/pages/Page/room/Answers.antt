@@ -18,4 +18,12 @@ returns c =
     let count = count_is c.self.inside.arena c.self.inside.root c.self.inside.next c.self.invariant c.len.ensures.ordered in
     let room = c.self.invariant.valid.nodes.room in
     let is = ap (λ (p : PageValue). branch_count p.tree) c.self.view_is in
-    omega (arith, count, room, is, c.len.ensures.len, node_count-map_rows row_label (tree_of c.self.inside.arena c.self.inside.root).children)
+    omega (
+      arith,
+      count,
+      room,
+      is,
+      c.len.ensures.len,
+      node_count-map_rows row_label
+          (tree_of c.self.inside.arena c.self.inside.root).children,
+    )

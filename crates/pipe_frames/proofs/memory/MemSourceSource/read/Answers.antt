@@ -5,7 +5,8 @@ use Rattle.pipe_frames.proofs.memory.MemSourceSource.read.Goals as goal
 
 pub returns-clause-bytes : goal.returns-clause-bytes
 returns-clause-bytes c =
-    let count : c.copy_front-count.result ≡ min c.self.inside.step (min (length c.copy_front-count.new.into) (length c.self.inside.bytes.items - c.self.inside.at)) =
+    let count : c.copy_front-count.result
+    ≡ min c.self.inside.step (min (length c.copy_front-count.new.into) (length c.self.inside.bytes.items - c.self.inside.at)) =
     rw (c.deref.ensures.value, take_rest, length-drop) at c.copy_front-count.ensures.count in
     rw (← c.self.view_is) (
       read_front c.self.inside.bytes.items c.copy_front-count.new.into c.self.inside.at c.copy_front-count.result
