@@ -12,7 +12,7 @@ enum Store {
 }
 
 /// A text of a node, which contracts see as the list of its bytes. A text of at most 16 bytes takes no memory of its own.
-#[derive(Drop, Debug)]
+#[derive(Debug)]
 pub struct Text {
     store: Store,
 }
@@ -24,6 +24,14 @@ impl Model for Text {
     ghost Value = { List ℕ };
 
     ghost view = { λ t. stored t.store };
+}
+
+// By hand, so that who lets a text go need not know of its two forms.
+impl Drop for Text {
+    fn drop(self) {
+        let Text { store } = self;
+        drop(store);
+    }
 }
 
 impl Text {

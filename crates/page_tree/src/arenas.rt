@@ -19,9 +19,6 @@ pub struct Arena {
     pub keys: BTreeMap<u64, usize>,
 }
 
-/// Lets go of what was in a slot.
-fn release(_slot: Option<Slot>) {}
-
 impl Arena {
     /// No slots.
     pub fn new(alloc: Global) -> Arena
@@ -145,7 +142,7 @@ impl Arena {
         ensures shrunk { Shrunk self.old self.new (serial ∷ []) }
     {
         if let Some(key) = self.keys.remove(&serial) {
-            release(self.slots.try_remove(key));
+            self.slots.try_remove(key);
         }
     }
 

@@ -31,13 +31,6 @@ fn read_pairs(alloc: Global, values: &[Value]) -> Result<Option<Vec<(Text, Text)
     Ok(Some(pairs))
 }
 
-/// The name as a string.
-fn key_of(alloc: Global, name: Text) -> Result<String, AllocError>
-    ensures { IfOk result (λ key. string_bytes key ≡ name) }
-{
-    name.to_string(alloc)
-}
-
 /// The pairs by name; none where a name is there twice.
 fn gather(
     alloc: Global,
@@ -47,7 +40,8 @@ fn gather(
 {
     let mut entries = BTreeMap::new(alloc);
     for (name, value) in pairs {
-        if entries.insert(key_of(alloc, name)?, value)?.is_some() {
+        let key = name.to_string(alloc)?;
+        if entries.insert(key, value)?.is_some() {
             return Ok(None);
         }
     }
