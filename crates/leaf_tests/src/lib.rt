@@ -1,11 +1,7 @@
-//! Tests of the public calls of the small crates: pipes, ids, watches, the history, edits of sheets. A crate with tests is
+//! Tests of the public calls of the small crates: pipes, the history, edits of sheets. A crate with tests is
 //! proved twice, so they stand here, where the proof goes over the libraries that are proved already.
 #![tactic(auto)]
 
-#[cfg(test)]
-mod dom_breakpoints_calls;
-#[cfg(test)]
-mod node_binding_calls;
 #[cfg(test)]
 mod pipe_frames_calls;
 #[cfg(test)]
