@@ -16,8 +16,8 @@ use std::marker::Model;
 
 /// The opened containers, and the pairs of ids and serials of the known nodes.
 ///
-/// Each look-up takes time that grows with the logarithm of the number of known nodes. After want of memory a binding
-/// may have a part of what was asked for.
+/// A look-up takes one step where the serials and ids follow one another, or nearly, and else time that grows with the
+/// logarithm of the number of known nodes. After want of memory a binding may have a part of what was asked for.
 #[derive(Drop)]
 pub struct Binding {
     opened: NumberSet,

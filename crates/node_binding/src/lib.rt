@@ -4,6 +4,7 @@
 mod binding;
 mod laws;
 mod levels;
+mod rows;
 mod search;
 mod tables;
 

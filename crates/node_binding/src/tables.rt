@@ -1,17 +1,19 @@
-ghost use Rattle.std.specs.Prelude.{◌≡◌, ℕ, OnOk};
+ghost use Rattle.std.specs.Prelude.{◌≡◌, ◌++◌, ℕ, OnOk};
 ghost use Rattle.std.specs.Ordering.{nat_cmp};
 ghost use Rattle.std.specs.Coded.{coded_ℕ};
 ghost use Rattle.std.specs.FinMap as map;
 ghost use Rattle.std.specs.FinSet as set;
+ghost use Rattle.node_binding.specs.Rows.{row_pairs};
 
+use crate::rows::Row;
 use std::alloc::{AllocError, Global};
-use std::collections::{BTreeMap, BTreeSet};
+use std::collections::BTreeMap;
 use std::marker::Model;
 
-/// A set of numbers.
+/// A set of numbers: the keys of a map.
 #[derive(Drop)]
 pub(crate) struct NumberSet {
-    numbers: BTreeSet<u64>,
+    numbers: NumberMap,
 }
 
 impl Model for NumberSet {
@@ -19,7 +21,7 @@ impl Model for NumberSet {
 
     ghost coded = { set.code coded_ℕ };
 
-    ghost view = { λ a. set.from_list a.numbers.keys };
+    ghost view = { λ a. set.from_list (map.keys a.numbers) };
 }
 
 impl NumberSet {
@@ -28,7 +30,7 @@ impl NumberSet {
         ensures { result ≡ set.empty }
     {
         NumberSet {
-            numbers: BTreeSet::new(alloc),
+            numbers: NumberMap::new(alloc),
         }
     }
 
@@ -36,14 +38,14 @@ impl NumberSet {
     pub fn contains(&self, number: u64) -> bool
         ensures { result ≡ set.contains self.now number }
     {
-        self.numbers.contains(&number)
+        self.numbers.get(number).is_some()
     }
 
     /// Puts the number in; one that is there stays. After want of memory the set is as before.
     pub fn insert(&mut self, number: u64) -> Result<(), AllocError>
         ensures { OnOk result (self.new ≡ set.insert self.old number) }
     {
-        self.numbers.insert(number)?;
+        self.numbers.insert(number, 0)?;
         Ok(())
     }
 
@@ -51,7 +53,7 @@ impl NumberSet {
     pub fn remove(&mut self, number: u64)
         ensures { self.new ≡ set.remove self.old number }
     {
-        self.numbers.remove(&number);
+        self.numbers.remove(number);
     }
 
     /// Takes all numbers out.
@@ -62,10 +64,12 @@ impl NumberSet {
     }
 }
 
-/// A map from numbers to numbers.
+/// A map from numbers to numbers: keys that follow one another, or nearly, in a row, and the others in a tree. Where a key
+/// stands in both, the row counts.
 #[derive(Drop)]
 pub(crate) struct NumberMap {
-    pairs: BTreeMap<u64, u64>,
+    row: Row,
+    others: BTreeMap<u64, u64>,
 }
 
 impl Model for NumberMap {
@@ -73,7 +77,7 @@ impl Model for NumberMap {
 
     ghost coded = { map.code coded_ℕ coded_ℕ };
 
-    ghost view = { λ a. map.from_entries a.pairs.entries };
+    ghost view = { λ a. map.from_entries (row_pairs a.row.first a.row.numbers.items ++ a.others.entries) };
 }
 
 impl NumberMap {
@@ -82,7 +86,8 @@ impl NumberMap {
         ensures { result ≡ map.empty }
     {
         NumberMap {
-            pairs: BTreeMap::new(alloc),
+            row: Row::new(alloc),
+            others: BTreeMap::new(alloc),
         }
     }
 
@@ -90,14 +95,17 @@ impl NumberMap {
     pub fn get(&self, key: u64) -> Option<u64>
         ensures { result ≡ map.get self.now key }
     {
-        self.pairs.get(&key).copied()
+        self.row.get(key).or(self.others.get(&key).copied())
     }
 
     /// Puts the number under the key, in the place of one that is there. After want of memory the map is as before.
     pub fn insert(&mut self, key: u64, number: u64) -> Result<(), AllocError>
         ensures { OnOk result (self.new ≡ map.insert self.old key number) }
     {
-        self.pairs.insert(key, number)?;
+        if self.row.put(key, number)? {
+            return Ok(());
+        }
+        self.others.insert(key, number)?;
         Ok(())
     }
 
@@ -106,13 +114,15 @@ impl NumberMap {
         ensures was { result ≡ map.get self.old key }
         ensures left { self.new ≡ map.remove self.old key }
     {
-        self.pairs.remove(&key)
+        let number = self.row.take(key);
+        number.or(self.others.remove(&key))
     }
 
     /// Takes all keys out.
     pub fn clear(&mut self)
         ensures { self.new ≡ map.empty }
     {
-        self.pairs.clear();
+        self.row.clear();
+        self.others.clear();
     }
 }

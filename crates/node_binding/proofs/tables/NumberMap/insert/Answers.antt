@@ -1,9 +1,25 @@
-use Rattle.std.proofs.Common.{ap, ◌∙◌}
+use Rattle.std.proofs.Common.{ap, sym, ◌∙◌, ◌&&◌, ◌≡◌, ℕ, ◌==◌, cond, Some}
 use Rattle.std.specs.FinMap as map
-use Rattle.node_binding.proofs.TableLemmas.{from_entries-insert}
+use Rattle.node_binding.specs.Rows.{row_at}
+use Rattle.node_binding.proofs.TableLemmas.{put-row, put-tree}
 use Rattle.node_binding.proofs.tables.NumberMap.insert.Goals as goal
+
+pub returns-then-branch : goal.returns-then-branch
+returns-then-branch c =
+    let old = c.self.inside.row in
+    let new = c.put.new.self in
+    put-row old.first new.first old.numbers.items new.numbers.items _ c.args.key c.args.number
+    (λ q. c.in_ok-put.ensures.put q
+    ∙ ap (λ b. cond (b && q == c.args.key) (Some c.args.number) (row_at old.first old.numbers.items q)) c.if-branch.true)
+    ∙ ap (λ m. map.insert m c.args.key c.args.number) c.self.view_is
 
 pub returns : goal.returns
 returns c =
-    from_entries-insert _ _ c.args.key c.args.number (λ q. c.in_ok-insert.ensures.updates.0 q) ∙ ap
-    (λ m. map.insert m c.args.key c.args.number) c.self.view_is
+    let old = c.self.inside.row in
+    let new = c.put.new.self in
+    put-tree old.first new.first old.numbers.items new.numbers.items _ _ c.args.key c.args.number
+    (λ q. c.in_ok-put.ensures.put q
+    ∙ ap (λ b. cond (b && q == c.args.key) (Some c.args.number) (row_at old.first old.numbers.items q)) c.if-branch.false)
+    (c.in_ok-put.ensures.far c.if-branch.false)
+    (λ q. c.in_ok-insert.ensures.updates.0 q)
+    ∙ ap (λ m. map.insert m c.args.key c.args.number) c.self.view_is
