@@ -14,6 +14,7 @@ pub mod SheetLemmas
 pub mod KnownSheets
 pub mod MoveLemmas
 pub mod IdLemmas
+pub mod IdMapLemmas
 pub mod TableLemmas
 pub mod LookLemmas
 pub mod WalkLemmas

@@ -1,7 +1,6 @@
 -- Nodes that come have numbers of their own.
 use Rattle.std.proofs.Common.{◌≡◌, ℕ, ◌+◌, ◌<◌, ◌≤◌, List, Option, Some, None, refl, sym, ap, subst, ◌∙◌, inl, inr, arith}
-use Rattle.std.specs.Ordering.{nat_cmp}
-use Rattle.std.specs.BTreeMap as map
+use Rattle.std.specs.FinMap as numbers
 use Rattle.std.proofs.lemmas.Bool.{cases_lt, cases_eq}
 use Rattle.node_tree.specs.Nodes.{Nodes, Branch}
 use Rattle.node_tree.specs.Keys.{tally, find}
@@ -48,5 +47,5 @@ module _ (a : Table) (roots : List ℕ) (n kids : Nodes Seen) (table : IsTable a
         ]) (ids_apart y) new;
     no_id = λ y new.
         no_entry (table_ids m) y (tally seen_serial y n) (tally seen_serial y kids)
-        (λ k e. serial_there y k (sym (ap (λ d. map.get nat_cmp d y) ids_are) ∙ e)) (serials_apart y) new;
+        (λ k e. serial_there y k (sym (ap (λ d. numbers.get d y) ids_are) ∙ e)) (serials_apart y) new;
   }

@@ -9,8 +9,7 @@ use Rattle.node_tree.specs.Arena.{Keeps, IsFiled, Comes}
 use Rattle.node_tree.proofs.KeyLemmas.{tally_row, tally_below, tally_cases}
 use Rattle.node_tree.proofs.ArenaLemmas.{keeps-same, files-add, files-remove}
 use Rattle.std.proofs.lemmas.List.{drop_more}
-use Rattle.std.specs.Ordering.{nat_cmp}
-use Rattle.std.specs.BTreeMap as map
+use Rattle.std.specs.FinMap as numbers
 use Rattle.cdp_messages.specs.Views.{keys}
 use Rattle.front_mirror.specs.declared.table.Table.{Table}
 use Rattle.front_mirror.specs.declared.slots.Slot.{Slot}
@@ -220,7 +219,7 @@ pub remove_files : (a b d : Table) (id : ℕ) (slot : Slot) → IsListed a → t
     → PutsAt (table_ids b) (table_ids d) slot.serial None → IsListed d
 remove_files a b d id slot files at gone ids_are slots_are gone_id =
     let slots_same : (j : ℕ) → table_slots d j ≡ table_slots b j = λ j. ap (λ m. table_slots (record d { slots = m }) j) slots_are in
-    let ids_same : (y : ℕ) → table_ids b y ≡ table_ids a y = λ y. ap (λ m. map.get nat_cmp m y) ids_are in
+    let ids_same : (y : ℕ) → table_ids b y ≡ table_ids a y = λ y. ap (λ m. numbers.get m y) ids_are in
     files-remove by_serial (table_slots a) (table_slots d) (table_ids a) (table_ids d) slot.serial id files (files.filed id slot at)
     (slots_same id ∙ gone.at)
     (λ j other. slots_same j ∙ gone.others j other) gone_id.at (λ y other. gone_id.others y other ∙ ids_same y)

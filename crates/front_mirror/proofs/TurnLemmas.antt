@@ -1,8 +1,7 @@
 -- A table with one node changed.
 use Rattle.std.proofs.Common.{◌≡◌, ◌≢◌, ℕ, ◌+◌, ◌<◌, ◌≤◌, ◌==◌, ◌||◌, Bool, true, false, cond, List, [], ◌∷◌, Option, Some, None, IsSome}
 use Rattle.std.proofs.Common.{refl, sym, ap, subst, ◌∙◌, inl, inr, arith}
-use Rattle.std.specs.Ordering.{nat_cmp}
-use Rattle.std.specs.BTreeMap as map
+use Rattle.std.specs.FinMap as numbers
 use Rattle.std.proofs.lemmas.Bool.{eq-eqb, eqb-true, cases_lt, cases_eq}
 use Rattle.node_tree.specs.Nodes.{Nodes, none, node, Branch, alone, height}
 use Rattle.node_tree.specs.Keys.{tally, tally_in, find, put}
@@ -35,7 +34,7 @@ pub listed_turned : (a m : Table) (x : ℕ) (f : Slot → Slot) → IsListed a �
 listed_turned a m x f files there serials turned same =
     let (slot, at) = some_there (table_slots a x) there in
     let puts = turned slot at in
-    subst (λ d. IsFiled by_serial (table_slots m) (map.get nat_cmp d)) (sym same)
+    subst (λ d. IsFiled by_serial (table_slots m) (numbers.get d)) (sym same)
     (files-turn by_serial (table_slots a) (table_slots m) (table_ids a) (table_ids a) x slot (f slot) files
     (record { before = at; at = puts.at; others = puts.others }) (serials slot))
 
@@ -198,7 +197,7 @@ module _ (a : Table) (roots : List ℕ) (n : Nodes Seen) (table : IsTable a root
 
     pub turned_files : IsListed m
     turned_files =
-        subst (λ d. IsFiled by_serial (table_slots m) (map.get nat_cmp d)) (sym ids_are)
+        subst (λ d. IsFiled by_serial (table_slots m) (numbers.get d)) (sym ids_are)
         (files-turn by_serial (table_slots a) (table_slots m) (table_ids a) (table_ids a) x here.slot slot2 table.files
         (record { before = here.at; at = puts.at; others = puts.others }) same_serial)
 

@@ -3,6 +3,7 @@ use Rattle.std.specs.Prelude.{◌≡◌, ◌≢◌, ℕ, zero, suc, ◌<◌, ◌
 use Rattle.std.specs.Option.{option_map_or}
 use Rattle.std.specs.Ordering.{nat_cmp}
 use Rattle.std.specs.BTreeMap as map
+use Rattle.std.specs.FinMap as numbers
 use Rattle.node_tree.specs.Nodes.{Nodes, none, node, Branch}
 use Rattle.node_tree.specs.Keys.{tally}
 use Rattle.node_tree.specs.Seen.{Hold, leaf, counted, opened, Seen, seen_id, seen_serial}
@@ -50,7 +51,7 @@ table_slots t k = option_map (λ slot. slot.value) (map.get nat_cmp t.slots k)
 
 -- the id of a serial
 abbrev pub table_ids : Table → ℕ → Option ℕ
-table_ids t = map.get nat_cmp t.ids
+table_ids t = numbers.get t.ids
 
 -- each serial has the id of its slot, and no others have one
 abbrev pub IsListed : Table → Type 0

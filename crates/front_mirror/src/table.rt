@@ -3,6 +3,7 @@ ghost use Rattle.std.specs.Option.{option_copied};
 ghost use Rattle.front_mirror.specs.Tables.{table_slots, table_ids, table_climbed, PutsAt};
 
 use crate::slots::Slot;
+use number_map::NumberMap;
 use std::alloc::{AllocError, Global};
 use std::collections::BTreeMap;
 
@@ -10,7 +11,7 @@ use std::collections::BTreeMap;
 #[derive(Drop)]
 pub(crate) struct Table {
     pub(crate) slots: BTreeMap<u64, Box<Slot>>,
-    pub(crate) ids: BTreeMap<u64, u64>,
+    pub(crate) ids: NumberMap,
 }
 
 impl Table {
@@ -21,7 +22,7 @@ impl Table {
     {
         Table {
             slots: BTreeMap::new(alloc),
-            ids: BTreeMap::new(alloc),
+            ids: NumberMap::new(alloc),
         }
     }
 
@@ -39,7 +40,7 @@ impl Table {
     pub(crate) fn id_of(&self, serial: u64) -> Option<u64>
         ensures { result ≡ table_ids self.now serial }
     {
-        self.ids.get(&serial).copied()
+        self.ids.get(serial)
     }
 
     /// How many slots there are from the one of that id up, at most so many.

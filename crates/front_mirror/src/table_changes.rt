@@ -27,7 +27,8 @@ impl Table {
     {
         let ids = ids_of(alloc, &nodes)?;
         self.open(id, ids);
-        self.plant_all(alloc, nodes, Some(id))
+        self.plant_all(alloc, nodes, Some(id))?;
+        Ok(())
     }
 
     /// Puts a child behind that of the id, or first where that is 0.
@@ -42,7 +43,8 @@ impl Table {
         ensures { OnOk result (TableGrown self.old self.new id (with_child_id previous node.row.seen.id) (seen_nodes (alone node))) }
     {
         self.insert_child(id, previous, node.id)?;
-        self.plant(alloc, node, Some(id))
+        self.plant(alloc, node, Some(id))?;
+        Ok(())
     }
 
     /// Takes a child out, with all below it.

@@ -112,7 +112,7 @@ impl Table {
         ensures slots { self.new.slots ≡ self.old.slots }
         ensures ids { PutsAt (table_ids self.old) (table_ids self.new) serial None }
     {
-        self.ids.remove(&serial);
+        self.ids.remove(serial);
     }
 
     /// Takes the slot of an id out, where it has one.

@@ -1,5 +1,3 @@
-pub mod RowLemmas
-pub mod TableLemmas
 pub mod Places
 pub mod BoundLemmas
 pub mod Known

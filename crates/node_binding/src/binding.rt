@@ -9,7 +9,7 @@ ghost use Rattle.node_binding.specs.Bindings.{empty_from, cleared, started, reve
 ghost use Rattle.node_binding.specs.Bindings.{all_forgotten};
 
 use crate::levels::{is_reached, less, levels_of};
-use crate::tables::{NumberMap, NumberSet};
+use number_map::{NumberMap, NumberSet};
 use page_tree::{Children, Node, Page};
 use std::alloc::{AllocError, Global};
 use std::marker::Model;

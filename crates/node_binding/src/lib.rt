@@ -4,9 +4,7 @@
 mod binding;
 mod laws;
 mod levels;
-mod rows;
 mod search;
-mod tables;
 
 pub use binding::Binding;
 pub use laws::binding_law;

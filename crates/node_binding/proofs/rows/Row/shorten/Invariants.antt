@@ -1,9 +1,0 @@
-use Rattle.std.proofs.Common.{◌≡◌, ℕ, length}
-use Rattle.node_binding.specs.Rows.{row_at}
-use Rattle.node_binding.proofs.rows.Row.shorten.Given as goal
-
-abbrev pub invariant-loop-self : goal.invariant-loop-self
-invariant-loop-self l = (other : ℕ) → row_at l.self.first l.self.numbers.items other ≡ row_at l.fn.self.first l.fn.self.numbers.items other
-
-abbrev pub decreases-loop-self : goal.decreases-loop-self
-decreases-loop-self l = length l.self.numbers.items

@@ -1,0 +1,5 @@
+use Rattle.number_map.proofs.MapLemmas.{keys-none}
+use Rattle.number_map.proofs.maps.NumberSet.clear.Goals as goal
+
+pub returns : goal.returns
+returns c = keys-none _ c.clear.ensures
