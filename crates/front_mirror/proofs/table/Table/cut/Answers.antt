@@ -20,9 +20,9 @@ returns c =
       ids_are = c.remove_child.ensures.ids;
       files = c.remove_all.ensures.listed;
       slots_are =
-        c.remove_all.ensures.slots
-        ∙ ap (λ ids. without_slots ids (table_slots c.remove_child.new.self))
-        (c.deref.ensures.value ∙ c.in_ok-list_all.ensures
-        ∙ ap (λ ids. ids ++ keys seen_id (table_trees c.args.self.now most_levels c.from_ref.result.now)) c.new-ids.ensures.items
-        ∙ ap (λ ids. keys seen_id (table_trees c.args.self.now most_levels ids)) c.from_ref.ensures.value);
+          c.remove_all.ensures.slots
+          ∙ ap (λ ids. without_slots ids (table_slots c.remove_child.new.self))
+          (c.deref.ensures.value ∙ c.in_ok-list_all.ensures
+          ∙ ap (λ ids. ids ++ keys seen_id (table_trees c.args.self.now most_levels c.from_ref.result.now)) c.new-ids.ensures.items
+          ∙ ap (λ ids. keys seen_id (table_trees c.args.self.now most_levels ids)) c.from_ref.ensures.value);
     }

@@ -9,7 +9,7 @@ returns c =
     record {
       mid = c.insert_child.new.self;
       turned =
-        subst (λ (n : Branch Told). TableTurned c.args.self.now c.insert_child.new.self c.args.id (with_child_id c.args.previous n.row.seen.id))
+          subst (λ (n : Branch Told). TableTurned c.args.self.now c.insert_child.new.self c.args.id (with_child_id c.args.previous n.row.seen.id))
           c.node.view_is c.in_ok-insert_child.ensures.slots;
       ids_are = c.in_ok-insert_child.ensures.ids;
       slots_are = c.in_ok-plant.ensures.slots;

@@ -8,7 +8,7 @@ returns c =
     record {
       mid = c.open.new.self;
       turned =
-        subst (λ (ids : List ℕ). TableTurned c.args.self.now c.open.new.self c.args.id (opened_slot ids))
+          subst (λ (ids : List ℕ). TableTurned c.args.self.now c.open.new.self c.args.id (opened_slot ids))
           (c.in_ok-ids.ensures ∙ ap (λ nodes. root_ids (shown_of nodes)) c.deref.ensures.value) c.open.ensures.slots;
       ids_are = c.open.ensures.ids;
       slots_are = c.in_ok-plant_all.ensures.slots;
