@@ -3,7 +3,7 @@
 // `act` with a value tells the act that it spells. `page` with a value tells how many nodes stand right below the document, and the
 // sheets. `sheets` with a count and a node tells so of a page with that node and that many empty sheets.
 use crate::row_parts::{first_word, misspelt, value_of};
-use page_forms::*;
+use page_forms::{Act, ActErr, read_act, read_page};
 use serde_json::Value;
 use sheet_reader::Origin;
 use std::alloc::{AllocError, Global};

@@ -3,7 +3,7 @@
 // Behind `first` stands the whole script, which is a line without a line feed, and behind `later` the line after a load. `text` has a
 // list with the script, and `bytes` one of its bytes. `long` with a script and a number tells whether a line has more bytes than that.
 use crate::row_parts::{first_word, items_of, misspelt, number_at, text_at, value_of};
-use replay_script::*;
+use replay_script::{LineErr, Lines, fault_name, has_long_line, read_line};
 use serde_json::Value;
 use std::alloc::{AllocError, Global};
 use std::io;
