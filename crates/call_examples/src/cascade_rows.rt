@@ -3,7 +3,7 @@
 //! style whether it wins.
 
 use crate::match_rows::page_at;
-use crate::row_args::{call_of, items, number_at, text_at};
+use crate::row_parts::{call_of, number_or_zero, text_or_empty, values_from};
 use crate::sheet_rows::{origin_of, put_sheet};
 use cascade_match::{Block, Decl, Declarations, Hit, matched, winners};
 use page_tree::Page;
@@ -28,13 +28,13 @@ pub fn told(alloc: Global, row: &str) -> io::Result<Vec<u8>> {
 fn book_of(alloc: Global, sheets: &[Value]) -> Result<SheetBook, AllocError> {
     let mut book = SheetBook::new(alloc);
     for sheet in sheets {
-        let origin = origin_of(text_at(sheet, 1));
+        let origin = origin_of(text_or_empty(sheet, 1));
         let _ = put_sheet(
             alloc,
             &mut book,
-            number_at(sheet, 0),
+            number_or_zero(sheet, 0),
             origin,
-            text_at(sheet, 2),
+            text_or_empty(sheet, 2),
         )?;
     }
     Ok(book)
@@ -106,16 +106,16 @@ fn stars(alloc: Global, blocks: &[Block]) -> Result<String, AllocError> {
 /// The rules and the winners of the node that the row names.
 fn cascade(alloc: Global, page: &Page, args: &Value) -> Result<String, AllocError> {
     let sheets = match args.get(0) {
-        Some(sheets) => items(sheets),
+        Some(sheets) => values_from(sheets, 0),
         None => &[],
     };
     let book = book_of(alloc, sheets)?;
-    let serial = number_at(args, 2);
+    let serial = number_or_zero(args, 2);
     if !page.live(serial) {
         return String::from_str(alloc, "no node");
     }
     let hits = matched(alloc, page, &book, serial)?;
-    let blocks = blocks_of(alloc, &book, hits.as_slice(), text_at(args, 3))?;
+    let blocks = blocks_of(alloc, &book, hits.as_slice(), text_or_empty(args, 3))?;
     let mut out = rules_text(alloc, hits.as_slice())?;
     out.push_str(stars(alloc, blocks.as_slice())?.as_str())?;
     Ok(out)

@@ -4,7 +4,7 @@
 //! sends a text and gets bytes; `read [TEXT,PIECE,FAULTS,LIMIT,..]` what reads of a source in memory come to, and
 //! `reader [TEXT,LIMIT]` of a reader; `write [FAULTS,TEXT,..]` what a sink in memory has taken, and `writer [TEXT]` that of a writer.
 
-use crate::row_args::{call_of, items, items_from, number_at, text_at};
+use crate::row_parts::{call_of, number_or_zero, text_or_empty, values_from};
 use pipe_frames::{
     Link, LyingLink, MemLink, MemSink, MemSource, Sink, Source, Splitter, StdSink, StdSource,
     frames_law, put_frame, read_all, write_all,
@@ -17,14 +17,14 @@ use std::io;
 pub fn told(alloc: Global, row: &str) -> io::Result<Vec<u8>> {
     let (word, args) = call_of(alloc, row)?;
     let answer = match word {
-        "split" => split(alloc, items(&args))?,
-        "put" => put(alloc, items(&args))?,
+        "split" => split(alloc, values_from(&args, 0))?,
+        "put" => put(alloc, values_from(&args, 0))?,
         "link" => mem_link(alloc, &args)?,
         "lying" => lying_link(alloc, &args)?,
         "read" => mem_reads(alloc, &args)?,
         "reader" => reader(alloc, &args)?,
         "write" => mem_writes(alloc, &args)?,
-        "writer" => writer(alloc, text_at(&args, 0))?,
+        "writer" => writer(alloc, text_or_empty(&args, 0))?,
         _ => Vec::from_slice(alloc, b"no such call")?,
     };
     Ok(answer)
@@ -48,8 +48,8 @@ fn split_step(
     step: &Value,
     seen: &mut Vec<u8>,
 ) -> Result<(), AllocError> {
-    match text_at(step, 0) {
-        "take" => splitter.take(text_at(step, 1).as_bytes()),
+    match text_or_empty(step, 0) {
+        "take" => splitter.take(text_or_empty(step, 1).as_bytes()),
         "held" => {
             let held = format!(in alloc; "{}", splitter.held())?;
             seen.extend_from_slice(held.as_str().as_bytes())
@@ -98,7 +98,7 @@ fn numbers_at(alloc: Global, args: &Value, place: usize) -> Result<Vec<u64>, All
     let Some(list) = args.get(place) else {
         return Ok(out);
     };
-    for number in items(list) {
+    for number in values_from(list, 0) {
         out.push(number.as_u64().unwrap_or(0))?;
     }
     Ok(out)
@@ -106,9 +106,9 @@ fn numbers_at(alloc: Global, args: &Value, place: usize) -> Result<Vec<u64>, All
 
 /// What is left in the outcome of a get: the bytes, `!` where a call failed.
 fn pass<L: Link>(link: &mut L, step: &Value, seen: &mut Vec<u8>) -> Result<(), AllocError> {
-    let piece = text_at(step, 1).as_bytes();
-    let most = number_at(step, 2) as usize;
-    let failed = match text_at(step, 0) {
+    let piece = text_or_empty(step, 1).as_bytes();
+    let most = number_or_zero(step, 2) as usize;
+    let failed = match text_or_empty(step, 0) {
         "up" => link.put_up(piece).is_err() || link.get_up(most, seen).is_err(),
         _ => link.put_down(piece).is_err() || link.get_down(most, seen).is_err(),
     };
@@ -131,17 +131,17 @@ fn pass_all<L: Link>(alloc: Global, link: &mut L, steps: &[Value]) -> Result<Vec
 /// What comes through a link in memory.
 fn mem_link(alloc: Global, args: &Value) -> Result<Vec<u8>, AllocError> {
     let mut link = MemLink::new(alloc, numbers_at(alloc, args, 0)?);
-    pass_all(alloc, &mut link, items_from(args, 1))
+    pass_all(alloc, &mut link, values_from(args, 1))
 }
 
 /// What comes through a lying link.
 fn lying_link(alloc: Global, args: &Value) -> Result<Vec<u8>, AllocError> {
-    let to = match text_at(args, 1).as_bytes().first() {
+    let to = match text_or_empty(args, 1).as_bytes().first() {
         Some(byte) => *byte,
         None => b'?',
     };
-    let mut link = LyingLink::new(alloc, number_at(args, 0), to);
-    pass_all(alloc, &mut link, items_from(args, 2))
+    let mut link = LyingLink::new(alloc, number_or_zero(args, 0), to);
+    pass_all(alloc, &mut link, values_from(args, 2))
 }
 
 /// The bytes of a whole source, or what was wrong.
@@ -165,13 +165,13 @@ fn read<S: Source>(
 /// Reads a source in memory once for each limit.
 fn mem_reads(alloc: Global, args: &Value) -> Result<Vec<u8>, AllocError> {
     let mut seen = Vec::new(alloc);
-    let step = number_at(args, 1);
+    let step = number_or_zero(args, 1);
     if step == 0 {
         return Ok(seen);
     }
-    let text = Vec::from_slice(alloc, text_at(args, 0).as_bytes())?;
+    let text = Vec::from_slice(alloc, text_or_empty(args, 0).as_bytes())?;
     let mut source = MemSource::new(text, step as usize, numbers_at(alloc, args, 2)?);
-    for limit in items_from(args, 3) {
+    for limit in values_from(args, 3) {
         read(alloc, &mut source, limit.as_u64().unwrap_or(0), &mut seen)?;
     }
     Ok(seen)
@@ -180,8 +180,8 @@ fn mem_reads(alloc: Global, args: &Value) -> Result<Vec<u8>, AllocError> {
 /// Reads a reader.
 fn reader(alloc: Global, args: &Value) -> Result<Vec<u8>, AllocError> {
     let mut seen = Vec::new(alloc);
-    let mut source = StdSource::new(text_at(args, 0).as_bytes());
-    read(alloc, &mut source, number_at(args, 1), &mut seen)?;
+    let mut source = StdSource::new(text_or_empty(args, 0).as_bytes());
+    read(alloc, &mut source, number_or_zero(args, 1), &mut seen)?;
     Ok(seen)
 }
 
@@ -206,7 +206,7 @@ fn write<K: Sink>(
 fn mem_writes(alloc: Global, args: &Value) -> Result<Vec<u8>, AllocError> {
     let mut sink = MemSink::new(alloc, numbers_at(alloc, args, 0)?);
     let mut seen = Vec::new(alloc);
-    for piece in items_from(args, 1) {
+    for piece in values_from(args, 1) {
         write(alloc, &mut sink, piece.as_str().unwrap_or(""), &mut seen)?;
     }
     seen.push(b' ')?;

@@ -2,7 +2,7 @@
 //! of them, `nested [LEVELS,SELECTORS]` the same on a page of so many elements in one another, and
 //! `subject [PAGE,SELECTORS,SERIAL]` whether the first selector matches that node, as a subject with its places.
 
-use crate::row_args::{call_of, number_at, text_at};
+use crate::row_parts::{call_of, number_or_zero, text_or_empty};
 use page_tree::{LoadErr, Page, read_nodes};
 use select_match::{Subject, all_matches, element_places, first_match, matches_subject};
 use selectors::{SelErr, SelectorList, read_selectors};
@@ -14,20 +14,20 @@ use std::io;
 pub fn told(alloc: Global, row: &str) -> io::Result<Vec<u8>> {
     let (word, args) = call_of(alloc, row)?;
     let page = match word {
-        "nested" => nested_page(alloc, number_at(&args, 0))?,
+        "nested" => nested_page(alloc, number_or_zero(&args, 0))?,
         _ => page_at(alloc, &args, 0)?,
     };
     let Some(page) = page else {
         return Ok(Vec::from_slice(alloc, b"bad load")?);
     };
-    let list = match read_selectors(alloc, text_at(&args, 1)) {
+    let list = match read_selectors(alloc, text_or_empty(&args, 1)) {
         Ok(list) => list,
         Err(SelErr::Invalid) => return Ok(Vec::from_slice(alloc, b"bad selector")?),
         Err(SelErr::Memory) => return Err(AllocError.into()),
     };
     let answer = match word {
         "found" | "nested" => found_in(alloc, &page, &list)?,
-        "subject" => tried(alloc, &page, &list, number_at(&args, 2))?,
+        "subject" => tried(alloc, &page, &list, number_or_zero(&args, 2))?,
         _ => String::from_str(alloc, "no such call")?,
     };
     Ok(answer.into_bytes())

@@ -1,6 +1,6 @@
 //! Rows of selectors: `list [TEXT]` tells the selectors that a text spells, and `weight [TEXT]` how specific each is.
 
-use crate::row_args::{call_of, text_at};
+use crate::row_parts::{call_of, text_or_empty};
 use selectors::{Joint, SelErr, Selector, SelectorList, Simple, Test, read_selectors, specificity};
 use std::alloc::{AllocError, Global};
 use std::io;
@@ -8,7 +8,7 @@ use std::io;
 /// What comes of a row.
 pub fn told(alloc: Global, row: &str) -> io::Result<Vec<u8>> {
     let (word, args) = call_of(alloc, row)?;
-    let list = match read_selectors(alloc, text_at(&args, 0)) {
+    let list = match read_selectors(alloc, text_or_empty(&args, 0)) {
         Ok(list) => list,
         Err(SelErr::Invalid) => return Ok(Vec::from_slice(alloc, b"invalid")?),
         Err(SelErr::Memory) => return Err(AllocError.into()),

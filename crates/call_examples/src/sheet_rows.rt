@@ -3,7 +3,7 @@
 //! `at [TEXT,LINE,COLUMN]` the byte there with that byte's line and column, and `book [STEP,..]` what steps on a book come to:
 //! `["put",ID,TEXT]`, `["copy",PLACE]`, `["change",ID,TEXT]`, `["place",ID]`, `["get",ID]`, `["remove",ID]` and `["len"]`.
 
-use crate::row_args::{call_of, items, number_at, text_at};
+use crate::row_parts::{call_of, number_or_zero, text_or_empty, values_from};
 use node_tree::Text;
 use serde_json::Value;
 use sheet_reader::{
@@ -22,14 +22,19 @@ const MOST_IDS: u64 = 1 << 53;
 /// What comes of a row.
 pub fn told(alloc: Global, row: &str) -> io::Result<Vec<u8>> {
     let (word, args) = call_of(alloc, row)?;
-    let text = text_at(&args, 0);
+    let text = text_or_empty(&args, 0);
     let answer = match word {
         "read" => outline_of(alloc, text)?,
-        "long" => outline_of(alloc, long_text(alloc, number_at(&args, 0))?.as_str())?,
+        "long" => outline_of(alloc, long_text(alloc, number_or_zero(&args, 0))?.as_str())?,
         "style" => styles(alloc, text)?,
         "sealed" => format!(in alloc; "{}", sealed(alloc, text)?)?,
-        "at" => there_and_back(alloc, text, number_at(&args, 1), number_at(&args, 2))?,
-        "book" => book_steps(alloc, items(&args))?,
+        "at" => there_and_back(
+            alloc,
+            text,
+            number_or_zero(&args, 1),
+            number_or_zero(&args, 2),
+        )?,
+        "book" => book_steps(alloc, values_from(&args, 0))?,
         _ => String::from_str(alloc, "no such call")?,
     };
     Ok(answer.into_bytes())
@@ -128,10 +133,10 @@ fn book_steps(alloc: Global, steps: &[Value]) -> Result<String, AllocError> {
 
 /// A step on a book.
 fn book_step(alloc: Global, book: &mut SheetBook, step: &Value) -> Result<String, AllocError> {
-    let number = number_at(step, 1);
-    match text_at(step, 0) {
-        "put" => put_step(alloc, book, number, text_at(step, 2)),
-        "change" => change_step(alloc, book, number, text_at(step, 2)),
+    let number = number_or_zero(step, 1);
+    match text_or_empty(step, 0) {
+        "put" => put_step(alloc, book, number, text_or_empty(step, 2)),
+        "change" => change_step(alloc, book, number, text_or_empty(step, 2)),
         "copy" => copy_step(alloc, book, number as usize),
         "place" => format!(in alloc; "{:?}", book.place_of(number)),
         "get" => entry_text(alloc, book.get(number)),

@@ -4,7 +4,7 @@
 //! its first line are told at which a rule may be added. Of an edit the sheet's text after it and the splices that lead
 //! back are told, or the fault and the text.
 
-use crate::row_args::{call_of, items_from, number_at, text_at};
+use crate::row_parts::{call_of, number_or_zero, text_or_empty, values_from};
 use crate::sheet_rows::origin_of;
 use node_tree::Text;
 use serde_json::Value;
@@ -19,12 +19,12 @@ use style_edits::{
 /// What comes of a row.
 pub fn told(alloc: Global, row: &str) -> io::Result<Vec<u8>> {
     let (word, args) = call_of(alloc, row)?;
-    let text = text_at(&args, 0);
+    let text = text_or_empty(&args, 0);
     let answer = match word {
-        "set" => styled(alloc, text, items_from(&args, 1))?,
+        "set" => styled(alloc, text, values_from(&args, 1))?,
         "selector" => selected(alloc, text, &args)?,
         "rule" => ruled(alloc, text, &args)?,
-        "text" => another(alloc, text, text_at(&args, 1))?,
+        "text" => another(alloc, text, text_or_empty(&args, 1))?,
         "open" => open_columns(alloc, text)?,
         _ => String::from_str(alloc, "no such call")?,
     };
@@ -51,10 +51,10 @@ fn text_of(book: &SheetBook) -> &str {
 /// The lines and columns that an edit names.
 fn range_of(edit: &Value) -> LineRange {
     LineRange {
-        start_line: number_at(edit, 0),
-        start_column: number_at(edit, 1),
-        end_line: number_at(edit, 2),
-        end_column: number_at(edit, 3),
+        start_line: number_or_zero(edit, 0),
+        start_column: number_or_zero(edit, 1),
+        end_line: number_or_zero(edit, 2),
+        end_column: number_or_zero(edit, 3),
     }
 }
 
@@ -110,7 +110,7 @@ fn edits_of(alloc: Global, edits: &[Value]) -> Result<Vec<StyleEdit>, AllocError
         out.push(StyleEdit {
             sheet: 1,
             range: range_of(edit),
-            text: Text::copied(alloc, text_at(edit, 4))?,
+            text: Text::copied(alloc, text_or_empty(edit, 4))?,
         })?;
     }
     Ok(out)
@@ -130,20 +130,20 @@ fn selected(alloc: Global, text: &str, args: &Value) -> Result<String, AllocErro
     let Some(edit) = args.get(1) else {
         return String::from_str(alloc, "no edit");
     };
-    let made = set_selector(&mut book, 1, &range_of(edit), text_at(edit, 4));
+    let made = set_selector(&mut book, 1, &range_of(edit), text_or_empty(edit, 4));
     outcome_of_one(alloc, &book, made)
 }
 
 /// Adds a rule.
 fn ruled(alloc: Global, text: &str, args: &Value) -> Result<String, AllocError> {
-    let mut book = book_of(alloc, origin_of(text_at(args, 1)), text)?;
+    let mut book = book_of(alloc, origin_of(text_or_empty(args, 1)), text)?;
     let Some(edit) = args.get(3) else {
         return String::from_str(alloc, "no edit");
     };
     let made = add_rule(
         &mut book,
-        number_at(args, 2),
-        text_at(edit, 4),
+        number_or_zero(args, 2),
+        text_or_empty(edit, 4),
         &range_of(edit),
     );
     outcome_of_one(alloc, &book, made)

@@ -1,7 +1,7 @@
 //! Rows of the tokenizer: `cut [TEXT]` names the pieces of a text and how many bytes each has, `next [TEXT]` asks for two
 //! pieces, and `say [TEXT]` tells what an escaped text stands for.
 
-use crate::row_args::{call_of, text_at};
+use crate::row_parts::{call_of, text_or_empty};
 use css_tokens::{Token, TokenKind, Tokens, all_tokens, unescape};
 use std::alloc::{AllocError, Global};
 use std::io;
@@ -9,7 +9,7 @@ use std::io;
 /// What comes of a row.
 pub fn told(alloc: Global, row: &str) -> io::Result<Vec<u8>> {
     let (word, args) = call_of(alloc, row)?;
-    let text = text_at(&args, 0);
+    let text = text_or_empty(&args, 0);
     let answer = match word {
         "cut" => pieces(alloc, text)?,
         "next" => first_two(alloc, text)?,

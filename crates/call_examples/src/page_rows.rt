@@ -1,13 +1,11 @@
-//! Carries out on a page what the lines of its standard input name, and prints each line with what came of it: the nodes, or
-//! the fault.
-//!
-//! A line is one of `page NODES`, `many COUNT`, `deep LEVELS`, `set NODE NAME VALUE`, `drop NODE NAME`, `text NODE VALUE`,
-//! `detach NODE`, `insert PARENT BEFORE NODE`, `copy NODE PARENT BEFORE` and `move NODE PARENT BEFORE`. The first three load a
-//! page. Behind each other edit but a move its way back is carried out too: `and back` says that all nodes are as before.
-#![tactic(auto)]
-
+// Rows of a page: each has a list of steps, and each step tells the nodes that came of it, or the fault.
+//
+// A step is one of `page NODES`, `many COUNT`, `deep LEVELS`, `set NODE NAME VALUE`, `drop NODE NAME`, `text NODE VALUE`,
+// `detach NODE`, `insert PARENT BEFORE NODE`, `copy NODE PARENT BEFORE` and `move NODE PARENT BEFORE`. The first three load a
+// page. Behind each other edit but a move its way back is carried out too: `and back` says that all nodes are as before.
 ghost use Rattle.page_tree.specs.EditFaults.{CanInsert, IsReady};
 
+use crate::row_parts::{items_of, misspelt, value_of};
 use page_tree::{
     EditErr, LoadErr, NodeForm, Page, Text, TreeEdit, after_law, back_law, copy_law, insert_law,
     move_law, read_node, read_nodes,
@@ -15,7 +13,6 @@ use page_tree::{
 use serde_json::Value;
 use std::alloc::{AllocError, Global};
 use std::io;
-use std::io::Write;
 
 /// Serials are drawn below this.
 const MOST_SERIALS: u64 = 1 << 50;
@@ -23,13 +20,14 @@ const MOST_SERIALS: u64 = 1 << 50;
 /// A page of so many nodes is printed whole.
 const FEW: usize = 40;
 
-/// What is left of a line.
+/// What is left of a step.
 #[derive(Drop)]
 struct Words<'a> {
     rest: &'a str,
 }
 
 impl<'a> Words<'a> {
+    /// The next word.
     fn word(&mut self) -> &'a str {
         let (word, rest) = match self.rest.split_once(" ") {
             Some((word, rest)) => (word, rest),
@@ -39,25 +37,29 @@ impl<'a> Words<'a> {
         word
     }
 
+    /// The next word as a number.
     fn number(&mut self) -> u64 {
         self.word().parse::<u64>().unwrap_or(0)
     }
 }
 
-fn main(rt: HostRuntime) -> io::Result<()> {
-    let alloc = rt.alloc();
-    let text = io::read_to_string(alloc, rt.reader())?;
-    let mut out = io::writer(&rt);
+/// What a row comes to.
+pub fn told(alloc: Global, row: &str) -> io::Result<Vec<u8>> {
+    let value = value_of(alloc, row)?;
     let mut page = Page::load(alloc, 1, Vec::new(alloc))?;
-    for line in text.lines() {
-        let mut words = Words { rest: line };
-        let came = carry_out(alloc, &mut page, &mut words)?;
-        writeln!(out, "{line}\n  {came}")?;
+    let mut out = Vec::new(alloc);
+    for step in items_of(&value)? {
+        let Some(rest) = step.as_str() else {
+            return Err(misspelt());
+        };
+        let came = carry_out(alloc, &mut page, &mut Words { rest })?;
+        out.extend_from_slice(came.as_bytes())?;
+        out.push(b'\n')?;
     }
-    Ok(())
+    Ok(out)
 }
 
-/// Carries out a line.
+/// Carries out a step.
 fn carry_out(alloc: Global, page: &mut Page, words: &mut Words<'_>) -> Result<String, AllocError> {
     match words.word() {
         "page" => load(alloc, page, words.rest),
@@ -129,7 +131,7 @@ fn edit(
             value: Text::copied(alloc, words.rest)?,
         },
         "detach" => TreeEdit::Detach { node },
-        _ => return String::from_str(alloc, "no such line"),
+        _ => return String::from_str(alloc, "no such step"),
     };
     there_and_back(alloc, page, edit)
 }

@@ -1,47 +1,25 @@
-//! Reads the messages that its standard input holds, a line each, and writes them again.
-//!
-//! A line begins with a word. Behind `ask` and `own` stands a frame on its way up, where `own` knows `Replay.load` and
-//! `Replay.act` too: of one that is refused the error reply is printed, of another its id and, for a command that the DOM agent
-//! is asked, what it is asked. Behind `event` stands an event or an error reply, and behind a method the reply to it: what is
-//! read is written again, so that a message that has its form comes back as it was. Behind `root` stands a reply with a document,
-//! which is read token by token where it has the fields in the order and the numbers in the spelling that are written here.
-#![tactic(auto)]
-
+// Rows of messages, which are read and written again.
+//
+// Behind `ask` and `own` stands a frame on its way up, where `own` knows `Replay.load` and `Replay.act` too: of one that is refused
+// the error reply is told, of another its id and, for a command that the DOM agent is asked, what it is asked. Behind `event` stands an
+// event or an error reply, and behind a method the reply to it: what is read is written again, so that a message that has its form
+// comes back as it was. Behind `root` stands a reply with a document, which is read token by token where it has the fields in the order
+// and the numbers in the spelling that are written here.
+use crate::row_parts::{first_word, without_zero};
 use cdp_messages::{
     Asked, DomAsk, Down, DownErr, ReadErr, ReplyBody, read_command, read_down, read_result,
     read_root, write_event, write_refused, write_reply,
 };
 use std::alloc::{AllocError, Global};
 use std::io;
-use std::io::Write;
 
-fn main(rt: HostRuntime) -> io::Result<()> {
-    let alloc = rt.alloc();
-    let text = io::read_to_string(alloc, rt.reader())?;
-    let mut out = io::writer(&rt);
-    for line in text.lines() {
-        let (word, message) = match line.split_once(" ") {
-            Some((word, message)) => (word, message),
-            None => (line, ""),
-        };
-        let read = read_line(alloc, word, message.as_bytes())?;
-        writeln!(out, "{line}")?;
-        out.write_all(b"  ")?;
-        print(&mut out, read.as_slice())?;
-        writeln!(out)?;
-    }
-    Ok(())
+/// What a row comes to.
+pub fn told(alloc: Global, row: &str) -> io::Result<Vec<u8>> {
+    let (word, message) = first_word(row);
+    Ok(without_zero(read_line(alloc, word, message.as_bytes())?))
 }
 
-/// Prints a message without its zero byte.
-fn print<W: Write>(out: &mut W, bytes: &[u8]) -> io::Result<()> {
-    match bytes.strip_suffix(b"\0".as_slice()) {
-        Some(text) => out.write_all(text),
-        None => out.write_all(bytes),
-    }
-}
-
-/// What a line comes to.
+/// What a message comes to.
 fn read_line(alloc: Global, word: &str, message: &[u8]) -> Result<Vec<u8>, AllocError> {
     match word {
         "ask" => read_up(alloc, message, false),
@@ -55,6 +33,7 @@ fn read_line(alloc: Global, word: &str, message: &[u8]) -> Result<Vec<u8>, Alloc
     }
 }
 
+/// The bytes of a text.
 fn bytes_of(alloc: Global, text: &str) -> Result<Vec<u8>, AllocError> {
     let mut bytes = Vec::new(alloc);
     bytes.extend_from_slice(text.as_bytes())?;
@@ -64,7 +43,7 @@ fn bytes_of(alloc: Global, text: &str) -> Result<Vec<u8>, AllocError> {
 /// What a frame asks, or the error reply.
 fn read_up(alloc: Global, frame: &[u8], own: bool) -> Result<Vec<u8>, AllocError> {
     match read_command(alloc, frame, own) {
-        Ok(asked) => told(alloc, asked),
+        Ok(asked) => asked_words(alloc, asked),
         Err(ReadErr::Refused(refused)) => {
             let mut out = Vec::new(alloc);
             write_refused(alloc, &refused, &mut out)?;
@@ -75,7 +54,7 @@ fn read_up(alloc: Global, frame: &[u8], own: bool) -> Result<Vec<u8>, AllocError
 }
 
 /// The id of a command, and what the DOM agent is asked by it.
-fn told(alloc: Global, asked: Asked) -> Result<Vec<u8>, AllocError> {
+fn asked_words(alloc: Global, asked: Asked) -> Result<Vec<u8>, AllocError> {
     let id = asked.id;
     let text = match DomAsk::of_command(asked.command) {
         Some(ask) => format!(in alloc; "{id} {ask:?}")?,
