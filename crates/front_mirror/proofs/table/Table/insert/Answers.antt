@@ -6,10 +6,12 @@ use Rattle.front_mirror.proofs.table.Table.insert.Goals as goal
 
 pub returns : goal.returns
 returns c =
+    let old = c.args.self.now in
+    let new = c.insert_child.new.self in
     record {
-      mid = c.insert_child.new.self;
+      mid = new;
       turned =
-          subst (λ (n : Branch Told). TableTurned c.args.self.now c.insert_child.new.self c.args.id (with_child_id c.args.previous n.row.seen.id))
+          subst (λ (n : Branch Told). TableTurned old new c.args.id (with_child_id c.args.previous n.row.seen.id))
           c.node.view_is c.in_ok-insert_child.ensures.slots;
       ids_are = c.in_ok-insert_child.ensures.ids;
       slots_are = c.in_ok-plant.ensures.slots;
