@@ -4,18 +4,18 @@ ghost use Rattle.number_map.specs.Rows.{row_at};
 
 use std::alloc::{AllocError, Global};
 
-/// How far behind its end a row is lengthened, however short it is.
+/// By how many places without a number a row is lengthened at most, to one behind them.
 const REACH: usize = 64;
 
 /// Whether a place lies too far behind the end of a row of that length.
 fn is_far(place: usize, len: usize) -> bool {
-    place > REACH && place / 2 > len
+    place.saturating_sub(len) > REACH
 }
 
 /// At place `i` stands the number under the key `first + i`, where there is one.
 ///
-/// A row takes 16 bytes for each key from its first to its last, whether or not a number stands there. It is lengthened to a
-/// key up to twice as far from the first as it is long, and no further.
+/// A row takes 16 bytes for each key from its first to its last, whether or not a number stands there. A call writes at most
+/// 65 places, and drops no more than earlier calls wrote.
 #[derive(Drop)]
 pub(crate) struct Row {
     pub(crate) first: u64,
