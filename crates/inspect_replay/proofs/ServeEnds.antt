@@ -18,7 +18,7 @@ use Rattle.inspect_replay.specs.Answers.{StatusRose}
 use Rattle.inspect_replay.specs.Says.{Counts, status_of}
 use Rattle.inspect_replay.specs.Serving.{served, ServeCall, ServedRead, ServedAll, ServedLimit, ServeTook, IsServeStatus, ServeMoment}
 use Rattle.inspect_replay.specs.Serving.{Serves, PieceAnswered, PieceInPart, PieceServed, EndIsMet, ReadAnswered, PartAnswered, EndAnswered}
-use Rattle.inspect_replay.specs.Serving.{LimitAnswered, FaultAnswered, HasServed, WriteRose, ServeRose}
+use Rattle.inspect_replay.specs.Serving.{LimitAnswered, FaultAnswered, HasServed, HasServeCause, WriteRose, ServeRose}
 use Rattle.inspect_replay.proofs.ServeLemmas.{answers_after, served-more}
 
 -- ---- the loop
@@ -208,6 +208,32 @@ nothing-begun result left taken lost =
     subst (λ (r : Result _ Stop). HasServed
     (record { left_before = left; left_after = left; taken_before = taken; taken_after = taken }) r) (sym is)
     (nothing-served left taken)
+
+-- and no count rose
+pub nothing-rose : {T : Type 0} (result : Result T Stop) (source sink : ℕ) → IsErrAnd result (λ stop. stop ≡ Memory)
+    → HasServeCause (record {
+      source_before = source;
+      source_after = source;
+      sink_before = sink;
+      sink_after = sink;
+      link_before = 0;
+      link_after = 0;
+    }) result
+nothing-rose result source sink lost =
+    let p = err_from_is_err_and result lost in
+    let is : result ≡ Err Memory = p.1 ∙ ap (λ (stop : Stop). Err stop) p.2 in
+    record {
+      source_later = omega arith;
+      sink_later = omega arith;
+      rose = subst (λ (r : Result _ Stop). ServeRose (record {
+        source_before = source;
+        source_after = source;
+        sink_before = sink;
+        sink_after = sink;
+        link_before = 0;
+        link_after = 0;
+      }) r) (sym is) tt;
+    }
 
 -- a source that tells its bytes had these, and has the others left
 known-left : (before after : Option (List ℕ)) (input bytes : List ℕ) → before ≡ Some input → Consumes before after bytes
