@@ -9,3 +9,4 @@ pub mod Gives
 pub mod Lists
 pub mod Lookups
 pub mod Faithful
+pub mod Builders

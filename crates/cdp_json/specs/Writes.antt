@@ -1,15 +1,8 @@
 -- Writing an object field by field.
-use Rattle.std.specs.Prelude.{ℕ, List, [], ◌∷◌, map, Bool, true, ◌&&◌, Option, Some, None, option_map}
-use Rattle.std.specs.Borrow.{Bor}
+use Rattle.std.specs.Prelude.{ℕ, List, [], ◌∷◌, map, Bool, true, ◌&&◌, Option, Some, None}
 use Rattle.serde_json.specs.Data.{Data, Members, put}
-use Rattle.serde_json.specs.View.{view}
-use Rattle.serde_json.specs.declared.value.Value.{Value}
 use Rattle.cdp_json.specs.Rows.{Written}
 use Rattle.cdp_json.specs.Lawful.{is_before_all}
-
--- a name and a value, if any, that code holds, as they are written
-abbrev pub written : Bor (List ℕ) × Option Value → Written
-written f = (f.0.now, option_map view f.1)
 
 -- each name comes before all later ones
 abbrev pub names_ascend : List Written → Bool

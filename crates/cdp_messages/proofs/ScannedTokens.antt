@@ -10,7 +10,7 @@ use Rattle.cdp_json.specs.Kinds.{whole}
 use Rattle.node_tree.specs.Labels.{Pair}
 use Rattle.node_tree.specs.Nodes.{Branch, nodes_of}
 use Rattle.cdp_messages.specs.declared.node_read.NodeParts.{NodeParts}
-use Rattle.cdp_messages.specs.declared.scan.Behind.{Behind}
+use Rattle.cdp_messages.specs.declared.node_read.Behind.{Behind}
 use Rattle.cdp_messages.specs.declared.down.ReplyBody.TheVariants.{Root}
 use Rattle.cdp_messages.specs.Told.{Told}
 use Rattle.cdp_messages.specs.NodeObject.{NodeObject, attribute_list, node_fields}

@@ -213,12 +213,14 @@ pause_by Removed (Some insertion) target node = None
 abbrev pub pause_from : PauseFields → Option PauseData
 pause_from f = pause_by f.1.1.1.0 f.0 f.1.1.0 f.1.0
 
+-- the fields of a pause as JSON
+abbrev pub pause_form : Kind PauseFields
+pause_form = object_of (and_may (codes "insertion") flag
+    (and_need (codes "nodeId") node_id (and_may (codes "targetNodeId") node_id (and_need (codes "type") watch ends))))
+
 -- a pause as JSON
 abbrev pub pause_kind : Kind PauseData
-pause_kind =
-    through (object_of (and_may (codes "insertion") flag
-    (and_need (codes "nodeId") node_id (and_may (codes "targetNodeId") node_id (and_need (codes "type") watch ends)))))
-    pause_fields pause_from
+pause_kind = through pause_form pause_fields pause_from
 
 -- an empty list of call frames
 abbrev pub no_call_frames : Kind ⊤

@@ -65,23 +65,38 @@ kind_of_type = first_numbered type_number (Element ∷ Text ∷ Comment ∷ Docu
 abbrev pub node_type : Description Kind
 node_type = through whole type_number kind_of_type
 
--- the fields as pairs, in the order of their names
-abbrev pub Fields : Type 0
-Fields = Option (List Pair) × (ℕ × (Option ℕ × (Option Items × (List ℕ × (ℕ × (List ℕ × (Kind × (List ℕ × (Option ℕ × ⊤)))))))))
+-- the fields from `localName` on as pairs, in the order of their names
+abbrev pub LastFields : Type 0
+LastFields = List ℕ × (ℕ × (List ℕ × (Kind × (List ℕ × (Option ℕ × ⊤)))))
 
--- the fields of `DOM.Node`
-abbrev pub node_row : Row Fields
-node_row =
-    and_may (codes "attributes") attribute_list
-    (and_need (codes "backendNodeId") whole
-    (and_may (codes "childNodeCount") whole
-    (and_may (codes "children") any_items
-    (and_need (codes "localName") text
+-- the fields behind the attributes
+abbrev pub LaterFields : Type 0
+LaterFields = ℕ × (Option ℕ × (Option Items × LastFields))
+
+-- all fields
+abbrev pub Fields : Type 0
+Fields = Option (List Pair) × LaterFields
+
+-- the fields of `DOM.Node` from `localName` on
+abbrev pub last_row : Row LastFields
+last_row =
+    and_need (codes "localName") text
     (and_need (codes "nodeId") whole
     (and_need (codes "nodeName") text
     (and_need (codes "nodeType") node_type
     (and_need (codes "nodeValue") text
-    (and_may (codes "parentId") whole ends)))))))))
+    (and_may (codes "parentId") whole ends)))))
+
+-- those behind the attributes
+abbrev pub later_row : Row LaterFields
+later_row =
+    and_need (codes "backendNodeId") whole
+    (and_may (codes "childNodeCount") whole
+    (and_may (codes "children") any_items last_row))
+
+-- the fields of `DOM.Node`
+abbrev pub node_row : Row Fields
+node_row = and_may (codes "attributes") attribute_list later_row
 
 -- an object as pairs
 abbrev pub fields_of : NodeObject → Fields

@@ -9,9 +9,9 @@ use Rattle.node_tree.specs.Labels.{Pair, holds}
 use Rattle.node_tree.specs.Nodes.{Branch, nodes_of}
 use Rattle.cdp_messages.specs.declared.node_read.NodeParts.{NodeParts}
 use Rattle.cdp_messages.specs.declared.node_read.RawNode.{RawNode}
-use Rattle.cdp_messages.specs.declared.scan.Behind.{Behind}
+use Rattle.cdp_messages.specs.declared.node_read.Behind.{Behind}
 use Rattle.cdp_messages.specs.Told.{Told, hold_of}
-use Rattle.cdp_messages.specs.NodeObject.{NodeObject, node_type, label_in}
+use Rattle.cdp_messages.specs.NodeObject.{NodeObject, LastFields, node_type, label_in}
 use Rattle.cdp_messages.specs.NodeData.{tree_items}
 use Rattle.cdp_messages.specs.Tokens.{field_tokens}
 
@@ -57,6 +57,10 @@ object_behind attributes serial count b = record {
   value = b.value.now;
   parent = b.parent;
 }
+
+-- these last fields as pairs
+abbrev pub last_fields : Behind → LastFields
+last_fields b = (b.local_name.now, (b.id, (b.name.now, (b.kind, (b.value.now, (b.parent, tt))))))
 
 -- the tokens of these last fields, and the end of the object
 abbrev pub behind_tokens : Behind → List Token

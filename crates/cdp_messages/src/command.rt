@@ -154,7 +154,7 @@ pub enum Command {
 }
 
 /// What a breakpoint watches of a node.
-#[derive(Clone, Copy, PartialEq, Eq, Debug)]
+#[derive(Clone, Copy)]
 pub enum WatchWord {
     /// `subtree-modified`
     Subtree,
@@ -193,7 +193,7 @@ impl WatchWord {
 }
 
 /// A parameter of a command, by its name.
-#[derive(Clone, Copy, PartialEq, Eq, Debug)]
+#[derive(Clone, Copy)]
 pub enum Param {
     BackendNodeId,
     BackendNodeIds,
@@ -218,7 +218,7 @@ pub enum Param {
 
 /// Why a frame is refused (JSON-RPC 2.0, section 5.1, and codes of the protocol's own). From `NoNode` on they are the faults of
 /// edits, by their names.
-#[derive(Clone, Copy, PartialEq, Eq, Debug)]
+#[derive(Clone, Copy)]
 pub enum Why {
     /// The bytes are not UTF-8 or not JSON.
     NotJson,
@@ -284,20 +284,20 @@ pub struct Asked {
 }
 
 /// A refusal, with the id of the frame where it has one.
-#[derive(Clone, Copy, PartialEq, Eq, Debug)]
+#[derive(Clone, Copy)]
 pub struct Refused {
     pub id: Option<u64>,
     pub why: Why,
 }
 
-#[derive(Clone, Copy, PartialEq, Eq, Debug)]
+#[derive(Clone, Copy)]
 pub enum ReadErr {
     Refused(Refused),
     Memory,
 }
 
 /// Why a method with its parameters is no command.
-#[derive(Clone, Copy, PartialEq, Eq, Debug)]
+#[derive(Clone, Copy)]
 pub enum CommandErr {
     Refused(Why),
     Memory,

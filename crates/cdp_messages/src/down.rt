@@ -27,7 +27,7 @@ pub enum Down {
 }
 
 /// What the back end tells unasked. Nodes are named by their ids.
-#[derive(Drop, Debug)]
+#[derive(Drop)]
 pub enum Event {
     /// `DOM.attributeModified`: the attribute has this value now.
     AttributeModified {
@@ -87,7 +87,7 @@ pub enum Event {
 }
 
 /// Why script pauses: what was watched of the node.
-#[derive(Clone, Copy, PartialEq, Eq, Debug, Drop)]
+#[derive(Clone, Copy, Drop)]
 pub enum PauseData {
     /// `subtree-modified`: the target was put in, or else taken out or changed.
     Subtree {
@@ -106,7 +106,7 @@ pub enum PauseData {
 }
 
 /// The result of a reply.
-#[derive(Drop, Debug)]
+#[derive(Drop)]
 pub enum ReplyBody {
     /// The empty result.
     Nothing,
@@ -134,7 +134,7 @@ pub enum ReplyBody {
     Matched(Matched),
 }
 
-#[derive(Clone, Copy, PartialEq, Eq, Debug)]
+#[derive(Clone, Copy)]
 pub enum DownErr {
     /// No message has this form.
     NotMessage,

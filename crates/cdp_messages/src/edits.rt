@@ -6,7 +6,7 @@ use node_tree::Text;
 use std::marker::Model;
 
 /// One edit of `CSS.setStyleTexts`: the text that comes in place of the range of that sheet.
-#[derive(Drop, Debug)]
+#[derive(Drop)]
 pub struct TextEdit {
     pub sheet: Text,
     pub range: SourceRange,
@@ -14,7 +14,7 @@ pub struct TextEdit {
 }
 
 /// A list of edits, which contracts see as the list.
-#[derive(Drop, Debug)]
+#[derive(Drop)]
 pub struct TextEdits {
     list: Vec<TextEdit>,
 }

@@ -7,7 +7,7 @@ use crate::tree::NodeTree;
 use node_tree::Text;
 
 /// What an Ok reply changes at the front end, beside the reply itself.
-#[derive(Drop, Debug)]
+#[derive(Drop)]
 pub enum Effect {
     /// This document comes in place of what is known.
     Document(NodeTree),

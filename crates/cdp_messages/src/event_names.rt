@@ -1,9 +1,10 @@
 // Events, by the names of their methods.
 ghost use Rattle.std.specs.Prelude.{◌≡◌};
+ghost use Rattle.cdp_json.specs.Kinds.{named};
 ghost use Rattle.cdp_messages.specs.Events.{event_name, event_named};
 
 // The method of an event.
-#[derive(Clone, Copy, PartialEq, Eq, Debug)]
+#[derive(Clone, Copy)]
 pub(crate) enum EventName {
     AttributeModified,
     AttributeRemoved,
@@ -17,6 +18,34 @@ pub(crate) enum EventName {
     StyleSheetChanged,
     StyleSheetRemoved,
     Paused,
+}
+
+// Each event once.
+const EVENTS: [EventName; 12] = [
+    EventName::AttributeModified,
+    EventName::AttributeRemoved,
+    EventName::CharacterDataModified,
+    EventName::ChildNodeCountUpdated,
+    EventName::ChildNodeInserted,
+    EventName::ChildNodeRemoved,
+    EventName::SetChildNodes,
+    EventName::DocumentUpdated,
+    EventName::StyleSheetAdded,
+    EventName::StyleSheetChanged,
+    EventName::StyleSheetRemoved,
+    EventName::Paused,
+];
+
+// The first of the events that has the name.
+fn named_among(events: &[EventName], name: &str) -> Option<EventName>
+    ensures { result ≡ named event_name events.now name.now }
+{
+    for event in events {
+        if event.as_str() == name {
+            return Some(*event);
+        }
+    }
+    None
 }
 
 impl EventName {
@@ -43,20 +72,6 @@ impl EventName {
     pub(crate) fn named(name: &str) -> Option<EventName>
         ensures { result ≡ event_named name.now }
     {
-        match name {
-            "DOM.attributeModified" => Some(EventName::AttributeModified),
-            "DOM.attributeRemoved" => Some(EventName::AttributeRemoved),
-            "DOM.characterDataModified" => Some(EventName::CharacterDataModified),
-            "DOM.childNodeCountUpdated" => Some(EventName::ChildNodeCountUpdated),
-            "DOM.childNodeInserted" => Some(EventName::ChildNodeInserted),
-            "DOM.childNodeRemoved" => Some(EventName::ChildNodeRemoved),
-            "DOM.setChildNodes" => Some(EventName::SetChildNodes),
-            "DOM.documentUpdated" => Some(EventName::DocumentUpdated),
-            "CSS.styleSheetAdded" => Some(EventName::StyleSheetAdded),
-            "CSS.styleSheetChanged" => Some(EventName::StyleSheetChanged),
-            "CSS.styleSheetRemoved" => Some(EventName::StyleSheetRemoved),
-            "Debugger.paused" => Some(EventName::Paused),
-            _ => None,
-        }
+        named_among(&EVENTS, name)
     }
 }

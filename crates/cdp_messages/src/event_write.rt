@@ -1,9 +1,13 @@
 // Writing what the back end tells unasked.
-ghost use Rattle.std.specs.Prelude.{◌≡◌, ◌++◌, IfOk, OnOk, OnErr, IsUtf8, false};
+ghost use Rattle.std.specs.Prelude.{◌≡◌, ◌++◌, Some, None, IfOk, OnOk, OnErr, IsUtf8, false};
+ghost use Rattle.serde_json.specs.Data.{Data};
 ghost use Rattle.serde_json.specs.View.{view};
 ghost use Rattle.pipe_frames.specs.Frames.{framed};
-ghost use Rattle.cdp_messages.specs.Events.{news_of, watch as watched, event_name, envelope, modified_kind, dropped_kind, data_kind};
-ghost use Rattle.cdp_messages.specs.Events.{count_kind, removed_kind, added_kind, sheet_id_kind, pause_kind, paused_kind, news_data};
+ghost use Rattle.cdp_messages.specs.declared.command.WatchWord.TheVariants.{Subtree};
+ghost use Rattle.cdp_messages.specs.Events.{news_of, event_name, envelope};
+ghost use Rattle.cdp_messages.specs.Events.{modified_kind, dropped_kind, data_kind};
+ghost use Rattle.cdp_messages.specs.Events.{count_kind, removed_kind, added_kind, sheet_id_kind, news_data};
+ghost use Rattle.cdp_messages.specs.Events.{pause_form, pause_kind, paused_kind};
 ghost use Rattle.cdp_messages.specs.Replies.{event_text};
 ghost use Rattle.cdp_messages.specs.Forms.{event_said};
 
@@ -14,7 +18,7 @@ use crate::node_writer::NodeMessage;
 use crate::tree::NodeTree;
 use crate::tree_write::{append_tree, append_trees};
 use crate::write::append;
-use cdp_json::object;
+use cdp_json::ObjectBuilder;
 use css_objects::{Header, header_value, sheet_value};
 use node_tree::Text;
 use serde_json::{Map, Value};
@@ -23,75 +27,91 @@ use std::alloc::{AllocError, Global};
 fn modified_value(alloc: Global, node: u64, name: &Text, value: &Text) -> Result<Value, AllocError>
     ensures { IfOk result (λ v. view v ≡ modified_kind.spell (name.now, (node, (value.now, tt)))) }
 {
-    let name = Value::try_from_str(alloc, name.as_str())?;
-    let value = Value::try_from_str(alloc, value.as_str())?;
-    let fields = vec![in alloc;
-        ("name", Some(name)),
-        ("nodeId", Some(Value::from(node))),
-        ("value", Some(value)),
-    ]?;
-    object(alloc, fields)
+    ObjectBuilder::new(alloc)
+        .with_text("name", name.as_str())?
+        .with_value("nodeId", Value::from(node))?
+        .with_text("value", value.as_str())?
+        .build()
 }
 
 fn dropped_value(alloc: Global, node: u64, name: &Text) -> Result<Value, AllocError>
     ensures { IfOk result (λ v. view v ≡ dropped_kind.spell (name.now, (node, tt))) }
 {
-    let name = Value::try_from_str(alloc, name.as_str())?;
-    let fields = vec![in alloc; ("name", Some(name)), ("nodeId", Some(Value::from(node)))]?;
-    object(alloc, fields)
+    ObjectBuilder::new(alloc)
+        .with_text("name", name.as_str())?
+        .with_value("nodeId", Value::from(node))?
+        .build()
 }
 
 fn data_value(alloc: Global, node: u64, text: &Text) -> Result<Value, AllocError>
     ensures { IfOk result (λ v. view v ≡ data_kind.spell (text.now, (node, tt))) }
 {
-    let text = Value::try_from_str(alloc, text.as_str())?;
-    let fields = vec![in alloc;
-        ("characterData", Some(text)),
-        ("nodeId", Some(Value::from(node))),
-    ]?;
-    object(alloc, fields)
+    ObjectBuilder::new(alloc)
+        .with_text("characterData", text.as_str())?
+        .with_value("nodeId", Value::from(node))?
+        .build()
 }
 
 fn count_value(alloc: Global, node: u64, count: u64) -> Result<Value, AllocError>
     ensures { IfOk result (λ v. view v ≡ count_kind.spell (count, (node, tt))) }
 {
-    let fields = vec![in alloc;
-        ("childNodeCount", Some(Value::from(count))),
-        ("nodeId", Some(Value::from(node))),
-    ]?;
-    object(alloc, fields)
+    ObjectBuilder::new(alloc)
+        .with_value("childNodeCount", Value::from(count))?
+        .with_value("nodeId", Value::from(node))?
+        .build()
 }
 
 fn removed_value(alloc: Global, parent: u64, node: u64) -> Result<Value, AllocError>
     ensures { IfOk result (λ v. view v ≡ removed_kind.spell (node, (parent, tt))) }
 {
-    let fields = vec![in alloc;
-        ("nodeId", Some(Value::from(node))),
-        ("parentNodeId", Some(Value::from(parent))),
-    ]?;
-    object(alloc, fields)
+    ObjectBuilder::new(alloc)
+        .with_value("nodeId", Value::from(node))?
+        .with_value("parentNodeId", Value::from(parent))?
+        .build()
 }
 
 fn added_value(alloc: Global, header: Header) -> Result<Value, AllocError>
     ensures { IfOk result (λ v. view v ≡ added_kind.spell (header, tt)) }
 {
-    let header = header_value(alloc, header)?;
-    let fields = vec![in alloc; ("header", Some(header))]?;
-    object(alloc, fields)
+    ObjectBuilder::new(alloc)
+        .with_value("header", header_value(alloc, header)?)?
+        .build()
 }
 
 fn sheet_id_value(alloc: Global, sheet: u64) -> Result<Value, AllocError>
     ensures { IfOk result (λ v. view v ≡ sheet_id_kind.spell (sheet, tt)) }
 {
-    let sheet = sheet_value(alloc, sheet)?;
-    let fields = vec![in alloc; ("styleSheetId", Some(sheet))]?;
-    object(alloc, fields)
+    ObjectBuilder::new(alloc)
+        .with_value("styleSheetId", sheet_value(alloc, sheet)?)?
+        .build()
 }
 
-fn watch_value(alloc: Global, watch: WatchWord) -> Result<Value, AllocError>
-    ensures { IfOk result (λ v. view v ≡ watched.spell watch) }
+// The data of a pause that names its node alone.
+fn node_pause_value(alloc: Global, node: u64, watch: WatchWord) -> Result<Value, AllocError>
+    ensures { IfOk result (λ v. view v ≡ pause_form.spell (None, (node, (None, (watch, tt))))) }
 {
-    Value::try_from_str(alloc, watch.as_str())
+    ObjectBuilder::new(alloc)
+        .with_value("nodeId", Value::from(node))?
+        .with_text("type", watch.as_str())?
+        .build()
+}
+
+// The data of a pause at an edit below its node.
+fn subtree_pause_value(
+    alloc: Global,
+    node: u64,
+    target: u64,
+    insertion: bool,
+) -> Result<Value, AllocError>
+    ensures { IfOk result (λ v. view v
+        ≡ pause_form.spell (Some insertion, (node, (Some target, (Subtree, tt))))) }
+{
+    ObjectBuilder::new(alloc)
+        .with_value("insertion", Value::Bool(insertion))?
+        .with_value("nodeId", Value::from(node))?
+        .with_value("targetNodeId", Value::from(target))?
+        .with_text("type", WatchWord::Subtree.as_str())?
+        .build()
 }
 
 fn pause_value(alloc: Global, pause: PauseData) -> Result<Value, AllocError>
@@ -102,55 +122,30 @@ fn pause_value(alloc: Global, pause: PauseData) -> Result<Value, AllocError>
             node,
             target,
             insertion,
-        } => {
-            let watch = watch_value(alloc, WatchWord::Subtree)?;
-            let fields = vec![in alloc;
-                ("insertion", Some(Value::Bool(insertion))),
-                ("nodeId", Some(Value::from(node))),
-                ("targetNodeId", Some(Value::from(target))),
-                ("type", Some(watch)),
-            ]?;
-            object(alloc, fields)
-        }
-        PauseData::Attribute { node } => {
-            let watch = watch_value(alloc, WatchWord::Attribute)?;
-            let fields = vec![in alloc;
-                ("nodeId", Some(Value::from(node))),
-                ("type", Some(watch)),
-            ]?;
-            object(alloc, fields)
-        }
-        PauseData::Removed { node } => {
-            let watch = watch_value(alloc, WatchWord::Removed)?;
-            let fields = vec![in alloc;
-                ("nodeId", Some(Value::from(node))),
-                ("type", Some(watch)),
-            ]?;
-            object(alloc, fields)
-        }
+        } => subtree_pause_value(alloc, node, target, insertion),
+        PauseData::Attribute { node } => node_pause_value(alloc, node, WatchWord::Attribute),
+        PauseData::Removed { node } => node_pause_value(alloc, node, WatchWord::Removed),
     }
 }
 
 fn paused_value(alloc: Global, pause: PauseData) -> Result<Value, AllocError>
     ensures { IfOk result (λ v. view v ≡ paused_kind.spell (tt, (pause, (tt, tt)))) }
 {
-    let data = pause_value(alloc, pause)?;
-    let reason = Value::try_from_str(alloc, "DOM")?;
-    let fields = vec![in alloc;
-        ("callFrames", Some(Value::Array(Vec::new(alloc)))),
-        ("data", Some(data)),
-        ("reason", Some(reason)),
-    ]?;
-    object(alloc, fields)
+    ObjectBuilder::new(alloc)
+        .with_value("callFrames", Value::Array(Vec::new(alloc)))?
+        .with_value("data", pause_value(alloc, pause)?)?
+        .with_text("reason", "DOM")?
+        .build()
 }
 
 // An event of that method with these parameters.
 fn envelope_value(alloc: Global, name: EventName, params: Value) -> Result<Value, AllocError>
     ensures { IfOk result (λ v. view v ≡ envelope.spell (event_name name, (view params, tt))) }
 {
-    let method = Value::try_from_str(alloc, name.as_str())?;
-    let fields = vec![in alloc; ("method", Some(method)), ("params", Some(params))]?;
-    object(alloc, fields)
+    ObjectBuilder::new(alloc)
+        .with_text("method", name.as_str())?
+        .with_value("params", params)?
+        .build()
 }
 
 // An event as it is to be written.
@@ -168,15 +163,16 @@ pub(crate) enum EventForm<'a> {
     },
 }
 
-// An event of that method with these parameters.
+// An event of that method with these parameters, where they could be made.
 fn plain_form<'a>(
     alloc: Global,
     name: EventName,
-    params: Value,
+    params: Result<Value, AllocError>,
 ) -> Result<EventForm<'a>, AllocError>
-    ensures { IfOk result (λ form. event_said form ≡ envelope.spell (event_name name, (view params, tt))) }
+    ensures { (d : Data) → IfOk params (λ v. view v ≡ d)
+        → IfOk result (λ form. event_said form ≡ envelope.spell (event_name name, (d, tt))) }
 {
-    let value = envelope_value(alloc, name, params)?;
+    let value = envelope_value(alloc, name, params?)?;
     Ok(EventForm::Plain(value))
 }
 
@@ -184,22 +180,26 @@ fn event_form(alloc: Global, event: &Event) -> Result<EventForm<'_>, AllocError>
     ensures { IfOk result (λ form. event_said form ≡ news_data (news_of event.now)) }
 {
     match event {
-        Event::AttributeModified { node, name, value } => {
-            let params = modified_value(alloc, *node, name, value)?;
-            plain_form(alloc, EventName::AttributeModified, params)
-        }
-        Event::AttributeRemoved { node, name } => {
-            let params = dropped_value(alloc, *node, name)?;
-            plain_form(alloc, EventName::AttributeRemoved, params)
-        }
-        Event::CharacterDataModified { node, text } => {
-            let params = data_value(alloc, *node, text)?;
-            plain_form(alloc, EventName::CharacterDataModified, params)
-        }
-        Event::ChildNodeCountUpdated { node, count } => {
-            let params = count_value(alloc, *node, *count)?;
-            plain_form(alloc, EventName::ChildNodeCountUpdated, params)
-        }
+        Event::AttributeModified { node, name, value } => plain_form(
+            alloc,
+            EventName::AttributeModified,
+            modified_value(alloc, *node, name, value),
+        ),
+        Event::AttributeRemoved { node, name } => plain_form(
+            alloc,
+            EventName::AttributeRemoved,
+            dropped_value(alloc, *node, name),
+        ),
+        Event::CharacterDataModified { node, text } => plain_form(
+            alloc,
+            EventName::CharacterDataModified,
+            data_value(alloc, *node, text),
+        ),
+        Event::ChildNodeCountUpdated { node, count } => plain_form(
+            alloc,
+            EventName::ChildNodeCountUpdated,
+            count_value(alloc, *node, *count),
+        ),
         Event::ChildNodeInserted {
             parent,
             previous,
@@ -209,33 +209,37 @@ fn event_form(alloc: Global, event: &Event) -> Result<EventForm<'_>, AllocError>
             previous: *previous,
             node,
         }),
-        Event::ChildNodeRemoved { parent, node } => {
-            let params = removed_value(alloc, *parent, *node)?;
-            plain_form(alloc, EventName::ChildNodeRemoved, params)
-        }
+        Event::ChildNodeRemoved { parent, node } => plain_form(
+            alloc,
+            EventName::ChildNodeRemoved,
+            removed_value(alloc, *parent, *node),
+        ),
         Event::SetChildNodes { parent, nodes } => Ok(EventForm::Children {
             parent: *parent,
             nodes,
         }),
-        Event::DocumentUpdated => {
-            let params = Value::Object(Map::new(alloc));
-            plain_form(alloc, EventName::DocumentUpdated, params)
-        }
-        Event::StyleSheetAdded { header } => {
-            let params = added_value(alloc, *header)?;
-            plain_form(alloc, EventName::StyleSheetAdded, params)
-        }
-        Event::StyleSheetChanged { sheet } => {
-            let params = sheet_id_value(alloc, *sheet)?;
-            plain_form(alloc, EventName::StyleSheetChanged, params)
-        }
-        Event::StyleSheetRemoved { sheet } => {
-            let params = sheet_id_value(alloc, *sheet)?;
-            plain_form(alloc, EventName::StyleSheetRemoved, params)
-        }
+        Event::DocumentUpdated => plain_form(
+            alloc,
+            EventName::DocumentUpdated,
+            Ok(Value::Object(Map::new(alloc))),
+        ),
+        Event::StyleSheetAdded { header } => plain_form(
+            alloc,
+            EventName::StyleSheetAdded,
+            added_value(alloc, *header),
+        ),
+        Event::StyleSheetChanged { sheet } => plain_form(
+            alloc,
+            EventName::StyleSheetChanged,
+            sheet_id_value(alloc, *sheet),
+        ),
+        Event::StyleSheetRemoved { sheet } => plain_form(
+            alloc,
+            EventName::StyleSheetRemoved,
+            sheet_id_value(alloc, *sheet),
+        ),
         Event::Paused(pause) => {
-            let params = paused_value(alloc, *pause)?;
-            plain_form(alloc, EventName::Paused, params)
+            plain_form(alloc, EventName::Paused, paused_value(alloc, *pause))
         }
     }
 }

@@ -1,9 +1,10 @@
 // The methods, by their names.
 ghost use Rattle.std.specs.Prelude.{◌≡◌};
-ghost use Rattle.cdp_messages.specs.Methods.{method_named, is_own};
+ghost use Rattle.cdp_json.specs.Kinds.{named};
+ghost use Rattle.cdp_messages.specs.Methods.{name_of, method_named, is_own};
 
 /// A method of the protocol, or one of the two of our own.
-#[derive(Clone, Copy, PartialEq, Eq, Debug)]
+#[derive(Clone, Copy)]
 pub enum Method {
     /// `DOM.enable`
     DomEnable,
@@ -71,46 +72,100 @@ pub enum Method {
     ReplayAct,
 }
 
+// Each method once.
+const METHODS: [Method; 32] = [
+    Method::DomEnable,
+    Method::DomDisable,
+    Method::GetDocument,
+    Method::RequestChildNodes,
+    Method::PushByPath,
+    Method::PushBySerials,
+    Method::QuerySelector,
+    Method::QuerySelectorAll,
+    Method::GetAttributes,
+    Method::DescribeNode,
+    Method::SetAttributeValue,
+    Method::RemoveAttribute,
+    Method::SetNodeValue,
+    Method::RemoveNode,
+    Method::MoveTo,
+    Method::CopyTo,
+    Method::MarkUndoableState,
+    Method::Undo,
+    Method::Redo,
+    Method::CssEnable,
+    Method::CssDisable,
+    Method::GetMatchedStyles,
+    Method::GetStyleSheetText,
+    Method::CollectClassNames,
+    Method::SetStyleTexts,
+    Method::SetRuleSelector,
+    Method::SetStyleSheetText,
+    Method::AddRule,
+    Method::SetBreakpoint,
+    Method::RemoveBreakpoint,
+    Method::ReplayLoad,
+    Method::ReplayAct,
+];
+
+// The first of the methods that has the name.
+fn named_among(methods: &[Method], name: &str) -> Option<Method>
+    ensures { result ≡ named name_of methods.now name.now }
+{
+    for method in methods {
+        if method.as_str() == name {
+            return Some(*method);
+        }
+    }
+    None
+}
+
 impl Method {
+    /// The method's name.
+    pub fn as_str(self) -> &'static str
+        ensures { result.now ≡ name_of self }
+    {
+        match self {
+            Method::DomEnable => "DOM.enable",
+            Method::DomDisable => "DOM.disable",
+            Method::GetDocument => "DOM.getDocument",
+            Method::RequestChildNodes => "DOM.requestChildNodes",
+            Method::PushByPath => "DOM.pushNodeByPathToFrontend",
+            Method::PushBySerials => "DOM.pushNodesByBackendIdsToFrontend",
+            Method::QuerySelector => "DOM.querySelector",
+            Method::QuerySelectorAll => "DOM.querySelectorAll",
+            Method::GetAttributes => "DOM.getAttributes",
+            Method::DescribeNode => "DOM.describeNode",
+            Method::SetAttributeValue => "DOM.setAttributeValue",
+            Method::RemoveAttribute => "DOM.removeAttribute",
+            Method::SetNodeValue => "DOM.setNodeValue",
+            Method::RemoveNode => "DOM.removeNode",
+            Method::MoveTo => "DOM.moveTo",
+            Method::CopyTo => "DOM.copyTo",
+            Method::MarkUndoableState => "DOM.markUndoableState",
+            Method::Undo => "DOM.undo",
+            Method::Redo => "DOM.redo",
+            Method::CssEnable => "CSS.enable",
+            Method::CssDisable => "CSS.disable",
+            Method::GetMatchedStyles => "CSS.getMatchedStylesForNode",
+            Method::GetStyleSheetText => "CSS.getStyleSheetText",
+            Method::CollectClassNames => "CSS.collectClassNames",
+            Method::SetStyleTexts => "CSS.setStyleTexts",
+            Method::SetRuleSelector => "CSS.setRuleSelector",
+            Method::SetStyleSheetText => "CSS.setStyleSheetText",
+            Method::AddRule => "CSS.addRule",
+            Method::SetBreakpoint => "DOMDebugger.setDOMBreakpoint",
+            Method::RemoveBreakpoint => "DOMDebugger.removeDOMBreakpoint",
+            Method::ReplayLoad => "Replay.load",
+            Method::ReplayAct => "Replay.act",
+        }
+    }
+
     /// The method that has the name.
     pub fn named(name: &str) -> Option<Method>
         ensures { result ≡ method_named name.now }
     {
-        match name {
-            "DOM.enable" => Some(Method::DomEnable),
-            "DOM.disable" => Some(Method::DomDisable),
-            "DOM.getDocument" => Some(Method::GetDocument),
-            "DOM.requestChildNodes" => Some(Method::RequestChildNodes),
-            "DOM.pushNodeByPathToFrontend" => Some(Method::PushByPath),
-            "DOM.pushNodesByBackendIdsToFrontend" => Some(Method::PushBySerials),
-            "DOM.querySelector" => Some(Method::QuerySelector),
-            "DOM.querySelectorAll" => Some(Method::QuerySelectorAll),
-            "DOM.getAttributes" => Some(Method::GetAttributes),
-            "DOM.describeNode" => Some(Method::DescribeNode),
-            "DOM.setAttributeValue" => Some(Method::SetAttributeValue),
-            "DOM.removeAttribute" => Some(Method::RemoveAttribute),
-            "DOM.setNodeValue" => Some(Method::SetNodeValue),
-            "DOM.removeNode" => Some(Method::RemoveNode),
-            "DOM.moveTo" => Some(Method::MoveTo),
-            "DOM.copyTo" => Some(Method::CopyTo),
-            "DOM.markUndoableState" => Some(Method::MarkUndoableState),
-            "DOM.undo" => Some(Method::Undo),
-            "DOM.redo" => Some(Method::Redo),
-            "CSS.enable" => Some(Method::CssEnable),
-            "CSS.disable" => Some(Method::CssDisable),
-            "CSS.getMatchedStylesForNode" => Some(Method::GetMatchedStyles),
-            "CSS.getStyleSheetText" => Some(Method::GetStyleSheetText),
-            "CSS.collectClassNames" => Some(Method::CollectClassNames),
-            "CSS.setStyleTexts" => Some(Method::SetStyleTexts),
-            "CSS.setRuleSelector" => Some(Method::SetRuleSelector),
-            "CSS.setStyleSheetText" => Some(Method::SetStyleSheetText),
-            "CSS.addRule" => Some(Method::AddRule),
-            "DOMDebugger.setDOMBreakpoint" => Some(Method::SetBreakpoint),
-            "DOMDebugger.removeDOMBreakpoint" => Some(Method::RemoveBreakpoint),
-            "Replay.load" => Some(Method::ReplayLoad),
-            "Replay.act" => Some(Method::ReplayAct),
-            _ => None,
-        }
+        named_among(&METHODS, name)
     }
 
     /// Whether it is no part of the protocol.

@@ -8,7 +8,8 @@ ghost use Rattle.cdp_json.specs.Rows.{left_with, need, may};
 ghost use Rattle.node_tree.specs.Nodes.{nodes_of};
 ghost use Rattle.cdp_messages.specs.Answers.{GivesMessage};
 ghost use Rattle.cdp_messages.specs.NodeData.{tree_told, trees_of};
-ghost use Rattle.cdp_messages.specs.NodeObject.{attribute_list, kind_of_type, node_type, node_name, node_fields};
+ghost use Rattle.cdp_messages.specs.NodeObject.{attribute_list, kind_of_type, node_type, node_name, node_fields, last_row, later_row};
+ghost use Rattle.cdp_messages.specs.Raw.{last_fields};
 
 use crate::down::DownErr;
 use crate::node_rules::{Manner, fits_hold, is_document, is_formed_label, is_named_label};
@@ -25,6 +26,17 @@ pub(crate) struct NodeParts<'a> {
     pub(crate) attributes: Option<Attributes>,
     pub(crate) serial: u64,
     pub(crate) count: Option<u64>,
+    pub(crate) local_name: &'a str,
+    pub(crate) id: u64,
+    pub(crate) name: &'a str,
+    pub(crate) kind: Kind,
+    pub(crate) value: &'a str,
+    pub(crate) parent: Option<u64>,
+}
+
+// What stands in a node's object from `localName` on.
+#[derive(Clone, Copy)]
+pub(crate) struct Behind<'a> {
     pub(crate) local_name: &'a str,
     pub(crate) id: u64,
     pub(crate) name: &'a str,
@@ -103,7 +115,31 @@ fn attributes_field(alloc: Global, fields: &mut Cursor<'_>) -> Result<Option<Att
     }
 }
 
+// The last fields, and no other behind them.
+fn last_of<'a>(fields: &mut Cursor<'a>) -> Option<Behind<'a>>
+    ensures { option_map last_fields result ≡ last_row.gets (left fields.old) }
+{
+    let local_name = fields.need_text("localName")?;
+    let id = fields.need_whole("nodeId")?;
+    let name = fields.need_text("nodeName")?;
+    let kind = kind_field(fields)?;
+    let value = fields.need_text("nodeValue")?;
+    let parent = fields.may_whole("parentId")?;
+    if !fields.is_done() {
+        return None;
+    }
+    Some(Behind {
+        local_name,
+        id,
+        name,
+        kind,
+        value,
+        parent,
+    })
+}
+
 impl<'a> RawNode<'a> {
+    ghost use Rattle.cdp_messages.specs.NodeObject.{of_fields};
     ghost use Rattle.cdp_messages.specs.Raw.{object_in};
 
     // Exactly these fields, in their forms.
@@ -113,34 +149,30 @@ impl<'a> RawNode<'a> {
         let object = value.as_object().ok_or(DownErr::NotMessage)?;
         let mut fields = Cursor::new(object);
         let attributes = attributes_field(alloc, &mut fields)?;
-        let serial = fields
-            .need_whole("backendNodeId")
-            .ok_or(DownErr::NotMessage)?;
-        let count = fields
-            .may_whole("childNodeCount")
-            .ok_or(DownErr::NotMessage)?;
-        let children = fields.may_list("children").ok_or(DownErr::NotMessage)?;
-        let local_name = fields.need_text("localName").ok_or(DownErr::NotMessage)?;
-        let id = fields.need_whole("nodeId").ok_or(DownErr::NotMessage)?;
-        let name = fields.need_text("nodeName").ok_or(DownErr::NotMessage)?;
-        let kind = kind_field(&mut fields).ok_or(DownErr::NotMessage)?;
-        let value = fields.need_text("nodeValue").ok_or(DownErr::NotMessage)?;
-        let parent = fields.may_whole("parentId").ok_or(DownErr::NotMessage)?;
-        if !fields.is_done() {
-            return Err(DownErr::NotMessage);
-        }
+        RawNode::with(attributes, &mut fields).ok_or(DownErr::NotMessage)
+    }
+
+    // The node with these attributes, whose later fields come next.
+    fn with(attributes: Option<Attributes>, fields: &mut Cursor<'a>) -> Option<RawNode<'a>>
+        ensures { option_map object_in result
+            ≡ option_map (λ f. of_fields (attributes, f)) (later_row.gets (left fields.old)) }
+    {
+        let serial = fields.need_whole("backendNodeId")?;
+        let count = fields.may_whole("childNodeCount")?;
+        let children = fields.may_list("children")?;
+        let behind = last_of(fields)?;
         let parts = NodeParts {
             attributes,
             serial,
             count,
-            local_name,
-            id,
-            name,
-            kind,
-            value,
-            parent,
+            local_name: behind.local_name,
+            id: behind.id,
+            name: behind.name,
+            kind: behind.kind,
+            value: behind.value,
+            parent: behind.parent,
         };
-        Ok(RawNode { parts, children })
+        Some(RawNode { parts, children })
     }
 }
 

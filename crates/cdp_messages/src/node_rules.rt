@@ -12,7 +12,7 @@ use node_tree::{Kind, Text, is_attribute_name, is_element_name};
 use std::cmp::Ordering;
 
 // How the nodes of a message are told.
-#[derive(Clone, Copy, PartialEq, Eq, Debug)]
+#[derive(Clone, Copy)]
 pub(crate) enum Manner {
     // As nodes of a session, with ids and parents.
     Pushed,

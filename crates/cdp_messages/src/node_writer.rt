@@ -17,7 +17,7 @@ use std::alloc::{AllocError, Global};
 use std::marker::Model;
 
 /// A message that tells nodes, but for the nodes.
-#[derive(Clone, Copy, PartialEq, Eq, Debug)]
+#[derive(Clone, Copy)]
 pub enum NodeMessage {
     /// The reply to the `DOM.getDocument` of that id, which tells the document.
     Root { id: u64 },

@@ -1,6 +1,6 @@
 // Writing replies.
 ghost use Rattle.std.specs.Prelude.{◌≡◌, ◌++◌, map, IfOk, OnOk, OnErr, IsUtf8, false};
-ghost use Rattle.serde_json.specs.Data.{string};
+ghost use Rattle.serde_json.specs.Data.{Data, string};
 ghost use Rattle.serde_json.specs.View.{view, items_of};
 ghost use Rattle.serde_json.specs.Written.{compact_text, has_float};
 ghost use Rattle.cdp_messages.specs.NodeObject.{attribute_list};
@@ -15,7 +15,7 @@ use crate::numbers::Numbers;
 use crate::tree::NodeTree;
 use crate::tree_write::append_tree;
 use crate::write::append;
-use cdp_json::{object, whole_list};
+use cdp_json::{ObjectBuilder, whole_list};
 use css_objects::{
     class_names_value, matched_value, new_rule_value, new_selectors_value, sheet_text_value,
     styles_value,
@@ -40,24 +40,25 @@ fn attributes_value(alloc: Global, attributes: &Attributes) -> Result<Value, All
 fn ids_value(alloc: Global, ids: &Numbers) -> Result<Value, AllocError>
     ensures { IfOk result (λ v. view v ≡ ids_kind.spell (ids.now, tt)) }
 {
-    let list = whole_list(alloc, ids.as_slice())?;
-    let fields = vec![in alloc; ("nodeIds", Some(list))]?;
-    object(alloc, fields)
+    ObjectBuilder::new(alloc)
+        .with_value("nodeIds", whole_list(alloc, ids.as_slice())?)?
+        .build()
 }
 
 fn attributes_body(alloc: Global, attributes: &Attributes) -> Result<Value, AllocError>
     ensures { IfOk result (λ v. view v ≡ attributes_kind.spell (attributes.now, tt)) }
 {
-    let list = attributes_value(alloc, attributes)?;
-    let fields = vec![in alloc; ("attributes", Some(list))]?;
-    object(alloc, fields)
+    ObjectBuilder::new(alloc)
+        .with_value("attributes", attributes_value(alloc, attributes)?)?
+        .build()
 }
 
 fn id_value(alloc: Global, id: u64) -> Result<Value, AllocError>
     ensures { IfOk result (λ v. view v ≡ id_kind.spell (id, tt)) }
 {
-    let fields = vec![in alloc; ("nodeId", Some(Value::from(id)))]?;
-    object(alloc, fields)
+    ObjectBuilder::new(alloc)
+        .with_value("nodeId", Value::from(id))?
+        .build()
 }
 
 // A result as it is to be written.
@@ -68,6 +69,13 @@ pub(crate) enum BodyForm<'a> {
     Node(&'a NodeTree),
 }
 
+// A result of this value, where it could be made.
+fn plain_body<'a>(value: Result<Value, AllocError>) -> Result<BodyForm<'a>, AllocError>
+    ensures { (d : Data) → IfOk value (λ v. view v ≡ d) → IfOk result (λ form. body_said form ≡ d) }
+{
+    Ok(BodyForm::Plain(value?))
+}
+
 fn body_form(alloc: Global, body: &ReplyBody) -> Result<BodyForm<'_>, AllocError>
     ensures { IfOk result (λ form. body_said form ≡ body_data body.now) }
 {
@@ -75,30 +83,25 @@ fn body_form(alloc: Global, body: &ReplyBody) -> Result<BodyForm<'_>, AllocError
         ReplyBody::Nothing => Ok(BodyForm::Plain(Value::Object(Map::new(alloc)))),
         ReplyBody::Root(tree) => Ok(BodyForm::Root(tree)),
         ReplyBody::Node(tree) => Ok(BodyForm::Node(tree)),
-        ReplyBody::NodeId(id) => Ok(BodyForm::Plain(id_value(alloc, *id)?)),
-        ReplyBody::NodeIds(ids) => Ok(BodyForm::Plain(ids_value(alloc, ids)?)),
-        ReplyBody::Attributes(attributes) => Ok(BodyForm::Plain(attributes_body(
-            alloc, attributes,
-        )?)),
-        ReplyBody::ClassNames(names) => Ok(BodyForm::Plain(class_names_value(
-            alloc,
-            names.as_slice(),
-        )?)),
-        ReplyBody::SheetText(text) => Ok(BodyForm::Plain(sheet_text_value(alloc, text)?)),
-        ReplyBody::Styles(styles) => Ok(BodyForm::Plain(styles_value(alloc, styles.as_slice())?)),
-        ReplyBody::Selectors(selectors) => Ok(BodyForm::Plain(new_selectors_value(
-            alloc, selectors,
-        )?)),
-        ReplyBody::Rule(rule) => Ok(BodyForm::Plain(new_rule_value(alloc, rule)?)),
-        ReplyBody::Matched(matched) => Ok(BodyForm::Plain(matched_value(alloc, matched)?)),
+        ReplyBody::NodeId(id) => plain_body(id_value(alloc, *id)),
+        ReplyBody::NodeIds(ids) => plain_body(ids_value(alloc, ids)),
+        ReplyBody::Attributes(attributes) => plain_body(attributes_body(alloc, attributes)),
+        ReplyBody::ClassNames(names) => plain_body(class_names_value(alloc, names.as_slice())),
+        ReplyBody::SheetText(text) => plain_body(sheet_text_value(alloc, text)),
+        ReplyBody::Styles(styles) => plain_body(styles_value(alloc, styles.as_slice())),
+        ReplyBody::Selectors(selectors) => plain_body(new_selectors_value(alloc, selectors)),
+        ReplyBody::Rule(rule) => plain_body(new_rule_value(alloc, rule)),
+        ReplyBody::Matched(matched) => plain_body(matched_value(alloc, matched)),
     }
 }
 
 fn reply_value(alloc: Global, id: u64, body: Value) -> Result<Value, AllocError>
     ensures { IfOk result (λ v. view v ≡ message_data (reply id (view body))) }
 {
-    let fields = vec![in alloc; ("id", Some(Value::from(id))), ("result", Some(body))]?;
-    object(alloc, fields)
+    ObjectBuilder::new(alloc)
+        .with_value("id", Value::from(id))?
+        .with_value("result", body)?
+        .build()
 }
 
 // Appends a reply with this result.

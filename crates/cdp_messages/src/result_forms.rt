@@ -5,7 +5,7 @@ ghost use Rattle.cdp_messages.specs.Results.{result_form};
 use crate::method::Method;
 
 // The form of a result.
-#[derive(Clone, Copy, PartialEq, Eq, Debug)]
+#[derive(Clone, Copy)]
 pub(crate) enum ResultForm {
     Nothing,
     Root,

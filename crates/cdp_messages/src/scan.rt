@@ -14,7 +14,7 @@ ghost use Rattle.cdp_messages.specs.Tokens.{data_tokens, field_tokens};
 ghost use Rattle.cdp_messages.specs.Raw.{object_over, object_behind, behind_tokens, next_name, items_shown};
 
 use crate::down::DownErr;
-use crate::node_read::{NodeParts, kind_of_type};
+use crate::node_read::{Behind, NodeParts, kind_of_type};
 use crate::node_rules::Manner;
 use crate::tree::NodeTree;
 use json::{Reader, Scratch, Token};
@@ -205,17 +205,6 @@ fn parent_ahead(reader: &mut Reader<'_>) -> Result<Option<u64>, DownErr>
         Some(Token::EndObject) => Ok(None),
         _ => Err(DownErr::NotMessage),
     }
-}
-
-// What stands in a node's object behind the name of `localName`.
-#[derive(Clone, Copy)]
-struct Behind<'a> {
-    local_name: &'a str,
-    id: u64,
-    name: &'a str,
-    kind: Kind,
-    value: &'a str,
-    parent: Option<u64>,
 }
 
 fn kind_field(reader: &mut Reader<'_>) -> Result<Kind, DownErr>

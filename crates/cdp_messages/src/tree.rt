@@ -2,7 +2,7 @@ use node_tree::{Attributes, Kind, Text};
 use std::marker::Model;
 
 /// A node of the page as a message tells it (`DOM.Node`), which contracts see as a tree of told rows.
-#[derive(Drop, Debug)]
+#[derive(Drop)]
 pub struct NodeTree {
     /// The id in the session, 0 for a node that is described alone.
     pub id: u64,

@@ -8,7 +8,7 @@ ghost use Rattle.cdp_messages.specs.Replies.{error_kind, fault, message_data, re
 ghost use Rattle.pipe_frames.specs.Frames.{framed};
 
 use crate::command::{Param, Refused, Why};
-use cdp_json::object;
+use cdp_json::ObjectBuilder;
 use serde_json::Value;
 use std::alloc::{AllocError, Global};
 
@@ -44,16 +44,12 @@ fn command_value(
     ensures { IfOk result (λ v. view v ≡ command_value id method.now
         (option_map (λ p. view p.now) params.entry) (option_map (λ s. view s.now) session.entry)) }
 {
-    let params = copied(params)?;
-    let session = copied(session)?;
-    let method = Value::try_from_str(alloc, method)?;
-    let fields = vec![in alloc;
-        ("id", Some(Value::from(id))),
-        ("method", Some(method)),
-        ("params", params),
-        ("sessionId", session),
-    ]?;
-    object(alloc, fields)
+    ObjectBuilder::new(alloc)
+        .with_value("id", Value::from(id))?
+        .with_text("method", method)?
+        .with("params", copied(params)?)?
+        .with("sessionId", copied(session)?)?
+        .build()
 }
 
 /// Appends a command as one frame, with its zero byte. No number in `params` and `session` has a point or an exponent.
@@ -226,23 +222,23 @@ fn text_of(alloc: Global, why: Why) -> Result<String, AllocError>
 fn error_value(alloc: Global, code: i64, text: String) -> Result<Value, AllocError>
     ensures { IfOk result (λ v. view v ≡ error_kind.spell (code, (string_bytes text, tt))) }
 {
-    let fields = vec![in alloc;
-        ("code", Some(Value::from(code))),
-        ("message", Some(Value::String(text))),
-    ]?;
-    object(alloc, fields)
+    ObjectBuilder::new(alloc)
+        .with_value("code", Value::from(code))?
+        .with_value("message", Value::String(text))?
+        .build()
 }
 
 fn fault_value(alloc: Global, id: Option<u64>, code: i64, text: String) -> Result<Value, AllocError>
     ensures { IfOk result (λ v. view v ≡ message_data (fault id code (string_bytes text))) }
 {
-    let error = error_value(alloc, code, text)?;
-    let id = match id {
+    let number = match id {
         Some(id) => Some(Value::from(id)),
         None => None,
     };
-    let fields = vec![in alloc; ("error", Some(error)), ("id", id)]?;
-    object(alloc, fields)
+    ObjectBuilder::new(alloc)
+        .with_value("error", error_value(alloc, code, text)?)?
+        .with("id", number)?
+        .build()
 }
 
 /// Appends a refusal as one frame, with its zero byte.

@@ -5,7 +5,7 @@ ghost use Rattle.css_agent.specs.Asks.{css_ask_in};
 use cdp_messages::{Command, Text};
 
 /// A command of the domain CSS that edits nothing, with its parameters, as they stand in the command.
-#[derive(Drop, Debug)]
+#[derive(Drop)]
 pub enum CssAsk {
     /// `CSS.getMatchedStylesForNode`: the node is named by its id.
     GetMatchedStyles { node: u64 },

@@ -6,7 +6,7 @@ use cdp_messages::{Command, Text, TextEdits};
 use css_objects::SourceRange;
 
 /// A command of the domain CSS that edits sheets, with its parameters, as they stand in the command.
-#[derive(Drop, Debug)]
+#[derive(Drop)]
 pub enum CssEdit {
     /// `CSS.setStyleTexts`
     SetStyleTexts {

@@ -3,7 +3,7 @@ ghost use Rattle.std.specs.Prelude.{◌≡◌, length};
 use std::marker::Model;
 
 /// A list in a message's object, which contracts see as the list.
-#[derive(Drop, Debug)]
+#[derive(Drop)]
 pub struct Listed<T> {
     items: Vec<T>,
 }

@@ -5,12 +5,12 @@ ghost use Rattle.cdp_json.specs.Left.{left};
 ghost use Rattle.cdp_json.specs.Rows.{left_with, need, may};
 ghost use Rattle.css_objects.specs.Ranges.{range_kind};
 
-use cdp_json::{Cursor, object};
+use cdp_json::{Cursor, ObjectBuilder};
 use serde_json::Value;
 use std::alloc::{AllocError, Global};
 
 /// A range of a sheet's text (`CSS.SourceRange`): lines and columns from 0, a column in UTF-16 units, the end left out.
-#[derive(Clone, Copy, PartialEq, Eq, Debug, Drop)]
+#[derive(Clone, Copy, Drop)]
 pub struct SourceRange {
     pub start_line: u64,
     pub start_column: u64,
@@ -42,13 +42,12 @@ pub fn range_of(value: &Value) -> Option<SourceRange>
 pub fn range_value(alloc: Global, range: SourceRange) -> Result<Value, AllocError>
     ensures { IfOk result (λ v. view v ≡ range_kind.spell range) }
 {
-    let fields = vec![in alloc;
-        ("endColumn", Some(Value::from(range.end_column))),
-        ("endLine", Some(Value::from(range.end_line))),
-        ("startColumn", Some(Value::from(range.start_column))),
-        ("startLine", Some(Value::from(range.start_line))),
-    ]?;
-    object(alloc, fields)
+    ObjectBuilder::new(alloc)
+        .with_value("endColumn", Value::from(range.end_column))?
+        .with_value("endLine", Value::from(range.end_line))?
+        .with_value("startColumn", Value::from(range.start_column))?
+        .with_value("startLine", Value::from(range.start_line))?
+        .build()
 }
 
 pub(crate) fn range_field(fields: &mut Cursor<'_>) -> Option<SourceRange>

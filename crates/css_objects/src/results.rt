@@ -14,7 +14,7 @@ use crate::listed::Listed;
 use crate::rules::{Rule, rule_of, rule_value};
 use crate::selectors::{RuleSelectors, selectors_of, selectors_value};
 use crate::styles::{Style, rule_style_of, style_value};
-use cdp_json::{Cursor, list_of, object, text_of};
+use cdp_json::{Cursor, ObjectBuilder, list_of, text_of};
 use node_tree::Text;
 use serde_json::Value;
 use std::alloc::{AllocError, Global};
@@ -32,8 +32,7 @@ fn sole_field<'a>(value: &'a Value, name: &str) -> Option<&'a Value>
 fn object_with(alloc: Global, name: &str, value: Value) -> Result<Value, AllocError>
     ensures { IfOk result (λ v. view v ≡ object_of_members (member name.now (view value) no_members)) }
 {
-    let fields = vec![in alloc; (name, Some(value))]?;
-    object(alloc, fields)
+    ObjectBuilder::new(alloc).with_value(name, value)?.build()
 }
 
 fn style_items(alloc: Global, items: &[Value]) -> Result<Option<Vec<Style>>, AllocError>

@@ -12,12 +12,12 @@ use crate::listed::Listed;
 use crate::selectors::{RuleSelectors, selectors_of, selectors_value};
 use crate::sheets::{SheetOrigin, origin_field, origin_value, sheet_field, sheet_value};
 use crate::styles::{Style, inline_style_of, rule_style_of, style_value};
-use cdp_json::{Cursor, object, whole_list, wholes_of};
+use cdp_json::{Cursor, ObjectBuilder, whole_list, wholes_of};
 use serde_json::Value;
 use std::alloc::{AllocError, Global};
 
 /// A style rule of a sheet (`CSS.CSSRule`).
-#[derive(Drop, Debug)]
+#[derive(Drop)]
 pub struct Rule {
     pub origin: SheetOrigin,
     pub selectors: RuleSelectors,
@@ -27,7 +27,7 @@ pub struct Rule {
 }
 
 /// A rule that matches an element (`CSS.RuleMatch`).
-#[derive(Drop, Debug)]
+#[derive(Drop)]
 pub struct RuleMatch {
     /// The places, from 0, of the selectors that match; they ascend.
     pub matching: Listed<u64>,
@@ -35,7 +35,7 @@ pub struct RuleMatch {
 }
 
 /// What an ancestor of an element has (`CSS.InheritedStyleEntry`).
-#[derive(Drop, Debug)]
+#[derive(Drop)]
 pub struct Inherited {
     /// Its `style` attribute, where it has one.
     pub inline: Option<Style>,
@@ -43,7 +43,7 @@ pub struct Inherited {
 }
 
 /// What gives an element its style: the result of `CSS.getMatchedStylesForNode`.
-#[derive(Drop, Debug)]
+#[derive(Drop)]
 pub struct Matched {
     /// The element's `style` attribute, where it has one.
     pub inline: Option<Style>,
@@ -110,17 +110,12 @@ pub fn rule_of(alloc: Global, value: &Value) -> Result<Option<Rule>, AllocError>
 pub fn rule_value(alloc: Global, rule: &Rule) -> Result<Value, AllocError>
     ensures { IfOk result (λ v. view v ≡ rule_kind.spell rule.now) }
 {
-    let origin = origin_value(alloc, rule.origin)?;
-    let selectors = selectors_value(alloc, &rule.selectors)?;
-    let style = style_value(alloc, &rule.style)?;
-    let sheet = sheet_value(alloc, rule.sheet)?;
-    let fields = vec![in alloc;
-        ("origin", Some(origin)),
-        ("selectorList", Some(selectors)),
-        ("style", Some(style)),
-        ("styleSheetId", Some(sheet)),
-    ]?;
-    object(alloc, fields)
+    ObjectBuilder::new(alloc)
+        .with_value("origin", origin_value(alloc, rule.origin)?)?
+        .with_value("selectorList", selectors_value(alloc, &rule.selectors)?)?
+        .with_value("style", style_value(alloc, &rule.style)?)?
+        .with_value("styleSheetId", sheet_value(alloc, rule.sheet)?)?
+        .build()
 }
 
 fn ascend(numbers: &[u64]) -> bool
@@ -189,10 +184,13 @@ pub fn match_of(alloc: Global, value: &Value) -> Result<Option<RuleMatch>, Alloc
 pub fn match_value(alloc: Global, found: &RuleMatch) -> Result<Value, AllocError>
     ensures { IfOk result (λ v. view v ≡ match_kind.spell found.now) }
 {
-    let matching = whole_list(alloc, found.matching.as_slice())?;
-    let rule = rule_value(alloc, &found.rule)?;
-    let fields = vec![in alloc; ("matchingSelectors", Some(matching)), ("rule", Some(rule))]?;
-    object(alloc, fields)
+    ObjectBuilder::new(alloc)
+        .with_value(
+            "matchingSelectors",
+            whole_list(alloc, found.matching.as_slice())?,
+        )?
+        .with_value("rule", rule_value(alloc, &found.rule)?)?
+        .build()
 }
 
 fn match_items(alloc: Global, items: &[Value]) -> Result<Option<Vec<RuleMatch>>, AllocError>
@@ -288,10 +286,13 @@ pub fn inherited_of(alloc: Global, value: &Value) -> Result<Option<Inherited>, A
 pub fn inherited_value(alloc: Global, entry: &Inherited) -> Result<Value, AllocError>
     ensures { IfOk result (λ v. view v ≡ inherited_kind.spell entry.now) }
 {
-    let inline = inline_if_any_value(alloc, &entry.inline)?;
-    let rules = match_list(alloc, entry.rules.as_slice())?;
-    let fields = vec![in alloc; ("inlineStyle", inline), ("matchedCSSRules", Some(rules))]?;
-    object(alloc, fields)
+    ObjectBuilder::new(alloc)
+        .with("inlineStyle", inline_if_any_value(alloc, &entry.inline)?)?
+        .with_value(
+            "matchedCSSRules",
+            match_list(alloc, entry.rules.as_slice())?,
+        )?
+        .build()
 }
 
 fn inherited_items(alloc: Global, items: &[Value]) -> Result<Option<Vec<Inherited>>, AllocError>
@@ -365,13 +366,15 @@ pub fn matched_of(alloc: Global, value: &Value) -> Result<Option<Matched>, Alloc
 pub fn matched_value(alloc: Global, matched: &Matched) -> Result<Value, AllocError>
     ensures { IfOk result (λ v. view v ≡ matched_kind.spell matched.now) }
 {
-    let inherited = inherited_list(alloc, matched.inherited.as_slice())?;
-    let inline = inline_if_any_value(alloc, &matched.inline)?;
-    let rules = match_list(alloc, matched.rules.as_slice())?;
-    let fields = vec![in alloc;
-        ("inherited", Some(inherited)),
-        ("inlineStyle", inline),
-        ("matchedCSSRules", Some(rules)),
-    ]?;
-    object(alloc, fields)
+    ObjectBuilder::new(alloc)
+        .with_value(
+            "inherited",
+            inherited_list(alloc, matched.inherited.as_slice())?,
+        )?
+        .with("inlineStyle", inline_if_any_value(alloc, &matched.inline)?)?
+        .with_value(
+            "matchedCSSRules",
+            match_list(alloc, matched.rules.as_slice())?,
+        )?
+        .build()
 }

@@ -8,13 +8,13 @@ ghost use Rattle.css_objects.specs.Selectors.{weight_kind, selector_kind, select
 
 use crate::listed::Listed;
 use crate::ranges::{SourceRange, range_field, range_value};
-use cdp_json::{Cursor, object};
+use cdp_json::{Cursor, ObjectBuilder};
 use node_tree::Text;
 use serde_json::Value;
 use std::alloc::{AllocError, Global};
 
 /// How specific a selector is (Selectors 4, section 17; `CSS.Specificity`).
-#[derive(Clone, Copy, PartialEq, Eq, Debug, Drop)]
+#[derive(Clone, Copy, Drop)]
 pub struct Weight {
     pub a: u64,
     pub b: u64,
@@ -22,7 +22,7 @@ pub struct Weight {
 }
 
 /// One selector of a rule (`CSS.Value`).
-#[derive(Drop, Debug)]
+#[derive(Drop)]
 pub struct SelectorValue {
     pub range: SourceRange,
     pub weight: Weight,
@@ -30,7 +30,7 @@ pub struct SelectorValue {
 }
 
 /// The selectors of a rule, and its whole prelude as text (`CSS.SelectorList`).
-#[derive(Drop, Debug)]
+#[derive(Drop)]
 pub struct RuleSelectors {
     pub selectors: Listed<SelectorValue>,
     pub text: Text,
@@ -60,12 +60,11 @@ fn weight_field(fields: &mut Cursor<'_>) -> Option<Weight>
 fn weight_value(alloc: Global, weight: Weight) -> Result<Value, AllocError>
     ensures { IfOk result (λ v. view v ≡ weight_kind.spell weight) }
 {
-    let fields = vec![in alloc;
-        ("a", Some(Value::from(weight.a))),
-        ("b", Some(Value::from(weight.b))),
-        ("c", Some(Value::from(weight.c))),
-    ]?;
-    object(alloc, fields)
+    ObjectBuilder::new(alloc)
+        .with_value("a", Value::from(weight.a))?
+        .with_value("b", Value::from(weight.b))?
+        .with_value("c", Value::from(weight.c))?
+        .build()
 }
 
 /// `None` where the value is no selector.
@@ -100,15 +99,11 @@ pub fn selector_of(alloc: Global, value: &Value) -> Result<Option<SelectorValue>
 pub fn selector_value(alloc: Global, selector: &SelectorValue) -> Result<Value, AllocError>
     ensures { IfOk result (λ v. view v ≡ selector_kind.spell selector.now) }
 {
-    let range = range_value(alloc, selector.range)?;
-    let weight = weight_value(alloc, selector.weight)?;
-    let text = Value::try_from_str(alloc, selector.text.as_str())?;
-    let fields = vec![in alloc;
-        ("range", Some(range)),
-        ("specificity", Some(weight)),
-        ("text", Some(text)),
-    ]?;
-    object(alloc, fields)
+    ObjectBuilder::new(alloc)
+        .with_value("range", range_value(alloc, selector.range)?)?
+        .with_value("specificity", weight_value(alloc, selector.weight)?)?
+        .with_text("text", selector.text.as_str())?
+        .build()
 }
 
 fn selector_items(alloc: Global, items: &[Value]) -> Result<Option<Vec<SelectorValue>>, AllocError>
@@ -176,8 +171,11 @@ pub fn selectors_of(alloc: Global, value: &Value) -> Result<Option<RuleSelectors
 pub fn selectors_value(alloc: Global, selectors: &RuleSelectors) -> Result<Value, AllocError>
     ensures { IfOk result (λ v. view v ≡ selectors_kind.spell selectors.now) }
 {
-    let list = selector_list(alloc, selectors.selectors.as_slice())?;
-    let text = Value::try_from_str(alloc, selectors.text.as_str())?;
-    let fields = vec![in alloc; ("selectors", Some(list)), ("text", Some(text))]?;
-    object(alloc, fields)
+    ObjectBuilder::new(alloc)
+        .with_value(
+            "selectors",
+            selector_list(alloc, selectors.selectors.as_slice())?,
+        )?
+        .with_text("text", selectors.text.as_str())?
+        .build()
 }

@@ -5,12 +5,12 @@ ghost use Rattle.cdp_json.specs.Left.{left};
 ghost use Rattle.cdp_json.specs.Rows.{left_with, need, may};
 ghost use Rattle.css_objects.specs.Sheets.{sheet_text, sheet_in, sheet_kind, origin_name, origin_named, origin_kind, header_kind};
 
-use cdp_json::{Cursor, object, text_of};
+use cdp_json::{Cursor, ObjectBuilder, text_of};
 use serde_json::Value;
 use std::alloc::{AllocError, Global};
 
 /// Where a sheet comes from (`CSS.StyleSheetOrigin`).
-#[derive(Clone, Copy, PartialEq, Eq, Debug, Drop)]
+#[derive(Clone, Copy, Drop)]
 pub enum SheetOrigin {
     UserAgent,
     Regular,
@@ -29,7 +29,7 @@ impl SheetOrigin {
 }
 
 /// What is told of a sheet as it comes (`CSS.CSSStyleSheetHeader`).
-#[derive(Clone, Copy, PartialEq, Eq, Debug, Drop)]
+#[derive(Clone, Copy, Drop)]
 pub struct Header {
     /// The length of the sheet's text, in UTF-16 units.
     pub length: u64,
@@ -166,12 +166,9 @@ pub fn header_of(value: &Value) -> Option<Header>
 pub fn header_value(alloc: Global, header: Header) -> Result<Value, AllocError>
     ensures { IfOk result (λ v. view v ≡ header_kind.spell header) }
 {
-    let origin = origin_value(alloc, header.origin)?;
-    let sheet = sheet_value(alloc, header.sheet)?;
-    let fields = vec![in alloc;
-        ("length", Some(Value::from(header.length))),
-        ("origin", Some(origin)),
-        ("styleSheetId", Some(sheet)),
-    ]?;
-    object(alloc, fields)
+    ObjectBuilder::new(alloc)
+        .with_value("length", Value::from(header.length))?
+        .with_value("origin", origin_value(alloc, header.origin)?)?
+        .with_value("styleSheetId", sheet_value(alloc, header.sheet)?)?
+        .build()
 }

@@ -11,13 +11,13 @@ ghost use Rattle.css_objects.specs.Styles.{is_in_sheet, inline_kind, rule_style_
 use crate::listed::Listed;
 use crate::ranges::{SourceRange, range_if_any, range_if_any_value};
 use crate::sheets::{sheet_if_any, sheet_if_any_value};
-use cdp_json::{Cursor, list_of, object};
+use cdp_json::{Cursor, ObjectBuilder, list_of};
 use node_tree::Text;
 use serde_json::Value;
 use std::alloc::{AllocError, Global};
 
 /// A declaration (`CSS.CSSProperty`).
-#[derive(Drop, Debug)]
+#[derive(Drop)]
 pub struct StyleProperty {
     pub name: Text,
     pub value: Text,
@@ -29,7 +29,7 @@ pub struct StyleProperty {
 }
 
 /// The declarations of a rule or of a `style` attribute (`CSS.CSSStyle`).
-#[derive(Drop, Debug)]
+#[derive(Drop)]
 pub struct Style {
     pub properties: Listed<StyleProperty>,
     /// The text of the body.
@@ -85,19 +85,13 @@ fn true_if(holds: bool) -> Option<Value>
 pub fn property_value(alloc: Global, property: &StyleProperty) -> Result<Value, AllocError>
     ensures { IfOk result (λ v. view v ≡ property_kind.spell property.now) }
 {
-    let important = true_if(property.important);
-    let name = Value::try_from_str(alloc, property.name.as_str())?;
-    let range = range_if_any_value(alloc, property.range)?;
-    let text = Value::try_from_str(alloc, property.text.as_str())?;
-    let value = Value::try_from_str(alloc, property.value.as_str())?;
-    let fields = vec![in alloc;
-        ("important", important),
-        ("name", Some(name)),
-        ("range", range),
-        ("text", Some(text)),
-        ("value", Some(value)),
-    ]?;
-    object(alloc, fields)
+    ObjectBuilder::new(alloc)
+        .with("important", true_if(property.important))?
+        .with_text("name", property.name.as_str())?
+        .with("range", range_if_any_value(alloc, property.range)?)?
+        .with_text("text", property.text.as_str())?
+        .with_text("value", property.value.as_str())?
+        .build()
 }
 
 fn property_items(alloc: Global, items: &[Value]) -> Result<Option<Vec<StyleProperty>>, AllocError>
@@ -261,16 +255,14 @@ pub fn rule_style_of(alloc: Global, value: &Value) -> Result<Option<Style>, Allo
 pub fn style_value(alloc: Global, style: &Style) -> Result<Value, AllocError>
     ensures { IfOk result (λ v. view v ≡ style_kind.spell style.now) }
 {
-    let properties = property_list(alloc, style.properties.as_slice())?;
-    let text = Value::try_from_str(alloc, style.text.as_str())?;
-    let range = range_if_any_value(alloc, style.range)?;
-    let sheet = sheet_if_any_value(alloc, style.sheet)?;
-    let fields = vec![in alloc;
-        ("cssProperties", Some(properties)),
-        ("cssText", Some(text)),
-        ("range", range),
-        ("shorthandEntries", Some(Value::Array(Vec::new(alloc)))),
-        ("styleSheetId", sheet),
-    ]?;
-    object(alloc, fields)
+    ObjectBuilder::new(alloc)
+        .with_value(
+            "cssProperties",
+            property_list(alloc, style.properties.as_slice())?,
+        )?
+        .with_text("cssText", style.text.as_str())?
+        .with("range", range_if_any_value(alloc, style.range)?)?
+        .with_value("shorthandEntries", Value::Array(Vec::new(alloc)))?
+        .with("styleSheetId", sheet_if_any_value(alloc, style.sheet)?)?
+        .build()
 }

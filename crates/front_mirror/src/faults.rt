@@ -5,7 +5,7 @@ use std::alloc::AllocError;
 use thiserror::Error;
 
 /// Why a message is refused.
-#[derive(Clone, Copy, PartialEq, Eq, Debug)]
+#[derive(Clone, Copy, Debug)]
 pub enum FrontKind {
     /// The frame is no message, a result is not of the method that was asked, or a reply answers no ask that waits.
     NotMessage,
@@ -22,7 +22,7 @@ pub enum FrontKind {
 }
 
 /// A message that is refused, by its place among all messages that came, counted from 1.
-#[derive(Clone, Copy, PartialEq, Eq, Debug)]
+#[derive(Clone, Copy, Debug)]
 pub struct FrontFault {
     pub place: u64,
     pub kind: FrontKind,

@@ -13,7 +13,7 @@ use crate::known::Known;
 use crate::mirror::Mirror;
 use crate::pauses::SeenPause;
 use crate::replies::{Ask, Kept, matched_in};
-use cdp_json::object;
+use cdp_json::ObjectBuilder;
 use cdp_messages::write_command;
 use css_objects::{Matched, SheetOrigin, sheet_value};
 use node_tree::Text;
@@ -72,9 +72,9 @@ fn fetch_frame(alloc: Global, id: u64, sheet: u64) -> Result<Vec<u8>, AllocError
     ensures { IfOk result (λ frame. frame.items ≡ framed (command_text id (codes "CSS.getStyleSheetText")
         (Some (fetch_params sheet)) None)) }
 {
-    let number = sheet_value(alloc, sheet)?;
-    let fields = vec![in alloc; ("styleSheetId", Some(number))]?;
-    let params = object(alloc, fields)?;
+    let params = ObjectBuilder::new(alloc)
+        .with_value("styleSheetId", sheet_value(alloc, sheet)?)?
+        .build()?;
     let mut frame = Vec::new(alloc);
     write_command(alloc, id, FETCH, Some(&params), None, &mut frame)?;
     Ok(frame)

@@ -4,7 +4,7 @@ ghost use Rattle.front_mirror.specs.Front.{seen_pause};
 use cdp_messages::{PauseData, WatchWord};
 
 /// A pause that came. Nodes are named by their ids.
-#[derive(Clone, Copy, PartialEq, Eq, Debug)]
+#[derive(Clone, Copy)]
 pub struct SeenPause {
     /// What is watched.
     pub kind: WatchWord,

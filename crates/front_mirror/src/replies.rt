@@ -5,7 +5,7 @@ use css_objects::Matched;
 use node_tree::Text;
 
 /// An ask that waits for its reply.
-#[derive(Drop, Debug)]
+#[derive(Drop)]
 pub struct Ask {
     pub id: u64,
     pub method: Text,
@@ -14,7 +14,7 @@ pub struct Ask {
 }
 
 /// A reply that came.
-#[derive(Drop, Debug)]
+#[derive(Drop)]
 pub struct Kept {
     /// The id of the ask that it answers, none where the back end read no id.
     pub id: Option<u64>,
@@ -27,7 +27,7 @@ pub struct Kept {
 }
 
 /// A reply that told matched styles (`CSS.getMatchedStylesForNode`).
-#[derive(Drop, Debug)]
+#[derive(Drop)]
 pub struct MatchedReply {
     /// The id of the ask that it answers.
     pub ask: u64,

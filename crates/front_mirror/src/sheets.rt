@@ -11,7 +11,7 @@ use std::alloc::{AllocError, Global};
 use std::marker::Model;
 
 /// A sheet, with its text where a reply gave one.
-#[derive(Drop, Debug)]
+#[derive(Drop)]
 pub(crate) struct KnownSheet {
     pub(crate) number: u64,
     pub(crate) origin: SheetOrigin,

@@ -7,7 +7,7 @@ use replay_script::{LineFault, fault_name};
 use std::alloc::{AllocError, Global};
 
 /// How a run of `inspect` ended.
-#[derive(Debug, Drop)]
+#[derive(Drop)]
 pub enum Status {
     /// The whole input was read and every line was carried out.
     Done,

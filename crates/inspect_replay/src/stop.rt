@@ -7,7 +7,7 @@ use replay_script::LineFault;
 use std::alloc::AllocError;
 
 /// Why a run stopped before its end.
-#[derive(Debug, Drop)]
+#[derive(Drop)]
 pub(crate) enum Stop {
     Line { number: u64, fault: LineFault },
     TooLong,

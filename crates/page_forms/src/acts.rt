@@ -71,7 +71,7 @@ pub enum Act {
 }
 
 /// Why a value is read as no act.
-#[derive(Clone, Copy, PartialEq, Eq, Debug, Error)]
+#[derive(Clone, Copy, Debug, Error)]
 pub enum ActErr {
     /// The value has none of the forms of an act.
     #[error("the act has not its form")]

@@ -40,7 +40,7 @@ fn scan_attributes(alloc: Global, reader: &mut Reader<'_>) -> Result<Attributes,
 }
 
 // What comes next in the object of an element, behind its name.
-#[derive(Clone, Copy, PartialEq, Eq)]
+#[derive(Clone, Copy)]
 enum Next {
     Attributes,
     Children,

@@ -7,7 +7,7 @@ use std::alloc::{AllocError, AllocFailed};
 use thiserror::Error;
 
 /// Why a page is not read off its tokens.
-#[derive(Clone, Copy, PartialEq, Eq, Debug, Error)]
+#[derive(Clone, Copy, Debug, Error)]
 pub enum ScanErr {
     /// They are not of the usual form. They may spell a page all the same, or one that is refused.
     #[error("the page is not in its usual form")]

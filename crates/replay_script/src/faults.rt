@@ -6,7 +6,7 @@ use std::alloc::AllocError;
 use thiserror::Error;
 
 /// Why a line is refused. The first that applies is answered, in the order NotJson, NotLoad, BadForm, NotBuilt, BadLoad, BadRaw, NoStyles.
-#[derive(Clone, Copy, PartialEq, Eq, Debug, Error)]
+#[derive(Clone, Copy, Debug, Error)]
 pub enum LineFault {
     /// `serde_json` does not read the line; bytes that are not UTF-8 are no JSON.
     #[error("NotJson")]
@@ -31,7 +31,7 @@ pub enum LineFault {
     NotBuilt,
 }
 
-#[derive(Clone, Copy, PartialEq, Eq, Debug, Error)]
+#[derive(Clone, Copy, Debug, Error)]
 pub enum LineErr {
     #[error(transparent)]
     Fault(LineFault),

@@ -11,7 +11,7 @@ use cdp_json::Cursor;
 use serde_json::Value;
 
 /// The kinds of lines: each is told by the name of its one property, but for a show of styles, which has two.
-#[derive(Clone, Copy, PartialEq, Eq, Debug)]
+#[derive(Clone, Copy)]
 pub enum LineKind {
     /// `load`
     Load,

@@ -1,12 +1,8 @@
-use Rattle.std.proofs.Common.{◌≡◌, string_bytes, ap, ◌∙◌, rules}
-use Rattle.serde_json.specs.Data.{put}
+use Rattle.std.proofs.Common.{◌≡◌, ap, ◌∙◌}
 use Rattle.serde_json.specs.View.{view, members_view}
 use Rattle.serde_json.proofs.Views.{members_view-insert_entry}
 use Rattle.cdp_json.proofs.write.put.Goals as goal
 
-pub returns-clause-ok : goal.returns-clause-ok
-returns-clause-ok c =
-    let old = c.args.object.now.entries in
-    let copied : string_bytes c.in_ok-key.key ≡ c.args.name.now = search rules in
-    ap members_view c.in_ok-insert.ensures.entries ∙ members_view-insert_entry old c.in_ok-key.key c.args.value ∙ ap
-    (λ k. put k (view c.args.value) (members_view old)) copied
+pub returns : goal.returns
+returns c = ap members_view c.in_ok-insert.ensures.entries
+    ∙ members_view-insert_entry c.args.object.now.entries c.args.name c.args.value
