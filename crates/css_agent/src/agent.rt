@@ -93,7 +93,7 @@ impl CssAgent {
             ≡ out.old.items ++ frames_of_moves (answer_move id (css_outcome page.now.tree book.now node ask.now) ∷ [])) }
     {
         let outcome = css_outcome(self.alloc, page, book, node, ask)?;
-        answer(self.alloc, id, &outcome, out)
+        answer(self.alloc, id, outcome, out)
     }
 
     /// Carries the edit out, and appends what tells of it: a `CSS.styleSheetChanged` for each splice, and the reply to the command
@@ -116,7 +116,7 @@ impl CssAgent {
             Ok(done) => done,
             Err(stop) => return Err(stop),
         };
-        tell_edit(self.alloc, id, done.backs.as_slice(), &done.body, out)?;
+        tell_edit(self.alloc, id, done.backs.as_slice(), done.body, out)?;
         Ok(done.backs)
     }
 }

@@ -50,23 +50,15 @@ pub(crate) fn tell_sheets_if(
 pub(crate) fn answer(
     alloc: Global,
     id: u64,
-    outcome: &Result<ReplyBody, Why>,
+    outcome: Result<ReplyBody, Why>,
     out: &mut Vec<u8>,
 ) -> Result<(), AllocError>
-    ensures { OnOk result (out.new.items ≡ out.old.items ++ frames_of_moves (answer_move id outcome.now ∷ [])) }
+    ensures { OnOk result (out.new.items ≡ out.old.items ++ frames_of_moves (answer_move id outcome ∷ [])) }
 {
     match outcome {
-        Ok(body) => write_reply(alloc, id, body, out)?,
-        Err(why) => write_refused(
-            alloc,
-            &Refused {
-                id: Some(id),
-                why: *why,
-            },
-            out,
-        )?,
+        Ok(body) => tell_result(alloc, id, body, out),
+        Err(why) => write_refused(alloc, &Refused { id: Some(id), why }, out),
     }
-    Ok(())
 }
 
 fn tell_change(alloc: Global, sheet: u64, out: &mut Vec<u8>) -> Result<(), AllocError>
@@ -90,13 +82,12 @@ fn tell_changes(alloc: Global, backs: &[Splice], out: &mut Vec<u8>) -> Result<()
 fn tell_result(
     alloc: Global,
     id: u64,
-    body: &ReplyBody,
+    body: ReplyBody,
     out: &mut Vec<u8>,
 ) -> Result<(), AllocError>
-    ensures { OnOk result (out.new.items ≡ out.old.items ++ frames_of_moves (replied id body.now ∷ [])) }
+    ensures { OnOk result (out.new.items ≡ out.old.items ++ frames_of_moves (replied id body ∷ [])) }
 {
-    write_reply(alloc, id, body, out)?;
-    Ok(())
+    write_reply(alloc, id, &body, out)
 }
 
 /// Appends a `CSS.styleSheetChanged` for each splice, and the reply.
@@ -104,11 +95,11 @@ pub(crate) fn tell_edit(
     alloc: Global,
     id: u64,
     backs: &[Splice],
-    body: &ReplyBody,
+    body: ReplyBody,
     out: &mut Vec<u8>,
 ) -> Result<(), AllocError>
     ensures { OnOk result (out.new.items
-        ≡ (out.old.items ++ message_frames (map changed_message backs.now)) ++ frames_of_moves (replied id body.now ∷ [])) }
+        ≡ (out.old.items ++ message_frames (map changed_message backs.now)) ++ frames_of_moves (replied id body ∷ [])) }
 {
     tell_changes(alloc, backs, out)?;
     tell_result(alloc, id, body, out)

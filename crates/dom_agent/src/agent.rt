@@ -160,7 +160,7 @@ impl DomAgent {
         let mut openings = Vec::new(self.alloc);
         request_node(&self.binding, &found, levels, &mut openings)?;
         open_all(self.alloc, &mut self.binding, &openings, out)?;
-        reply(self.alloc, id, &ReplyBody::Nothing, out)?;
+        reply(self.alloc, id, ReplyBody::Nothing, out)?;
         Ok(())
     }
 
@@ -203,7 +203,7 @@ impl DomAgent {
     {
         open_above(self.alloc, &mut self.binding, page, serial, out)?;
         let node = self.binding.id_of(serial).unwrap_or(0);
-        reply(self.alloc, id, &ReplyBody::NodeId(node), out)?;
+        reply(self.alloc, id, ReplyBody::NodeId(node), out)?;
         Ok(())
     }
 
@@ -241,8 +241,7 @@ impl DomAgent {
             (all_pushed (binding_keeper (alone page.now.tree)) page.now.tree serials.now self.old))) }
     {
         let ids = push_all(self.alloc, &mut self.binding, page, serials, out)?;
-        let body = ReplyBody::NodeIds(Numbers::new(ids));
-        reply(self.alloc, id, &body, out)?;
+        reply(self.alloc, id, ReplyBody::NodeIds(Numbers::new(ids)), out)?;
         Ok(())
     }
 
@@ -285,7 +284,7 @@ impl DomAgent {
     {
         match first_match(&query.selectors, page, query.root) {
             Some(serial) => self.answer_pushed(page, id, serial, out),
-            None => reply(self.alloc, id, &ReplyBody::NodeId(0), out),
+            None => reply(self.alloc, id, ReplyBody::NodeId(0), out),
         }
     }
 
@@ -346,7 +345,7 @@ impl DomAgent {
             return refuse(self.alloc, id, Why::NotElement, out);
         }
         let attributes = found.attributes().try_clone(self.alloc)?;
-        reply(self.alloc, id, &ReplyBody::Attributes(attributes), out)
+        reply(self.alloc, id, ReplyBody::Attributes(attributes), out)
     }
 
     /// The node that an id names, or else a serial.
@@ -493,12 +492,11 @@ fn levels_asked(depth: Option<i64>) -> Option<u64>
 }
 
 /// Appends the reply, whose result tells no document.
-fn reply(alloc: Global, id: u64, body: &ReplyBody, out: &mut Vec<u8>) -> Result<(), AllocError>
+fn reply(alloc: Global, id: u64, body: ReplyBody, out: &mut Vec<u8>) -> Result<(), AllocError>
     ensures { OnOk result
-        (out.new.items ≡ out.old.items ++ frames_of_moves (replied id body.now ∷ [])) }
+        (out.new.items ≡ out.old.items ++ frames_of_moves (replied id body ∷ [])) }
 {
-    write_reply(alloc, id, body, out)?;
-    Ok(())
+    write_reply(alloc, id, &body, out)
 }
 
 fn refuse(alloc: Global, id: u64, why: Why, out: &mut Vec<u8>) -> Result<(), AllocError>
