@@ -149,13 +149,18 @@ fn there_and_back(
 {
     let before = outline(alloc, page);
     if both_ways(page, edit, answer)? {
-        let after = outline(alloc, page);
-        answer.push(if before.as_slice()? == after.as_slice()? {
-            " and back"
-        } else {
-            " and not back"
-        });
+        return push_is_back(&before, &outline(alloc, page), answer);
     }
+    Ok(())
+}
+
+/// Whether two outlines are the same.
+fn push_is_back(before: &Answer, after: &Answer, answer: &mut Answer) -> Result<(), AllocError> {
+    answer.push(if before.as_slice()? == after.as_slice()? {
+        " and back"
+    } else {
+        " and not back"
+    });
     Ok(())
 }
 

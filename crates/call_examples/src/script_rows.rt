@@ -80,7 +80,15 @@ fn push_later(alloc: Global, line: &str, answer: &mut Answer) -> Result<(), Allo
 /// Adds the bytes that a list holds.
 fn push_bytes(items: &[Value], bytes: &mut Vec<u8>) -> Result<(), AllocError> {
     for item in items {
-        bytes.push(item.as_u64().unwrap_or(0) as u8)?;
+        bytes.push(byte_of(item))?;
     }
     Ok(())
+}
+
+/// The byte that a number is; 0 where it is none.
+fn byte_of(number: &Value) -> u8 {
+    match u8::try_from(number.as_u64().unwrap_or(0)) {
+        Ok(byte) => byte,
+        Err(_) => 0,
+    }
 }
