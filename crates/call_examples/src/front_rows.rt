@@ -3,45 +3,28 @@
 // `ask` with a method tells the frame of its first ask. `fold` with a list tells the faults of a front end that asked for the
 // document and for the children of a node, and then took what the list holds; below them its outline, and how many pauses it saw. An
 // item is a message, or a list of a number and a message, which comes in two pieces that are cut at that byte.
-use crate::row_parts::{
-    first_word, items_of, misspelt, number_at, value_at, value_of, without_zero,
-};
+use crate::row_parts::{Answer, number_or_zero, values_from};
 use front_mirror::{Front, FrontErr, FrontKind, write_outline};
 use serde_json::Value;
 use std::alloc::{AllocError, Global};
-use std::io;
 
-/// What a row comes to.
-pub fn told(alloc: Global, row: &str) -> io::Result<Vec<u8>> {
-    let (word, rest) = first_word(row);
-    match word {
-        "ask" => Ok(first_ask(alloc, rest)?),
-        "fold" => fold(alloc, items_of(&value_of(alloc, rest)?)?),
-        _ => Err(misspelt()),
-    }
-}
-
-/// The frame of the first ask.
-fn first_ask(alloc: Global, method: &str) -> Result<Vec<u8>, AllocError> {
+/// The frame of the first ask with this method.
+pub(crate) fn told_ask(alloc: Global, method: &str, answer: &mut Answer) -> Result<(), AllocError> {
     let mut front = Front::new(alloc)?;
     let frame = front.ask(method, None, None)?;
-    Ok(without_zero(frame))
+    answer.push_bytes(frame.as_slice());
+    answer.drop_zero();
+    Ok(())
 }
 
-/// What a front end says of the messages, and shows then.
-fn fold(alloc: Global, messages: &[Value]) -> io::Result<Vec<u8>> {
+/// What a front end says of a list of messages, and shows then.
+pub(crate) fn told(alloc: Global, messages: &Value, answer: &mut Answer) -> Result<(), AllocError> {
     let mut front = asking(alloc)?;
-    let mut out = Vec::new(alloc);
-    for message in messages {
-        match message.as_array() {
-            Some(parts) => take_cut(alloc, &mut front, parts.as_slice(), &mut out)?,
-            None => take(&mut front, frame_of(alloc, message)?.as_slice(), &mut out)?,
-        }
-    }
-    write_outline(alloc, front.mirror(), &mut out)?;
-    let pauses = front.pauses().len();
-    out.extend_from_slice(format!(in alloc; "{pauses} pauses\n")?.as_bytes())?;
-    Ok(out)
+    take_all(alloc, &mut front, values_from(messages, 0), answer)?;
+    write_outline(alloc, front.mirror(), answer.bytes())?;
+    answer.push_number(front.pauses().len() as u64);
+    answer.push(" pauses\n");
+    Ok(())
 }
 
 /// A front that asked for the document and for the children of a node.
@@ -52,6 +35,35 @@ fn asking(alloc: Global) -> Result<Front, AllocError> {
     Ok(front)
 }
 
+/// Takes the messages.
+fn take_all(
+    alloc: Global,
+    front: &mut Front,
+    messages: &[Value],
+    answer: &mut Answer,
+) -> Result<(), AllocError> {
+    for message in messages {
+        take_message(alloc, front, message, answer)?;
+    }
+    Ok(())
+}
+
+/// Takes a message, or a message in two pieces.
+fn take_message(
+    alloc: Global,
+    front: &mut Front,
+    message: &Value,
+    answer: &mut Answer,
+) -> Result<(), AllocError> {
+    match message.get(1) {
+        Some(whole) => {
+            let place = number_or_zero(message, 0) as usize;
+            take_cut(front, frame_of(alloc, whole)?.as_slice(), place, answer)
+        }
+        None => take(front, frame_of(alloc, message)?.as_slice(), answer),
+    }
+}
+
 /// A message with its zero byte.
 fn frame_of(alloc: Global, message: &Value) -> Result<Vec<u8>, AllocError> {
     let mut frame = message.to_string(alloc)?.into_bytes();
@@ -59,30 +71,30 @@ fn frame_of(alloc: Global, message: &Value) -> Result<Vec<u8>, AllocError> {
     Ok(frame)
 }
 
-/// Takes a message in two pieces.
+/// Takes a frame in two pieces, which is cut at this place.
 fn take_cut(
-    alloc: Global,
     front: &mut Front,
-    parts: &[Value],
-    out: &mut Vec<u8>,
-) -> io::Result<()> {
-    let frame = frame_of(alloc, value_at(parts, 1)?)?;
-    let Ok(place) = usize::try_from(number_at(parts, 0)?) else {
-        return Err(misspelt());
-    };
-    let Some((head, tail)) = frame.as_slice().split_at_checked(place) else {
-        return Err(misspelt());
-    };
-    take(front, head, out)?;
-    take(front, tail, out)?;
-    Ok(())
+    frame: &[u8],
+    place: usize,
+    answer: &mut Answer,
+) -> Result<(), AllocError> {
+    match frame.split_at_checked(place) {
+        Some((head, tail)) => {
+            take(front, head, answer)?;
+            take(front, tail, answer)
+        }
+        None => Ok(()),
+    }
 }
 
 /// Takes a piece, and appends the fault, if there is one.
-fn take(front: &mut Front, piece: &[u8], out: &mut Vec<u8>) -> Result<(), AllocError> {
+fn take(front: &mut Front, piece: &[u8], answer: &mut Answer) -> Result<(), AllocError> {
     match front.take(piece) {
         Ok(()) => Ok(()),
-        Err(FrontErr::Fault(fault)) => out.extend_from_slice(kind_word(fault.kind).as_bytes()),
+        Err(FrontErr::Fault(fault)) => {
+            answer.push(kind_word(fault.kind));
+            Ok(())
+        }
         Err(FrontErr::Memory) => Err(AllocError),
     }
 }

@@ -3,109 +3,117 @@
 // `replay` has a list of a script and of the numbers of the calls of the source, the sink and the link that fail; 0 is none. `deep`
 // has the number of levels of a page's elements, which is a script with a load alone. `words` has a list of a script and a list of the
 // program's words. `lie` has a list of a script, a place in what the link gives, and the byte that the link gives there instead.
-use crate::row_parts::{first_word, items_of, misspelt, number_at, text_at, value_at, value_of};
+use crate::row_parts::{Answer, list_at, number_or_zero, push_layers, text_or_empty};
 use cdp_json::texts_of;
 use inspect_replay::{exit_code, inspect, status_line};
 use pipe_frames::{Link, LyingLink, MemLink, MemSink, MemSource};
 use serde_json::Value;
 use std::alloc::{AllocError, Global};
-use std::io;
 
 /// What a row comes to.
-pub fn told(alloc: Global, row: &str) -> io::Result<Vec<u8>> {
-    let (word, rest) = first_word(row);
-    let value = value_of(alloc, rest)?;
+pub(crate) fn told(
+    alloc: Global,
+    word: &str,
+    args: &Value,
+    answer: &mut Answer,
+) -> Result<(), AllocError> {
     match word {
-        "replay" => replay(alloc, items_of(&value)?),
-        "deep" => deep(alloc, &value),
-        "words" => other_words(alloc, items_of(&value)?),
-        "lie" => lie(alloc, items_of(&value)?),
-        _ => Err(misspelt()),
+        "replay" => replay(alloc, args, answer),
+        "deep" => deep(alloc, args.as_u64().unwrap_or(0), answer),
+        "words" => other_words(alloc, args, answer),
+        _ => lie(alloc, args, answer),
     }
 }
 
 /// Replays over an honest link.
-fn replay(alloc: Global, items: &[Value]) -> io::Result<Vec<u8>> {
-    let input = text_at(items, 0)?.as_bytes();
-    let (source_fault, sink_fault) = (number_at(items, 1)?, number_at(items, 2)?);
-    let faults = Vec::from_slice(alloc, &[number_at(items, 3)?])?;
-    let mut link = MemLink::new(alloc, faults);
-    let words = one_word(alloc)?;
-    Ok(answer(alloc, &words, input, source_fault, sink_fault, &mut link)?)
+fn replay(alloc: Global, args: &Value, answer: &mut Answer) -> Result<(), AllocError> {
+    let faults = [number_or_zero(args, 1), number_or_zero(args, 2)];
+    let mut link = MemLink::new(alloc, Vec::from_slice(alloc, &[number_or_zero(args, 3)])?);
+    run(alloc, text_or_empty(args, 0), faults, &mut link, answer)
 }
 
-/// Replays a load of elements that stand in one another down to the level.
-fn deep(alloc: Global, level: &Value) -> io::Result<Vec<u8>> {
-    let Some(level) = level.as_u64() else {
-        return Err(misspelt());
-    };
-    let input = nested(alloc, level)?;
+/// Replays a load of elements that stand in one another down to the level, which is at least 1.
+fn deep(alloc: Global, level: u64, answer: &mut Answer) -> Result<(), AllocError> {
+    let mut input = String::new(alloc);
+    write_nested(&mut input, level)?;
     let mut link = MemLink::new(alloc, Vec::new(alloc));
-    let words = one_word(alloc)?;
-    Ok(answer(alloc, &words, input.as_slice(), 0, 0, &mut link)?)
+    run(alloc, input.as_str(), [0, 0], &mut link, answer)
+}
+
+/// Writes such a load.
+fn write_nested(out: &mut String, level: u64) -> Result<(), AllocError> {
+    out.push_str(r#"{"load":{"document":[{"e":"p""#)?;
+    push_layers(out, level.saturating_sub(1), r#","c":[{"e":"p""#, "", "}]")?;
+    out.push_str("}]}}")
 }
 
 /// What other words are answered.
-fn other_words(alloc: Global, items: &[Value]) -> io::Result<Vec<u8>> {
-    let input = text_at(items, 0)?.as_bytes();
-    let Some(words) = texts_of(alloc, items_of(value_at(items, 1)?)?)? else {
-        return Err(misspelt());
-    };
-    let mut link = MemLink::new(alloc, Vec::new(alloc));
-    Ok(answer(alloc, &words, input, 0, 0, &mut link)?)
+fn other_words(alloc: Global, args: &Value, answer: &mut Answer) -> Result<(), AllocError> {
+    match texts_of(alloc, list_at(args, 1))? {
+        Some(words) => {
+            let mut link = MemLink::new(alloc, Vec::new(alloc));
+            push_replay(
+                alloc,
+                words.as_slice(),
+                text_or_empty(args, 0),
+                [0, 0],
+                &mut link,
+                answer,
+            )
+        }
+        None => {
+            answer.push("misspelt");
+            Ok(())
+        }
+    }
 }
 
 /// The script over a link that lies at one place.
-fn lie(alloc: Global, items: &[Value]) -> io::Result<Vec<u8>> {
-    let input = text_at(items, 0)?.as_bytes();
-    let place = number_at(items, 1)?;
-    let Some(to) = text_at(items, 2)?.as_bytes().first() else {
-        return Err(misspelt());
+fn lie(alloc: Global, args: &Value, answer: &mut Answer) -> Result<(), AllocError> {
+    let to = match text_or_empty(args, 2).as_bytes().first() {
+        Some(byte) => *byte,
+        None => b'?',
     };
-    let mut link = LyingLink::new(alloc, place, *to);
-    let words = one_word(alloc)?;
-    Ok(answer(alloc, &words, input, 0, 0, &mut link)?)
+    let mut link = LyingLink::new(alloc, number_or_zero(args, 1), to);
+    run(alloc, text_or_empty(args, 0), [0, 0], &mut link, answer)
 }
 
-/// The word of a replay.
-fn one_word(alloc: Global) -> Result<Vec<String>, AllocError> {
+/// Runs the word of a replay.
+fn run<L: Link>(
+    alloc: Global,
+    input: &str,
+    faults: [u64; 2],
+    link: &mut L,
+    answer: &mut Answer,
+) -> Result<(), AllocError> {
     let mut words = Vec::new(alloc);
     words.push(String::from_str(alloc, "replay")?)?;
-    Ok(words)
+    push_replay(alloc, words.as_slice(), input, faults, link, answer)
 }
 
-/// A load of elements that stand in one another down to the level, which is at least 1.
-fn nested(alloc: Global, level: u64) -> Result<Vec<u8>, AllocError> {
-    let mut load = Vec::from_slice(alloc, b"{\"load\":{\"document\":[{\"e\":\"p\"")?;
-    for _ in 1..level {
-        load.extend_from_slice(b",\"c\":[{\"e\":\"p\"")?;
-    }
-    for _ in 1..level {
-        load.extend_from_slice(b"}]")?;
-    }
-    load.extend_from_slice(b"}]}}")?;
-    Ok(load)
-}
-
-/// Runs the words over a source and a sink: the exit status, the status line and what was written. A call of the source or the
-/// sink of the given number fails; 0 is none.
-fn answer<L: Link>(
+/// Runs the words over a source and a sink: the exit status, the status line and what was written. The calls of the source and of
+/// the sink with the given numbers fail; 0 is none.
+fn push_replay<L: Link>(
     alloc: Global,
     words: &[String],
-    input: &[u8],
-    source_fault: u64,
-    sink_fault: u64,
+    input: &str,
+    faults: [u64; 2],
     link: &mut L,
-) -> Result<Vec<u8>, AllocError> {
-    let faults = Vec::from_slice(alloc, &[source_fault])?;
-    let mut source = MemSource::new(Vec::from_slice(alloc, input)?, 50, faults);
-    let mut sink = MemSink::new(alloc, Vec::from_slice(alloc, &[sink_fault])?);
+    answer: &mut Answer,
+) -> Result<(), AllocError> {
+    let mut source = source_of(alloc, input, faults[0])?;
+    let mut sink = MemSink::new(alloc, Vec::from_slice(alloc, &[faults[1]])?);
     let status = inspect(alloc, words, &mut source, &mut sink, link);
-    let mut out = Vec::new(alloc);
-    out.extend_from_slice(exit_code(&status).to_string(alloc)?.as_bytes())?;
-    out.push(b' ')?;
-    out.extend_from_slice(status_line(alloc, &status)?.as_bytes())?;
-    out.push(b'\n')?;
-    out.extend_from_slice(sink.bytes())?;
-    Ok(out)
+    answer.push_shown(&exit_code(&status));
+    answer.push(" ");
+    answer.push(status_line(alloc, &status)?.as_str());
+    answer.push("\n");
+    answer.push_bytes(sink.bytes());
+    Ok(())
+}
+
+/// A source of these bytes, of which the call with the given number fails.
+fn source_of(alloc: Global, input: &str, fault: u64) -> Result<MemSource, AllocError> {
+    let faults = Vec::from_slice(alloc, &[fault])?;
+    Ok(MemSource::new(Vec::from_slice(alloc, input.as_bytes())?, 50, faults))
 }

@@ -2,27 +2,26 @@
 //
 // `act` with a value tells the act that it spells. `page` with a value tells how many nodes stand right below the document, and the
 // sheets. `sheets` with a count and a node tells so of a page with that node and that many empty sheets.
-use crate::row_parts::{first_word, misspelt, value_of};
+use crate::row_parts::{Answer, first_word, push_layers, value_of};
 use page_forms::{Act, ActErr, read_act, read_page};
 use serde_json::Value;
 use sheet_reader::Origin;
 use std::alloc::{AllocError, Global};
-use std::io;
 
 /// What a row comes to.
-pub fn told(alloc: Global, row: &str) -> io::Result<Vec<u8>> {
+pub(crate) fn told(alloc: Global, row: &str, answer: &mut Answer) -> Result<(), AllocError> {
     let (word, rest) = first_word(row);
-    let answer = match word {
-        "act" => act_of(alloc, &value_of(alloc, rest)?)?,
-        "page" => page_of(alloc, &value_of(alloc, rest)?)?,
-        "sheets" => {
-            let (count, node) = first_word(rest);
-            let text = with_sheets(alloc, node, count)?;
-            page_of(alloc, &value_of(alloc, text.as_str())?)?
+    if word == "sheets" {
+        return push_with_sheets(alloc, rest, answer);
+    }
+    let value = value_of(alloc, rest)?;
+    match word {
+        "act" => push_act_of(alloc, &value, answer),
+        _ => {
+            push_page(alloc, &value, answer);
+            Ok(())
         }
-        _ => return Err(misspelt()),
-    };
-    Ok(answer.into_bytes())
+    }
 }
 
 /// The word for where a sheet comes from.
@@ -34,91 +33,125 @@ fn origin_word(origin: Origin) -> &'static str {
 }
 
 /// What is read of a value as an act.
-fn act_of(alloc: Global, value: &Value) -> Result<String, AllocError> {
+fn push_act_of(alloc: Global, value: &Value, answer: &mut Answer) -> Result<(), AllocError> {
     match read_act(alloc, value) {
-        Ok(act) => act_words(alloc, &act),
-        Err(ActErr::BadForm) => format!(in alloc; "{}", ActErr::BadForm),
-        Err(ActErr::Memory) => Err(AllocError),
+        Ok(act) => push_act(&act, answer),
+        Err(ActErr::BadForm) => answer.push_shown(&ActErr::BadForm),
+        Err(ActErr::Memory) => return Err(AllocError),
     }
+    Ok(())
 }
 
 /// An act in words.
-fn act_words(alloc: Global, act: &Act) -> Result<String, AllocError> {
+fn push_act(act: &Act, answer: &mut Answer) {
     match act {
         Act::SetAttr { node, name, value } => {
-            let (name, value) = (name.as_str(), value.as_str());
-            format!(in alloc; "set {node} {name} {value}")
+            push_numbers("set", &[*node], answer);
+            push_texts(&[name.as_str(), value.as_str()], answer);
         }
         Act::DropAttr { node, name } => {
-            let name = name.as_str();
-            format!(in alloc; "drop {node} {name}")
+            push_numbers("drop", &[*node], answer);
+            push_texts(&[name.as_str()], answer);
         }
         Act::SetText { node, value } => {
-            let value = value.as_str();
-            format!(in alloc; "text {node} {value}")
+            push_numbers("text", &[*node], answer);
+            push_texts(&[value.as_str()], answer);
         }
         Act::Insert {
             parent,
             before,
             form,
         } => {
-            let (name, below) = (form.name.as_str(), form.children.len());
-            format!(in alloc; "insert {parent} {before} {name} {below}")
+            push_numbers("insert", &[*parent, *before], answer);
+            push_texts(&[form.name.as_str()], answer);
+            push_numbers("", &[form.children.len() as u64], answer);
         }
-        Act::Remove { node } => format!(in alloc; "remove {node}"),
+        Act::Remove { node } => push_numbers("remove", &[*node], answer),
         Act::Move {
             node,
             parent,
             before,
-        } => format!(in alloc; "move {node} {parent} {before}"),
-        other => sheet_act_words(alloc, other),
+        } => push_numbers("move", &[*node, *parent, *before], answer),
+        other => push_sheet_act(other, answer),
     }
 }
 
 /// An act on a sheet in words.
-fn sheet_act_words(alloc: Global, act: &Act) -> Result<String, AllocError> {
+fn push_sheet_act(act: &Act, answer: &mut Answer) {
     match act {
         Act::AddSheet { origin, text } => {
-            let (word, text) = (origin_word(*origin), text.as_str());
-            format!(in alloc; "add {word} {text}")
+            answer.push("add");
+            push_texts(&[origin_word(*origin), text.as_str()], answer);
         }
         Act::DropSheet { sheet } => {
-            let sheet = sheet.as_str();
-            format!(in alloc; "drop {sheet}")
+            answer.push("drop");
+            push_texts(&[sheet.as_str()], answer);
         }
         Act::ReplaceSheet { sheet, text } => {
-            let (sheet, text) = (sheet.as_str(), text.as_str());
-            format!(in alloc; "replace {sheet} {text}")
+            answer.push("replace");
+            push_texts(&[sheet.as_str(), text.as_str()], answer);
         }
-        _ => String::from_str(alloc, "another act"),
+        _ => answer.push("another act"),
+    }
+}
+
+/// A word, and numbers with a space before each.
+fn push_numbers(word: &str, numbers: &[u64], answer: &mut Answer) {
+    answer.push(word);
+    for number in numbers {
+        answer.push(" ");
+        answer.push_number(*number);
+    }
+}
+
+/// Texts with a space before each.
+fn push_texts(texts: &[&str], answer: &mut Answer) {
+    for text in texts {
+        answer.push(" ");
+        answer.push(text);
     }
 }
 
 /// The sheets of a page after the number of nodes right below its document, or why it is refused.
-fn page_of(alloc: Global, value: &Value) -> Result<String, AllocError> {
-    let page = match read_page(alloc, value) {
-        Ok(page) => page,
-        Err(error) => return format!(in alloc; "{error:?}"),
-    };
-    let count = page.nodes.len();
-    let mut told = format!(in alloc; "{count}")?;
-    for sheet in &page.sheets {
-        told.push_str(" ")?;
-        told.push_str(origin_word(sheet.origin))?;
-        told.push_str(sheet.text.as_str())?;
+fn push_page(alloc: Global, value: &Value, answer: &mut Answer) {
+    match read_page(alloc, value) {
+        Ok(page) => {
+            answer.push_number(page.nodes.len() as u64);
+            for sheet in &page.sheets {
+                answer.push(" ");
+                answer.push(origin_word(sheet.origin));
+                answer.push(sheet.text.as_str());
+            }
+        }
+        Err(error) => answer.push_debug(&error),
     }
-    Ok(told)
 }
 
-/// A page with one node, and that many sheets.
-fn with_sheets(alloc: Global, node: &str, count: &str) -> Result<String, AllocError> {
-    let mut text = format!(in alloc; "{{\"document\":[{node}],\"sheets\":[")?;
-    for number in 0..count.parse::<u32>().unwrap_or(0) {
-        if number > 0 {
-            text.push_str(",")?;
-        }
-        text.push_str(r#"{"origin":"regular","text":""}"#)?;
+/// What is read of a page with one node, and so many sheets.
+fn push_with_sheets(alloc: Global, row: &str, answer: &mut Answer) -> Result<(), AllocError> {
+    let mut text = String::new(alloc);
+    write_sheets(&mut text, row)?;
+    let value = value_of(alloc, text.as_str())?;
+    push_page(alloc, &value, answer);
+    Ok(())
+}
+
+/// Writes a page with the node and as many sheets as the row says.
+fn write_sheets(out: &mut String, row: &str) -> Result<(), AllocError> {
+    let (count, node) = first_word(row);
+    let count = count.parse::<u64>().unwrap_or(0);
+    out.push_str(r#"{"document":["#)?;
+    out.push_str(node)?;
+    out.push_str(r#"],"sheets":["#)?;
+    if count > 0 {
+        let sheet = r#"{"origin":"regular","text":""}"#;
+        push_layers(
+            out,
+            count.saturating_sub(1),
+            r#"{"origin":"regular","text":""},"#,
+            sheet,
+            "",
+        )?;
     }
-    text.push_str("]}")?;
-    Ok(text)
+    out.push_str("]}")
 }

@@ -2,39 +2,60 @@
 //! of them, `nested [LEVELS,SELECTORS]` the same on a page of so many elements in one another, and
 //! `subject [PAGE,SELECTORS,SERIAL]` whether the first selector matches that node, as a subject with its places.
 
-use crate::row_parts::{call_of, number_or_zero, text_or_empty};
+use crate::row_parts::{Answer, number_or_zero, push_layers, text_or_empty, value_of};
 use page_tree::{LoadErr, Page, read_nodes};
 use select_match::{Subject, all_matches, element_places, first_match, matches_subject};
 use selectors::{SelErr, SelectorList, read_selectors};
 use serde_json::Value;
 use std::alloc::{AllocError, Global};
-use std::io;
 
 /// What comes of a row.
-pub fn told(alloc: Global, row: &str) -> io::Result<Vec<u8>> {
-    let (word, args) = call_of(alloc, row)?;
+pub(crate) fn told(
+    alloc: Global,
+    word: &str,
+    args: &Value,
+    answer: &mut Answer,
+) -> Result<(), AllocError> {
     let page = match word {
-        "nested" => nested_page(alloc, number_or_zero(&args, 0))?,
-        _ => page_at(alloc, &args, 0)?,
+        "nested" => nested_page(alloc, number_or_zero(args, 0))?,
+        _ => page_at(alloc, args, 0)?,
     };
-    let Some(page) = page else {
-        return Ok(Vec::from_slice(alloc, b"bad load")?);
-    };
-    let list = match read_selectors(alloc, text_or_empty(&args, 1)) {
-        Ok(list) => list,
-        Err(SelErr::Invalid) => return Ok(Vec::from_slice(alloc, b"bad selector")?),
-        Err(SelErr::Memory) => return Err(AllocError.into()),
-    };
-    let answer = match word {
-        "found" | "nested" => found_in(alloc, &page, &list)?,
-        "subject" => tried(alloc, &page, &list, number_or_zero(&args, 2))?,
-        _ => String::from_str(alloc, "no such call")?,
-    };
-    Ok(answer.into_bytes())
+    match page {
+        Some(page) => push_matches(alloc, word, &page, args, answer),
+        None => {
+            answer.push("bad load");
+            Ok(())
+        }
+    }
+}
+
+/// What the selectors match on a page.
+fn push_matches(
+    alloc: Global,
+    word: &str,
+    page: &Page,
+    args: &Value,
+    answer: &mut Answer,
+) -> Result<(), AllocError> {
+    match read_selectors(alloc, text_or_empty(args, 1)) {
+        Ok(list) => match word {
+            "subject" => push_tried(alloc, page, &list, number_or_zero(args, 2), answer),
+            _ => push_found(alloc, page, &list, answer),
+        },
+        Err(SelErr::Invalid) => {
+            answer.push("bad selector");
+            Ok(())
+        }
+        Err(SelErr::Memory) => Err(AllocError),
+    }
 }
 
 /// The page at this place of an array, whose document has the serial 1; none where no page stands there.
-pub fn page_at(alloc: Global, args: &Value, place: usize) -> Result<Option<Page>, AllocError> {
+pub(crate) fn page_at(
+    alloc: Global,
+    args: &Value,
+    place: usize,
+) -> Result<Option<Page>, AllocError> {
     match args.get(place) {
         Some(nodes) => page_of(alloc, nodes),
         None => Ok(None),
@@ -42,7 +63,7 @@ pub fn page_at(alloc: Global, args: &Value, place: usize) -> Result<Option<Page>
 }
 
 /// The page that a value spells.
-fn page_of(alloc: Global, nodes: &Value) -> Result<Option<Page>, AllocError> {
+pub(crate) fn page_of(alloc: Global, nodes: &Value) -> Result<Option<Page>, AllocError> {
     match read_nodes(alloc, nodes) {
         Ok(forms) => Ok(Some(Page::load(alloc, 1, forms)?)),
         Err(LoadErr::Fault(_)) => Ok(None),
@@ -52,53 +73,58 @@ fn page_of(alloc: Global, nodes: &Value) -> Result<Option<Page>, AllocError> {
 
 /// A page of so many elements in one another, each behind an `i`.
 fn nested_page(alloc: Global, levels: u64) -> Result<Option<Page>, AllocError> {
-    match Value::from_str(alloc, nested(alloc, levels)?.as_str()) {
-        Ok(nodes) => page_of(alloc, &nodes),
-        Err(_) => Ok(None),
-    }
-}
-
-/// The nodes of such a page.
-fn nested(alloc: Global, levels: u64) -> Result<String, AllocError> {
-    let mut out = String::new(alloc);
-    for _ in 0..levels {
-        out.push_str(r#"[{"e":"i"},{"e":"div","c":"#)?;
-    }
-    out.push_str("[]")?;
-    for _ in 0..levels {
-        out.push_str("}]")?;
-    }
-    Ok(out)
+    let mut text = String::new(alloc);
+    push_layers(
+        &mut text,
+        levels,
+        r#"[{"e":"i"},{"e":"div","c":"#,
+        "[]",
+        "}]",
+    )?;
+    let nodes = value_of(alloc, text.as_str())?;
+    page_of(alloc, &nodes)
 }
 
 /// The serials of what matches below the document, and the first of them.
-fn found_in(alloc: Global, page: &Page, list: &SelectorList) -> Result<String, AllocError> {
+fn push_found(
+    alloc: Global,
+    page: &Page,
+    list: &SelectorList,
+    answer: &mut Answer,
+) -> Result<(), AllocError> {
     if !page.live(1) {
-        return String::from_str(alloc, "no document");
+        answer.push("no document");
+        return Ok(());
     }
-    let mut out = String::new(alloc);
     for serial in &all_matches(alloc, list, page, 1)? {
-        out.push_str(format!(in alloc; "{serial} ")?.as_str())?;
+        answer.push_number(*serial);
+        answer.push(" ");
     }
     match first_match(list, page, 1) {
-        Some(first) => out.push_str(format!(in alloc; "first {first}")?.as_str())?,
-        None => out.push_str("none")?,
+        Some(first) => {
+            answer.push("first ");
+            answer.push_number(first);
+        }
+        None => answer.push("none"),
     }
-    Ok(out)
+    Ok(())
 }
 
 /// Whether the first selector matches the node with that serial, as a subject with its places.
-fn tried(
+fn push_tried(
     alloc: Global,
     page: &Page,
     list: &SelectorList,
     serial: u64,
-) -> Result<String, AllocError> {
+    answer: &mut Answer,
+) -> Result<(), AllocError> {
     if !page.live(serial) || list.len() == 0 {
-        return String::from_str(alloc, "no node");
+        answer.push("no node");
+        return Ok(());
     }
     let node = page.node_ref(serial);
     let places = element_places(&node);
     let mut subject = Subject::placed(alloc, node, places)?;
-    format!(in alloc; "{}", matches_subject(list.at(0), &mut subject))
+    answer.push_shown(&matches_subject(list.at(0), &mut subject));
+    Ok(())
 }

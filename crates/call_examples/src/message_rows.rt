@@ -5,96 +5,108 @@
 // event or an error reply, and behind a method the reply to it: what is read is written again, so that a message that has its form
 // comes back as it was. Behind `root` stands a reply with a document, which is read token by token where it has the fields in the order
 // and the numbers in the spelling that are written here.
-use crate::row_parts::{first_word, without_zero};
+use crate::row_parts::{Answer, first_word};
 use cdp_messages::{
-    Asked, DomAsk, Down, DownErr, ReadErr, ReplyBody, read_command, read_down, read_result,
+    Asked, DomAsk, Down, DownErr, ReadErr, ReplyBody, Text, read_command, read_down, read_result,
     read_root, write_event, write_refused, write_reply,
 };
 use std::alloc::{AllocError, Global};
-use std::io;
 
 /// What a row comes to.
-pub fn told(alloc: Global, row: &str) -> io::Result<Vec<u8>> {
+pub(crate) fn told(alloc: Global, row: &str, answer: &mut Answer) -> Result<(), AllocError> {
     let (word, message) = first_word(row);
-    Ok(without_zero(read_line(alloc, word, message.as_bytes())?))
-}
-
-/// What a message comes to.
-fn read_line(alloc: Global, word: &str, message: &[u8]) -> Result<Vec<u8>, AllocError> {
     match word {
-        "ask" => read_up(alloc, message, false),
-        "own" => read_up(alloc, message, true),
-        "root" => root_again(alloc, message),
-        method => match again(alloc, method, message) {
-            Ok(bytes) => Ok(bytes),
-            Err(DownErr::NotMessage) => bytes_of(alloc, "no message"),
-            Err(DownErr::Memory) => Err(AllocError),
-        },
+        "ask" => read_up(alloc, message.as_bytes(), false, answer)?,
+        "own" => read_up(alloc, message.as_bytes(), true, answer)?,
+        "root" => root_again(alloc, message, answer)?,
+        method => again(alloc, method, message.as_bytes(), answer)?,
     }
-}
-
-/// The bytes of a text.
-fn bytes_of(alloc: Global, text: &str) -> Result<Vec<u8>, AllocError> {
-    let mut bytes = Vec::new(alloc);
-    bytes.extend_from_slice(text.as_bytes())?;
-    Ok(bytes)
+    answer.drop_zero();
+    Ok(())
 }
 
 /// What a frame asks, or the error reply.
-fn read_up(alloc: Global, frame: &[u8], own: bool) -> Result<Vec<u8>, AllocError> {
+fn read_up(alloc: Global, frame: &[u8], own: bool, answer: &mut Answer) -> Result<(), AllocError> {
     match read_command(alloc, frame, own) {
-        Ok(asked) => asked_words(alloc, asked),
-        Err(ReadErr::Refused(refused)) => {
-            let mut out = Vec::new(alloc);
-            write_refused(alloc, &refused, &mut out)?;
-            Ok(out)
+        Ok(asked) => {
+            push_asked(asked, answer);
+            Ok(())
         }
+        Err(ReadErr::Refused(refused)) => write_refused(alloc, &refused, answer.bytes()),
         Err(ReadErr::Memory) => Err(AllocError),
     }
 }
 
 /// The id of a command, and what the DOM agent is asked by it.
-fn asked_words(alloc: Global, asked: Asked) -> Result<Vec<u8>, AllocError> {
-    let id = asked.id;
-    let text = match DomAsk::of_command(asked.command) {
-        Some(ask) => format!(in alloc; "{id} {ask:?}")?,
-        None => format!(in alloc; "{id}")?,
-    };
-    bytes_of(alloc, text.as_str())
+fn push_asked(asked: Asked, answer: &mut Answer) {
+    answer.push_number(asked.id);
+    if let Some(ask) = DomAsk::of_command(asked.command) {
+        answer.push(" ");
+        answer.push_debug(&ask);
+    }
 }
 
 /// Reads a message to the front end, and writes it again.
-fn again(alloc: Global, method: &str, message: &[u8]) -> Result<Vec<u8>, DownErr> {
-    let mut out = Vec::new(alloc);
-    match read_down(alloc, message)? {
-        Down::Reply { id, result } => {
-            let body = read_result(alloc, method, &result)?;
-            write_reply(alloc, id, &body, &mut out)?;
-        }
-        Down::Fault { id, code, text } => {
-            let line = match id {
-                Some(id) => format!(in alloc; "fault of {id}: {code} {text:?}")?,
-                None => format!(in alloc; "fault: {code} {text:?}")?,
-            };
-            out.extend_from_slice(line.as_str().as_bytes())?;
-        }
-        Down::Event(event) => write_event(alloc, &event, &mut out)?,
+fn again(
+    alloc: Global,
+    method: &str,
+    message: &[u8],
+    answer: &mut Answer,
+) -> Result<(), AllocError> {
+    match read_down(alloc, message) {
+        Ok(down) => write_again(alloc, method, &down, answer),
+        Err(error) => push_error(error, "no message", answer),
     }
-    Ok(out)
+}
+
+/// Says these words of what is no message.
+fn push_error(error: DownErr, words: &str, answer: &mut Answer) -> Result<(), AllocError> {
+    match error {
+        DownErr::NotMessage => {
+            answer.push(words);
+            Ok(())
+        }
+        DownErr::Memory => Err(AllocError),
+    }
+}
+
+/// Writes a message to the front end.
+fn write_again(
+    alloc: Global,
+    method: &str,
+    down: &Down,
+    answer: &mut Answer,
+) -> Result<(), AllocError> {
+    match down {
+        Down::Reply { id, result } => match read_result(alloc, method, result) {
+            Ok(body) => write_reply(alloc, *id, &body, answer.bytes()),
+            Err(error) => push_error(error, "no message", answer),
+        },
+        Down::Fault { id, code, text } => {
+            push_fault(*id, *code, text, answer);
+            Ok(())
+        }
+        Down::Event(event) => write_event(alloc, event, answer.bytes()),
+    }
+}
+
+/// An error reply in words.
+fn push_fault(id: Option<u64>, code: i64, text: &Text, answer: &mut Answer) {
+    answer.push("fault");
+    if let Some(id) = id {
+        answer.push(" of ");
+        answer.push_number(id);
+    }
+    answer.push(": ");
+    answer.push_shown(&code);
+    answer.push(" ");
+    answer.push_debug(text);
 }
 
 /// A reply with a document that is read token by token, written again; of any other text that it is not.
-fn root_again(alloc: Global, message: &[u8]) -> Result<Vec<u8>, AllocError> {
-    let Ok(text) = str::from_utf8(message) else {
-        return bytes_of(alloc, "no text");
-    };
-    match read_root(alloc, text) {
-        Ok((id, tree)) => {
-            let mut out = Vec::new(alloc);
-            write_reply(alloc, id, &ReplyBody::Root(tree), &mut out)?;
-            Ok(out)
-        }
-        Err(DownErr::NotMessage) => bytes_of(alloc, "written otherwise"),
-        Err(DownErr::Memory) => Err(AllocError),
+fn root_again(alloc: Global, message: &str, answer: &mut Answer) -> Result<(), AllocError> {
+    match read_root(alloc, message) {
+        Ok((id, tree)) => write_reply(alloc, id, &ReplyBody::Root(tree), answer.bytes()),
+        Err(error) => push_error(error, "written otherwise", answer),
     }
 }

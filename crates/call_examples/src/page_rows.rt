@@ -5,107 +5,104 @@
 // page. Behind each other edit but a move its way back is carried out too: `and back` says that all nodes are as before.
 ghost use Rattle.page_tree.specs.EditFaults.{CanInsert, IsReady};
 
-use crate::row_parts::{items_of, misspelt, value_of};
+use crate::row_parts::{Answer, first_word, push_layers, value_of, values_from};
 use page_tree::{
     EditErr, LoadErr, NodeForm, Page, Text, TreeEdit, after_law, back_law, copy_law, insert_law,
     move_law, read_node, read_nodes,
 };
 use serde_json::Value;
 use std::alloc::{AllocError, Global};
-use std::io;
 
 /// Serials are drawn below this.
 const MOST_SERIALS: u64 = 1 << 50;
 
 /// A page of so many nodes is printed whole.
-const FEW: usize = 40;
+const FEW: u64 = 40;
 
-/// What is left of a step.
-#[derive(Drop)]
-struct Words<'a> {
-    rest: &'a str,
-}
-
-impl<'a> Words<'a> {
-    /// The next word.
-    fn word(&mut self) -> &'a str {
-        let (word, rest) = match self.rest.split_once(" ") {
-            Some((word, rest)) => (word, rest),
-            None => (self.rest, ""),
-        };
-        self.rest = rest;
-        word
-    }
-
-    /// The next word as a number.
-    fn number(&mut self) -> u64 {
-        self.word().parse::<u64>().unwrap_or(0)
-    }
+/// The first word of a text as a number, and what stands behind it.
+fn first_number(text: &str) -> (u64, &str) {
+    let (word, rest) = first_word(text);
+    (word.parse::<u64>().unwrap_or(0), rest)
 }
 
 /// What a row comes to.
-pub fn told(alloc: Global, row: &str) -> io::Result<Vec<u8>> {
+pub(crate) fn told(alloc: Global, row: &str, answer: &mut Answer) -> Result<(), AllocError> {
     let value = value_of(alloc, row)?;
+    take_steps(alloc, values_from(&value, 0), answer)
+}
+
+/// What steps on a page come to, which is empty at first.
+fn take_steps(alloc: Global, steps: &[Value], answer: &mut Answer) -> Result<(), AllocError> {
     let mut page = Page::load(alloc, 1, Vec::new(alloc))?;
-    let mut out = Vec::new(alloc);
-    for step in items_of(&value)? {
-        let Some(rest) = step.as_str() else {
-            return Err(misspelt());
-        };
-        let came = carry_out(alloc, &mut page, &mut Words { rest })?;
-        out.extend_from_slice(came.as_bytes())?;
-        out.push(b'\n')?;
+    for step in steps {
+        carry_out(alloc, &mut page, step.as_str().unwrap_or(""), answer)?;
+        answer.push("\n");
     }
-    Ok(out)
+    Ok(())
 }
 
 /// Carries out a step.
-fn carry_out(alloc: Global, page: &mut Page, words: &mut Words<'_>) -> Result<String, AllocError> {
-    match words.word() {
-        "page" => load(alloc, page, words.rest),
-        "many" => many(alloc, page, words.number()),
-        "deep" => deep(alloc, page, words.number()),
-        "insert" => insert(alloc, page, words),
-        "copy" => copy(alloc, page, words),
-        "move" => relocate(alloc, page, words),
-        word => edit(alloc, page, word, words),
+fn carry_out(
+    alloc: Global,
+    page: &mut Page,
+    step: &str,
+    answer: &mut Answer,
+) -> Result<(), AllocError> {
+    let (word, rest) = first_word(step);
+    match word {
+        "page" => load(alloc, page, rest, answer),
+        "many" => many(alloc, page, rest, answer),
+        "deep" => deep(alloc, page, rest, answer),
+        "insert" => insert(alloc, page, rest, answer),
+        "copy" => copy(alloc, page, rest, answer),
+        "move" => relocate(page, rest, answer),
+        _ => edit(alloc, page, word, rest, answer),
     }
+}
+
+/// Loads a page of the nodes that a text spells.
+fn load(alloc: Global, page: &mut Page, json: &str, answer: &mut Answer) -> Result<(), AllocError> {
+    let value = value_of(alloc, json)?;
+    load_nodes(alloc, page, &value, answer)
 }
 
 /// Loads a page of these nodes, whose document has the serial 1.
-fn load(alloc: Global, page: &mut Page, json: &str) -> Result<String, AllocError> {
-    let Ok(value) = Value::from_str(alloc, json) else {
-        return String::from_str(alloc, "no JSON");
-    };
-    match read_nodes(alloc, &value) {
-        Ok(nodes) => *page = Page::load(alloc, 1, nodes)?,
-        Err(LoadErr::Fault(fault)) => return format!(in alloc; "{fault}"),
-        Err(LoadErr::Memory) => return Err(AllocError),
+fn load_nodes(
+    alloc: Global,
+    page: &mut Page,
+    nodes: &Value,
+    answer: &mut Answer,
+) -> Result<(), AllocError> {
+    match read_nodes(alloc, nodes) {
+        Ok(forms) => {
+            *page = Page::load(alloc, 1, forms)?;
+            push_outline(page, answer);
+            Ok(())
+        }
+        Err(LoadErr::Fault(fault)) => {
+            answer.push_shown(&fault);
+            Ok(())
+        }
+        Err(LoadErr::Memory) => Err(AllocError),
     }
-    outline(alloc, page)
 }
 
 /// Loads a page of so many texts below the document.
-fn many(alloc: Global, page: &mut Page, count: u64) -> Result<String, AllocError> {
+fn many(alloc: Global, page: &mut Page, rest: &str, answer: &mut Answer) -> Result<(), AllocError> {
+    let (count, _) = first_number(rest);
     let mut json = String::from_str(alloc, "[")?;
-    for _ in 1..count {
-        json.push_str(r#"{"t":""},"#)?;
-    }
-    json.push_str(r#"{"t":""}]"#)?;
-    load(alloc, page, json.as_str())
+    let (text, last) = (r#"{"t":""},"#, r#"{"t":""}]"#);
+    push_layers(&mut json, count.saturating_sub(1), text, last, "")?;
+    load(alloc, page, json.as_str(), answer)
 }
 
 /// Loads a page of so many elements, one in another.
-fn deep(alloc: Global, page: &mut Page, levels: u64) -> Result<String, AllocError> {
+fn deep(alloc: Global, page: &mut Page, rest: &str, answer: &mut Answer) -> Result<(), AllocError> {
+    let (levels, _) = first_number(rest);
     let mut json = String::new(alloc);
-    for _ in 1..levels {
-        json.push_str(r#"[{"e":"a","c":"#)?;
-    }
-    json.push_str(r#"[{"e":"a"}]"#)?;
-    for _ in 1..levels {
-        json.push_str("}]")?;
-    }
-    load(alloc, page, json.as_str())
+    let (outer, core) = (r#"[{"e":"a","c":"#, r#"[{"e":"a"}]"#);
+    push_layers(&mut json, levels.saturating_sub(1), outer, core, "}]")?;
+    load(alloc, page, json.as_str(), answer)
 }
 
 /// One of the edits that draw no serial.
@@ -113,68 +110,113 @@ fn edit(
     alloc: Global,
     page: &mut Page,
     word: &str,
-    words: &mut Words<'_>,
-) -> Result<String, AllocError> {
-    let node = words.number();
+    rest: &str,
+    answer: &mut Answer,
+) -> Result<(), AllocError> {
+    let (node, rest) = first_number(rest);
+    let (name, value) = first_word(rest);
     let edit = match word {
         "set" => TreeEdit::SetAttr {
             node,
-            name: Text::copied(alloc, words.word())?,
-            value: Text::copied(alloc, words.rest)?,
+            name: Text::copied(alloc, name)?,
+            value: Text::copied(alloc, value)?,
         },
         "drop" => TreeEdit::DropAttr {
             node,
-            name: Text::copied(alloc, words.word())?,
+            name: Text::copied(alloc, name)?,
         },
         "text" => TreeEdit::SetText {
             node,
-            value: Text::copied(alloc, words.rest)?,
+            value: Text::copied(alloc, rest)?,
         },
         "detach" => TreeEdit::Detach { node },
-        _ => return String::from_str(alloc, "no such step"),
+        _ => {
+            answer.push("no such step");
+            return Ok(());
+        }
     };
-    there_and_back(alloc, page, edit)
+    there_and_back(alloc, page, edit, answer)
 }
 
 /// The page after the edit, or the fault; then the edit that leads back is carried out too.
-fn there_and_back(alloc: Global, page: &mut Page, edit: TreeEdit) -> Result<String, AllocError>
+fn there_and_back(
+    alloc: Global,
+    page: &mut Page,
+    edit: TreeEdit,
+    answer: &mut Answer,
+) -> Result<(), AllocError>
+    requires { IsReady page.old.next edit page.old.tree }
+{
+    let before = outline(alloc, page);
+    if both_ways(page, edit, answer)? {
+        return push_is_back(&before, &outline(alloc, page), answer);
+    }
+    Ok(())
+}
+
+/// Whether two outlines are the same.
+fn push_is_back(before: &Answer, after: &Answer, answer: &mut Answer) -> Result<(), AllocError> {
+    answer.push(if before.as_slice()? == after.as_slice()? {
+        " and back"
+    } else {
+        " and not back"
+    });
+    Ok(())
+}
+
+/// The page after the edit, or the fault. Whether the edit was carried out, and then the one that leads back.
+fn both_ways(page: &mut Page, edit: TreeEdit, answer: &mut Answer) -> Result<bool, AllocError>
     requires { IsReady page.old.next edit page.old.tree }
 {
     page.valid();
     back_law();
     after_law();
-    let before = outline(alloc, page)?;
-    let back = match page.apply(edit) {
-        Ok(back) => back,
-        Err(EditErr::Fault(fault)) => return format!(in alloc; "{fault}"),
-        Err(EditErr::Memory) => return Err(AllocError),
-    };
-    let there = outline(alloc, page)?;
-    match page.apply(back) {
-        Ok(_) => {}
-        Err(_) => return Err(AllocError),
+    match page.apply(edit) {
+        Ok(back) => {
+            push_outline(page, answer);
+            match page.apply(back) {
+                Ok(_) => Ok(true),
+                Err(_) => Err(AllocError),
+            }
+        }
+        Err(EditErr::Fault(fault)) => {
+            answer.push_shown(&fault);
+            Ok(false)
+        }
+        Err(EditErr::Memory) => Err(AllocError),
     }
-    let after = outline(alloc, page)?;
-    let is_back = if before == after {
-        "and back"
-    } else {
-        "and not back"
-    };
-    format!(in alloc; "{there} {is_back}")
 }
 
 /// New nodes that are put into the page.
-fn insert(alloc: Global, page: &mut Page, words: &mut Words<'_>) -> Result<String, AllocError> {
-    let (parent, before) = (words.number(), words.number());
-    let Ok(value) = Value::from_str(alloc, words.rest) else {
-        return String::from_str(alloc, "no JSON");
-    };
-    let form = match read_node(alloc, &value) {
-        Ok(form) => form,
-        Err(LoadErr::Fault(fault)) => return format!(in alloc; "{fault}"),
-        Err(LoadErr::Memory) => return Err(AllocError),
-    };
-    put_in(alloc, page, parent, before, form)
+fn insert(
+    alloc: Global,
+    page: &mut Page,
+    rest: &str,
+    answer: &mut Answer,
+) -> Result<(), AllocError> {
+    let (parent, rest) = first_number(rest);
+    let (before, json) = first_number(rest);
+    let value = value_of(alloc, json)?;
+    insert_node(alloc, page, parent, before, &value, answer)
+}
+
+/// The nodes that a value spells, before that child of the parent.
+fn insert_node(
+    alloc: Global,
+    page: &mut Page,
+    parent: u64,
+    before: u64,
+    node: &Value,
+    answer: &mut Answer,
+) -> Result<(), AllocError> {
+    match read_node(alloc, node) {
+        Ok(form) => put_in(alloc, page, parent, before, form, answer),
+        Err(LoadErr::Fault(fault)) => {
+            answer.push_shown(&fault);
+            Ok(())
+        }
+        Err(LoadErr::Memory) => Err(AllocError),
+    }
 }
 
 /// Nodes of this form, before that child of the parent.
@@ -184,16 +226,19 @@ fn put_in(
     parent: u64,
     before: u64,
     form: NodeForm,
-) -> Result<String, AllocError>
+    answer: &mut Answer,
+) -> Result<(), AllocError>
     requires { CanInsert form }
 {
     if page.next_serial() >= MOST_SERIALS {
-        return String::from_str(alloc, "no serials");
+        answer.push("no serials");
+        return Ok(());
     }
     page.valid();
     insert_law();
     if let Some(fault) = page.insert_fault(parent, before, &form) {
-        return format!(in alloc; "{fault}");
+        answer.push_shown(&fault);
+        return Ok(());
     }
     let tree = page.grow(form)?;
     let attach = TreeEdit::Attach {
@@ -201,22 +246,27 @@ fn put_in(
         before,
         tree,
     };
-    there_and_back(alloc, page, attach)
+    there_and_back(alloc, page, attach, answer)
 }
 
 /// A copy of a node that is put into the page.
-fn copy(alloc: Global, page: &mut Page, words: &mut Words<'_>) -> Result<String, AllocError> {
-    let (node, parent, before) = (words.number(), words.number(), words.number());
+fn copy(alloc: Global, page: &mut Page, rest: &str, answer: &mut Answer) -> Result<(), AllocError> {
+    let (node, rest) = first_number(rest);
+    let (parent, rest) = first_number(rest);
+    let (before, _) = first_number(rest);
     if page.next_serial() >= MOST_SERIALS {
-        return String::from_str(alloc, "no serials");
+        answer.push("no serials");
+        return Ok(());
     }
     page.valid();
     copy_law();
     if let Some(fault) = page.copy_fault(node, parent, before) {
-        return format!(in alloc; "{fault}");
+        answer.push_shown(&fault);
+        return Ok(());
     }
     if node == page.document() || !page.live(node) {
-        return String::from_str(alloc, "no copy");
+        answer.push("no copy");
+        return Ok(());
     }
     let tree = page.copy(node)?;
     let attach = TreeEdit::Attach {
@@ -224,16 +274,19 @@ fn copy(alloc: Global, page: &mut Page, words: &mut Words<'_>) -> Result<String,
         before,
         tree,
     };
-    there_and_back(alloc, page, attach)
+    there_and_back(alloc, page, attach, answer)
 }
 
 /// The page after a move, which is a detach and an attach.
-fn relocate(alloc: Global, page: &mut Page, words: &mut Words<'_>) -> Result<String, AllocError> {
-    let (node, parent, before) = (words.number(), words.number(), words.number());
+fn relocate(page: &mut Page, rest: &str, answer: &mut Answer) -> Result<(), AllocError> {
+    let (node, rest) = first_number(rest);
+    let (parent, rest) = first_number(rest);
+    let (before, _) = first_number(rest);
     page.valid();
     move_law();
     if let Some(fault) = page.move_fault(node, parent, before) {
-        return format!(in alloc; "{fault}");
+        answer.push_shown(&fault);
+        return Ok(());
     }
     let before = page.moved_before(node, parent, before);
     let Ok(TreeEdit::Attach { tree, .. }) = page.apply(TreeEdit::Detach { node }) else {
@@ -245,48 +298,72 @@ fn relocate(alloc: Global, page: &mut Page, words: &mut Words<'_>) -> Result<Str
         tree,
     };
     match page.apply(attach) {
-        Ok(_) => outline(alloc, page),
+        Ok(_) => {
+            push_outline(page, answer);
+            Ok(())
+        }
         Err(_) => Err(AllocError),
     }
 }
 
-/// All nodes by their serials, of a page that has few: each with its name and value, its attributes, and its children's serials in
-/// brackets. Of another page how many nodes it has.
-fn outline(alloc: Global, page: &Page) -> Result<String, AllocError> {
-    let mut out = String::new(alloc);
-    let mut count: usize = 0;
+/// The outline of a page as an answer of its own.
+fn outline(alloc: Global, page: &Page) -> Answer {
+    let mut answer = Answer::new(alloc);
+    push_outline(page, &mut answer);
+    answer
+}
+
+/// All nodes by their serials, of a page that has few. Of another page how many nodes it has.
+fn push_outline(page: &Page, answer: &mut Answer) {
+    let count = count_nodes(page);
+    if count > FEW {
+        answer.push_number(count);
+        answer.push(" nodes");
+    } else {
+        push_nodes(page, answer);
+    }
+}
+
+/// How many nodes a page has.
+fn count_nodes(page: &Page) -> u64 {
+    let mut count = 0u64;
     for serial in 1..page.next_serial() {
         if page.live(serial) {
             count = count.saturating_add(1);
-            if count <= FEW {
-                if count > 1 {
-                    out.push_str(" ")?;
-                }
-                write_node(alloc, &mut out, page, serial)?;
-            }
         }
     }
-    if count <= FEW {
-        return Ok(out);
-    }
-    format!(in alloc; "{count} nodes")
+    count
 }
 
-/// A node of the page.
-fn write_node(alloc: Global, out: &mut String, page: &Page, serial: u64) -> Result<(), AllocError> {
-    if !page.live(serial) {
-        return Ok(());
+/// All nodes of a page, whose first is its document.
+fn push_nodes(page: &Page, answer: &mut Answer) {
+    for serial in 1..page.next_serial() {
+        push_node(page, serial, answer);
     }
-    let (name, value) = (page.name(serial), page.value(serial));
-    out.push_str(format!(in alloc; "{serial}{name}{value}")?.as_str())?;
+}
+
+/// A node of the page with its name and value, its attributes, and its children's serials in brackets.
+fn push_node(page: &Page, serial: u64, answer: &mut Answer) {
+    if !page.live(serial) {
+        return;
+    }
+    if serial > 1 {
+        answer.push(" ");
+    }
+    answer.push_number(serial);
+    answer.push(page.name(serial));
+    answer.push(page.value(serial));
     for i in 0..page.attr_len(serial) {
         let (name, value) = page.attr_at(serial, i);
-        out.push_str(format!(in alloc; " {name}={value}")?.as_str())?;
+        answer.push(" ");
+        answer.push(name);
+        answer.push("=");
+        answer.push(value);
     }
-    out.push_str("(")?;
+    answer.push("(");
     for i in 0..page.children_len(serial) {
-        let child = page.child_at(serial, i);
-        out.push_str(format!(in alloc; "{child},")?.as_str())?;
+        answer.push_number(page.child_at(serial, i));
+        answer.push(",");
     }
-    out.push_str(")")
+    answer.push(")");
 }

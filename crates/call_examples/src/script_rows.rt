@@ -2,76 +2,93 @@
 //
 // Behind `first` stands the whole script, which is a line without a line feed, and behind `later` the line after a load. `text` has a
 // list with the script, and `bytes` one of its bytes. `long` with a script and a number tells whether a line has more bytes than that.
-use crate::row_parts::{first_word, items_of, misspelt, number_at, text_at, value_of};
-use replay_script::{LineErr, Lines, fault_name, has_long_line, read_line};
+use crate::row_parts::{Answer, first_word, number_or_zero, text_or_empty, value_of, values_from};
+use replay_script::{LineErr, LineFault, Lines, fault_name, has_long_line, read_line};
 use serde_json::Value;
 use std::alloc::{AllocError, Global};
-use std::io;
 
 /// What a row comes to.
-pub fn told(alloc: Global, row: &str) -> io::Result<Vec<u8>> {
+pub(crate) fn told(alloc: Global, row: &str, answer: &mut Answer) -> Result<(), AllocError> {
     let (word, rest) = first_word(row);
-    let answer = match word {
-        "first" => answer(alloc, rest.as_bytes())?,
-        "later" => later(alloc, rest)?,
-        "text" => {
+    match word {
+        "first" => push_read(alloc, rest.as_bytes(), answer),
+        "later" => push_later(alloc, rest, answer),
+        _ => {
             let value = value_of(alloc, rest)?;
-            answer(alloc, text_at(items_of(&value)?, 0)?.as_bytes())?
+            push_listed(alloc, word, &value, answer)
         }
+    }
+}
+
+/// What a script comes to that stands in a list.
+fn push_listed(
+    alloc: Global,
+    word: &str,
+    list: &Value,
+    answer: &mut Answer,
+) -> Result<(), AllocError> {
+    let text = text_or_empty(list, 0).as_bytes();
+    match word {
+        "text" => push_read(alloc, text, answer),
         "bytes" => {
-            let value = value_of(alloc, rest)?;
-            answer(alloc, bytes_of(alloc, items_of(&value)?)?.as_slice())?
+            let mut bytes = Vec::new(alloc);
+            push_bytes(values_from(list, 0), &mut bytes)?;
+            push_read(alloc, bytes.as_slice(), answer)
         }
-        "long" => long(alloc, items_of(&value_of(alloc, rest)?)?)?,
-        _ => return Err(misspelt()),
-    };
-    Ok(answer.into_bytes())
+        _ => {
+            answer.push_shown(&has_long_line(text, number_or_zero(list, 1) as usize));
+            Ok(())
+        }
+    }
 }
 
 /// How many lines the script has, or its first fault.
-fn answer(alloc: Global, script: &[u8]) -> Result<String, AllocError> {
+fn push_read(alloc: Global, script: &[u8], answer: &mut Answer) -> Result<(), AllocError> {
     let mut number = 0u64;
     for line in Lines::new(script) {
         number = number.wrapping_add(1);
         match read_line(alloc, number, line) {
             Ok(_) => {},
             Err(LineErr::Fault(fault)) => {
-                let name = fault_name(fault);
-                return format!(in alloc; "line {number}: {name} {fault}");
+                push_fault(number, fault, answer);
+                return Ok(());
             }
             Err(LineErr::Memory) => return Err(AllocError),
         }
     }
-    format!(in alloc; "{number} lines")
+    answer.push_number(number);
+    answer.push(" lines");
+    Ok(())
+}
+
+/// A fault of the line with this number.
+fn push_fault(number: u64, fault: LineFault, answer: &mut Answer) {
+    answer.push("line ");
+    answer.push_number(number);
+    answer.push(": ");
+    answer.push(fault_name(fault));
+    answer.push(" ");
+    answer.push_shown(&fault);
 }
 
 /// The answer to a script with that line behind a load.
-fn later(alloc: Global, line: &str) -> Result<String, AllocError> {
+fn push_later(alloc: Global, line: &str, answer: &mut Answer) -> Result<(), AllocError> {
     let script = format!(in alloc; "{{\"load\":{{\"document\":[]}}}}\n{line}\n")?;
-    answer(alloc, script.as_bytes())
+    push_read(alloc, script.as_bytes(), answer)
 }
 
-/// The bytes that a list holds.
-fn bytes_of(alloc: Global, items: &[Value]) -> io::Result<Vec<u8>> {
-    let mut bytes = Vec::new(alloc);
+/// Adds the bytes that a list holds.
+fn push_bytes(items: &[Value], bytes: &mut Vec<u8>) -> Result<(), AllocError> {
     for item in items {
-        let Some(number) = item.as_u64() else {
-            return Err(misspelt());
-        };
-        let Ok(byte) = u8::try_from(number) else {
-            return Err(misspelt());
-        };
-        bytes.push(byte)?;
+        bytes.push(byte_of(item))?;
     }
-    Ok(bytes)
+    Ok(())
 }
 
-/// Whether a line of the script is longer than that.
-fn long(alloc: Global, items: &[Value]) -> io::Result<String> {
-    let (script, limit) = (text_at(items, 0)?, number_at(items, 1)?);
-    let Ok(limit) = usize::try_from(limit) else {
-        return Err(misspelt());
-    };
-    let is_long = has_long_line(script.as_bytes(), limit);
-    Ok(format!(in alloc; "{is_long}")?)
+/// The byte that a number is; 0 where it is none.
+fn byte_of(number: &Value) -> u8 {
+    match u8::try_from(number.as_u64().unwrap_or(0)) {
+        Ok(byte) => byte,
+        Err(_) => 0,
+    }
 }

@@ -1,40 +1,77 @@
 //! Rows of selectors: `list [TEXT]` tells the selectors that a text spells, and `weight [TEXT]` how specific each is.
 
-use crate::row_parts::{call_of, text_or_empty};
+use crate::row_parts::{Answer, text_or_empty};
 use selectors::{Joint, SelErr, Selector, SelectorList, Simple, Test, read_selectors, specificity};
+use serde_json::Value;
 use std::alloc::{AllocError, Global};
-use std::io;
 
 /// What comes of a row.
-pub fn told(alloc: Global, row: &str) -> io::Result<Vec<u8>> {
-    let (word, args) = call_of(alloc, row)?;
-    let list = match read_selectors(alloc, text_or_empty(&args, 0)) {
-        Ok(list) => list,
-        Err(SelErr::Invalid) => return Ok(Vec::from_slice(alloc, b"invalid")?),
-        Err(SelErr::Memory) => return Err(AllocError.into()),
-    };
-    let answer = match word {
-        "list" => list_text(alloc, &list)?,
-        "weight" => weights(alloc, &list)?,
-        _ => String::from_str(alloc, "no such call")?,
-    };
-    Ok(answer.into_bytes())
+pub(crate) fn told(
+    alloc: Global,
+    word: &str,
+    args: &Value,
+    answer: &mut Answer,
+) -> Result<(), AllocError> {
+    match read_selectors(alloc, text_or_empty(args, 0)) {
+        Ok(list) => push_list(word, &list, answer),
+        Err(SelErr::Invalid) => answer.push("invalid"),
+        Err(SelErr::Memory) => return Err(AllocError),
+    }
+    Ok(())
+}
+
+/// What the word asks of each selector, one behind the other.
+fn push_list(word: &str, list: &SelectorList, answer: &mut Answer) {
+    for i in 0..list.len() {
+        match word {
+            "list" => push_selector(list.at(i), answer),
+            "weight" => push_weight(list.at(i), answer),
+            _ => answer.push("no such call"),
+        }
+    }
 }
 
 /// A test in a form like its spelling.
-fn test_text(alloc: Global, test: &Test) -> Result<String, AllocError> {
+fn push_test(test: &Test, answer: &mut Answer) {
     match test {
-        Test::Any => "*".to_string(alloc),
-        Test::Tag(name) => format!(in alloc; "{name}"),
-        Test::Id(name) => format!(in alloc; "#{name}"),
-        Test::Class(name) => format!(in alloc; ".{name}"),
-        Test::Attr { name, op, operand } => format!(in alloc; "[{name} {op:?} {operand}]"),
-        Test::Nth { kind, step, offset } => format!(in alloc; "{kind:?}({step},{offset})"),
-        Test::Root => ":root".to_string(alloc),
-        Test::Empty => ":empty".to_string(alloc),
-        Test::OnlyChild => ":only".to_string(alloc),
-        Test::OnlyOfType => ":only-type".to_string(alloc),
-        Test::Never => ":never".to_string(alloc),
+        Test::Any => answer.push("*"),
+        Test::Tag(name) => answer.push(name.as_str()),
+        Test::Id(name) => push_marked("#", name.as_str(), answer),
+        Test::Class(name) => push_marked(".", name.as_str(), answer),
+        Test::Attr { .. } | Test::Nth { .. } => push_long_test(test, answer),
+        Test::Root => answer.push(":root"),
+        Test::Empty => answer.push(":empty"),
+        Test::OnlyChild => answer.push(":only"),
+        Test::OnlyOfType => answer.push(":only-type"),
+        Test::Never => answer.push(":never"),
+    }
+}
+
+/// A name behind a mark.
+fn push_marked(mark: &str, name: &str, answer: &mut Answer) {
+    answer.push(mark);
+    answer.push(name);
+}
+
+/// A test of an attribute or of a place among the siblings.
+fn push_long_test(test: &Test, answer: &mut Answer) {
+    match test {
+        Test::Attr { name, op, operand } => {
+            push_marked("[", name.as_str(), answer);
+            answer.push(" ");
+            answer.push_debug(op);
+            push_marked(" ", operand.as_str(), answer);
+            answer.push("]");
+        }
+        Test::Nth { kind, step, offset } => {
+            answer.push_debug(kind);
+            answer.push("(");
+            answer.push_shown(step);
+            answer.push(",");
+            answer.push_shown(offset);
+            answer.push(")");
+        }
+        _ => {}
     }
 }
 
@@ -48,56 +85,41 @@ fn joint_text(joint: Joint) -> &'static str {
     }
 }
 
-/// A test, with `!` where it must not hold.
-fn push_simple(alloc: Global, out: &mut String, simple: &Simple) -> Result<(), AllocError> {
-    match simple {
-        Simple::Is(test) => out.push_str(test_text(alloc, test)?.as_str()),
-        Simple::Not(test) => {
-            out.push_str("!")?;
-            out.push_str(test_text(alloc, test)?.as_str())
+/// Tests one behind the other, with `!` where one must not hold.
+fn push_tests(tests: &[Simple], answer: &mut Answer) {
+    for simple in tests {
+        match simple {
+            Simple::Is(test) => push_test(test, answer),
+            Simple::Not(test) => {
+                answer.push("!");
+                push_test(test, answer);
+            }
         }
     }
 }
 
-/// The tests of a compound, one behind the other.
-fn push_tests(alloc: Global, out: &mut String, tests: &[Simple]) -> Result<(), AllocError> {
-    for simple in tests {
-        push_simple(alloc, out, simple)?;
-    }
-    Ok(())
-}
-
 /// The compounds with the joint before each, `::` for a pseudo-element, and the range.
-fn selector_text(alloc: Global, selector: &Selector) -> Result<String, AllocError> {
-    let mut out = String::new(alloc);
+fn push_selector(selector: &Selector, answer: &mut Answer) {
     for compound in &selector.compounds {
-        out.push_str(joint_text(compound.joint))?;
-        push_tests(alloc, &mut out, compound.tests.as_slice())?;
+        answer.push(joint_text(compound.joint));
+        push_tests(compound.tests.as_slice(), answer);
     }
     if selector.pseudo_element {
-        out.push_str("::")?;
+        answer.push("::");
     }
-    let (start, end) = (selector.range.start, selector.range.end);
-    out.push_str(format!(in alloc; " {start}-{end};")?.as_str())?;
-    Ok(out)
+    answer.push(" ");
+    answer.push_range(selector.range.start, selector.range.end);
+    answer.push(";");
 }
 
-/// The selectors, one behind the other.
-fn list_text(alloc: Global, list: &SelectorList) -> Result<String, AllocError> {
-    let mut out = String::new(alloc);
-    for i in 0..list.len() {
-        out.push_str(selector_text(alloc, list.at(i))?.as_str())?;
-    }
-    Ok(out)
-}
-
-/// The three numbers of each selector's specificity.
-fn weights(alloc: Global, list: &SelectorList) -> Result<String, AllocError> {
-    let mut out = String::new(alloc);
-    for i in 0..list.len() {
-        let weight = specificity(list.at(i));
-        let (a, b, c) = (weight.a, weight.b, weight.c);
-        out.push_str(format!(in alloc; "({a}, {b}, {c})")?.as_str())?;
-    }
-    Ok(out)
+/// The three numbers of a selector's specificity.
+fn push_weight(selector: &Selector, answer: &mut Answer) {
+    let weight = specificity(selector);
+    answer.push("(");
+    answer.push_number(weight.a as u64);
+    answer.push(", ");
+    answer.push_number(weight.b as u64);
+    answer.push(", ");
+    answer.push_number(weight.c as u64);
+    answer.push(")");
 }

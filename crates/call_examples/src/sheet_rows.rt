@@ -3,7 +3,7 @@
 //! `at [TEXT,LINE,COLUMN]` the byte there with that byte's line and column, and `book [STEP,..]` what steps on a book come to:
 //! `["put",ID,TEXT]`, `["copy",PLACE]`, `["change",ID,TEXT]`, `["place",ID]`, `["get",ID]`, `["remove",ID]` and `["len"]`.
 
-use crate::row_parts::{call_of, number_or_zero, text_or_empty, values_from};
+use crate::row_parts::{Answer, number_or_zero, push_layers, text_or_empty, values_from};
 use node_tree::Text;
 use serde_json::Value;
 use sheet_reader::{
@@ -11,7 +11,6 @@ use sheet_reader::{
     read_style, sealed,
 };
 use std::alloc::{AllocError, Global};
-use std::io;
 
 /// The most bytes of a sheet's text.
 const MOST_BYTES: usize = 1 << 24;
@@ -20,162 +19,143 @@ const MOST_BYTES: usize = 1 << 24;
 const MOST_IDS: u64 = 1 << 53;
 
 /// What comes of a row.
-pub fn told(alloc: Global, row: &str) -> io::Result<Vec<u8>> {
-    let (word, args) = call_of(alloc, row)?;
-    let text = text_or_empty(&args, 0);
-    let answer = match word {
-        "read" => outline_of(alloc, text)?,
-        "long" => outline_of(alloc, long_text(alloc, number_or_zero(&args, 0))?.as_str())?,
-        "style" => styles(alloc, text)?,
-        "sealed" => format!(in alloc; "{}", sealed(alloc, text)?)?,
-        "at" => there_and_back(
-            alloc,
-            text,
-            number_or_zero(&args, 1),
-            number_or_zero(&args, 2),
-        )?,
-        "book" => book_steps(alloc, values_from(&args, 0))?,
-        _ => String::from_str(alloc, "no such call")?,
-    };
-    Ok(answer.into_bytes())
-}
-
-/// A property as its name, value and whole, with `!` where it is important.
-fn push_property(alloc: Global, out: &mut String, property: &Property) -> Result<(), AllocError> {
-    let (name, value, whole) = (property.name.as_str(), property.value, property.whole);
-    let mark = if property.important { "!" } else { "" };
-    let (a, b, c, d) = (value.start, value.end, whole.start, whole.end);
-    out.push_str(format!(in alloc; " {name}={a}-{b}/{c}-{d}{mark}")?.as_str())
-}
-
-/// The properties, one behind the other.
-fn push_properties(
+pub(crate) fn told(
     alloc: Global,
-    out: &mut String,
-    properties: &[Property],
+    word: &str,
+    args: &Value,
+    answer: &mut Answer,
 ) -> Result<(), AllocError> {
-    for property in properties {
-        push_property(alloc, out, property)?;
+    let text = text_or_empty(args, 0);
+    match word {
+        "read" => push_sheet(&read_sheet(alloc, text)?, answer),
+        "long" => push_long(alloc, number_or_zero(args, 0), answer)?,
+        "style" => push_properties(read_style(alloc, text)?.as_slice(), answer),
+        "sealed" => answer.push_shown(&sealed(alloc, text)?),
+        "at" => push_there_and_back(text, args, answer),
+        "book" => take_steps(alloc, values_from(args, 0), answer)?,
+        _ => answer.push("no such call"),
     }
     Ok(())
+}
+
+/// The properties, one behind the other: each its name, value and whole, with `!` where it is important.
+pub(crate) fn push_properties(properties: &[Property], answer: &mut Answer) {
+    for property in properties {
+        let (value, whole) = (property.value, property.whole);
+        answer.push(" ");
+        answer.push(property.name.as_str());
+        answer.push("=");
+        answer.push_range(value.start, value.end);
+        answer.push("/");
+        answer.push_range(whole.start, whole.end);
+        if property.important {
+            answer.push("!");
+        }
+    }
 }
 
 /// A rule as its prelude, body and properties.
-fn push_rule(alloc: Global, out: &mut String, rule: &StyleRule) -> Result<(), AllocError> {
+fn push_rule(rule: &StyleRule, answer: &mut Answer) {
     let (prelude, body) = (rule.prelude, rule.body);
-    let (a, b, c, d) = (prelude.start, prelude.end, body.start, body.end);
-    out.push_str(format!(in alloc; "{a}-{b}{{{c}-{d}")?.as_str())?;
-    push_properties(alloc, out, rule.properties.as_slice())?;
-    out.push_str("} ")
+    answer.push_range(prelude.start, prelude.end);
+    answer.push("{");
+    answer.push_range(body.start, body.end);
+    push_properties(rule.properties.as_slice(), answer);
+    answer.push("} ");
 }
 
-/// The places where a rule may be added.
-fn push_places(alloc: Global, out: &mut String, places: &[usize]) -> Result<(), AllocError> {
-    for place in places {
-        out.push_str(format!(in alloc; " {place}")?.as_str())?;
+/// Each rule, and then the places where a rule may be added.
+fn push_sheet(sheet: &Sheet, answer: &mut Answer) {
+    for rule in sheet.rules.as_slice() {
+        push_rule(rule, answer);
+    }
+    answer.push("@");
+    for place in sheet.places.as_slice() {
+        answer.push(" ");
+        answer.push_number(*place as u64);
+    }
+}
+
+/// What a text of so many pieces of 16 bytes says as a sheet.
+fn push_long(alloc: Global, count: u64, answer: &mut Answer) -> Result<(), AllocError> {
+    let mut text = String::new(alloc);
+    text.push_str("a{b:longest-text")?;
+    push_layers(
+        &mut text,
+        count.saturating_sub(1),
+        "0123456789abcdef",
+        "",
+        "",
+    )?;
+    push_sheet(&read_sheet(alloc, text.as_str())?, answer);
+    Ok(())
+}
+
+/// The byte at a line and a column, and that byte's line and column.
+fn push_there_and_back(text: &str, args: &Value, answer: &mut Answer) {
+    match byte_at(text, number_or_zero(args, 1), number_or_zero(args, 2)) {
+        Some(byte) => {
+            let place = position(text, byte);
+            answer.push_number(byte as u64);
+            answer.push(" ");
+            answer.push_number(place.line);
+            answer.push(":");
+            answer.push_number(place.column);
+        }
+        None => answer.push("none"),
+    }
+}
+
+/// What each step on an empty book comes to.
+fn take_steps(alloc: Global, steps: &[Value], answer: &mut Answer) -> Result<(), AllocError> {
+    let mut book = SheetBook::new(alloc);
+    for step in steps {
+        take_step(alloc, &mut book, step, answer)?;
+        answer.push("; ");
     }
     Ok(())
 }
 
-/// Each rule, and then the places.
-fn outline(alloc: Global, sheet: &Sheet) -> Result<String, AllocError> {
-    let mut out = String::new(alloc);
-    for rule in sheet.rules.as_slice() {
-        push_rule(alloc, &mut out, rule)?;
-    }
-    out.push_str("@")?;
-    push_places(alloc, &mut out, sheet.places.as_slice())?;
-    Ok(out)
-}
-
-/// What a text says as a sheet.
-fn outline_of(alloc: Global, text: &str) -> Result<String, AllocError> {
-    let sheet = read_sheet(alloc, text)?;
-    outline(alloc, &sheet)
-}
-
-/// A sheet's text of so many pieces of 16 bytes.
-fn long_text(alloc: Global, count: u64) -> Result<String, AllocError> {
-    let mut text = String::from_str(alloc, "a{b:longest-text")?;
-    for _i in 1..count {
-        text.push_str("0123456789abcdef")?;
-    }
-    Ok(text)
-}
-
-/// What a text says as a body.
-fn styles(alloc: Global, text: &str) -> Result<String, AllocError> {
-    let mut out = String::new(alloc);
-    push_properties(alloc, &mut out, read_style(alloc, text)?.as_slice())?;
-    Ok(out)
-}
-
-/// The byte at a line and a column, and that byte's line and column.
-fn there_and_back(alloc: Global, text: &str, line: u64, column: u64) -> Result<String, AllocError> {
-    let Some(byte) = byte_at(text, line, column) else {
-        return String::from_str(alloc, "none");
-    };
-    let place = position(text, byte);
-    let (line, column) = (place.line, place.column);
-    format!(in alloc; "{byte} {line}:{column}")
-}
-
-/// What each step on an empty book comes to.
-fn book_steps(alloc: Global, steps: &[Value]) -> Result<String, AllocError> {
-    let mut book = SheetBook::new(alloc);
-    let mut out = String::new(alloc);
-    for step in steps {
-        out.push_str(book_step(alloc, &mut book, step)?.as_str())?;
-        out.push_str("; ")?;
-    }
-    Ok(out)
-}
-
 /// A step on a book.
-fn book_step(alloc: Global, book: &mut SheetBook, step: &Value) -> Result<String, AllocError> {
-    let number = number_or_zero(step, 1);
+fn take_step(
+    alloc: Global,
+    book: &mut SheetBook,
+    step: &Value,
+    answer: &mut Answer,
+) -> Result<(), AllocError> {
+    let (number, text) = (number_or_zero(step, 1), text_or_empty(step, 2));
     match text_or_empty(step, 0) {
-        "put" => put_step(alloc, book, number, text_or_empty(step, 2)),
-        "change" => change_step(alloc, book, number, text_or_empty(step, 2)),
-        "copy" => copy_step(alloc, book, number as usize),
-        "place" => format!(in alloc; "{:?}", book.place_of(number)),
-        "get" => entry_text(alloc, book.get(number)),
-        "remove" => removed_text(alloc, book.remove(number)),
-        "len" => format!(in alloc; "{}", book.len()),
-        _ => String::from_str(alloc, "no such step"),
+        "put" => {
+            let is_put = put_sheet(alloc, book, number, Origin::Regular, text)?;
+            answer.push(if is_put { "put" } else { "not put" });
+        }
+        "change" => change_step(alloc, book, number, text, answer)?,
+        "copy" => copy_step(book, number as usize, answer)?,
+        "place" => answer.push_debug(&book.place_of(number)),
+        "get" => push_entry(book.get(number), answer),
+        "remove" => push_entry(book.remove(number).as_ref(), answer),
+        "len" => answer.push_number(book.len() as u64),
+        _ => answer.push("no such step"),
     }
+    Ok(())
 }
 
 /// A sheet as its id, origin and text.
-fn entry_text(alloc: Global, entry: Option<&SheetEntry>) -> Result<String, AllocError> {
-    let Some(entry) = entry else {
-        return String::from_str(alloc, "none");
-    };
-    let (id, origin, text) = (entry.id, entry.origin, entry.text.as_str());
-    format!(in alloc; "{id} {origin:?} {text:?}")
-}
-
-/// What was taken out of a book.
-fn removed_text(alloc: Global, entry: Option<SheetEntry>) -> Result<String, AllocError> {
-    entry_text(alloc, entry.as_ref())
-}
-
-/// Puts a sheet, and tells whether that was possible.
-fn put_step(
-    alloc: Global,
-    book: &mut SheetBook,
-    id: u64,
-    text: &str,
-) -> Result<String, AllocError> {
-    if put_sheet(alloc, book, id, Origin::Regular, text)? {
-        String::from_str(alloc, "put")
-    } else {
-        String::from_str(alloc, "not put")
+fn push_entry(entry: Option<&SheetEntry>, answer: &mut Answer) {
+    match entry {
+        Some(entry) => {
+            answer.push_number(entry.id);
+            answer.push(" ");
+            answer.push_debug(&entry.origin);
+            answer.push(" ");
+            answer.push_debug(&entry.text.as_str());
+        }
+        None => answer.push("none"),
     }
 }
 
 /// The origin of this name.
-pub fn origin_of(name: &str) -> Origin {
+pub(crate) fn origin_of(name: &str) -> Origin {
     match name {
         "UserAgent" => Origin::UserAgent,
         _ => Origin::Regular,
@@ -183,7 +163,7 @@ pub fn origin_of(name: &str) -> Origin {
 }
 
 /// Puts a sheet last, if a book may have it and has none with its id.
-pub fn put_sheet(
+pub(crate) fn put_sheet(
     alloc: Global,
     book: &mut SheetBook,
     id: u64,
@@ -211,12 +191,15 @@ fn change_step(
     book: &mut SheetBook,
     id: u64,
     text: &str,
-) -> Result<String, AllocError> {
+    answer: &mut Answer,
+) -> Result<(), AllocError> {
     if id == 0 || id >= MOST_IDS || text.len() > MOST_BYTES {
-        return String::from_str(alloc, "not changed");
+        answer.push("not changed");
+        return Ok(());
     }
     let Some(_) = book.get(id) else {
-        return String::from_str(alloc, "not changed");
+        answer.push("not changed");
+        return Ok(());
     };
     let old = book.change(SheetEntry {
         id,
@@ -224,17 +207,19 @@ fn change_step(
         text: Text::copied(alloc, text)?,
         reading: read_sheet(alloc, text)?,
     });
-    entry_text(alloc, Some(&old))
+    push_entry(Some(&old), answer);
+    Ok(())
 }
 
 /// A copy of the sheet at this place, with what it says.
-fn copy_step(alloc: Global, book: &SheetBook, place: usize) -> Result<String, AllocError> {
+fn copy_step(book: &SheetBook, place: usize, answer: &mut Answer) -> Result<(), AllocError> {
     if place >= book.len() {
-        return String::from_str(alloc, "none");
+        answer.push("none");
+        return Ok(());
     }
     let copy = book.copy_at(place)?;
-    let mut out = entry_text(alloc, Some(&copy))?;
-    out.push_str(" ")?;
-    out.push_str(outline(alloc, &copy.reading)?.as_str())?;
-    Ok(out)
+    push_entry(Some(&copy), answer);
+    answer.push(" ");
+    push_sheet(&copy.reading, answer);
+    Ok(())
 }

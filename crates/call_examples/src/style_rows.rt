@@ -4,31 +4,53 @@
 //! its first line are told at which a rule may be added. Of an edit the sheet's text after it and the splices that lead
 //! back are told, or the fault and the text.
 
-use crate::row_parts::{call_of, number_or_zero, text_or_empty, values_from};
+use crate::row_parts::{Answer, number_or_zero, text_or_empty, values_from};
 use crate::sheet_rows::origin_of;
 use node_tree::Text;
 use serde_json::Value;
 use sheet_reader::{Origin, SheetBook};
 use std::alloc::{AllocError, Global};
-use std::io;
 use style_edits::{
     LineRange, SheetErr, Splice, StyleEdit, add_rule, add_sheet, drop_sheet, set_selector,
     set_styles, set_text,
 };
 
 /// What comes of a row.
-pub fn told(alloc: Global, row: &str) -> io::Result<Vec<u8>> {
-    let (word, args) = call_of(alloc, row)?;
-    let text = text_or_empty(&args, 0);
-    let answer = match word {
-        "set" => styled(alloc, text, values_from(&args, 1))?,
-        "selector" => selected(alloc, text, &args)?,
-        "rule" => ruled(alloc, text, &args)?,
-        "text" => another(alloc, text, text_or_empty(&args, 1))?,
-        "open" => open_columns(alloc, text)?,
-        _ => String::from_str(alloc, "no such call")?,
+pub(crate) fn told(
+    alloc: Global,
+    word: &str,
+    args: &Value,
+    answer: &mut Answer,
+) -> Result<(), AllocError> {
+    if word == "open" {
+        return push_open_columns(alloc, text_or_empty(args, 0), answer);
+    }
+    let origin = match word {
+        "rule" => origin_of(text_or_empty(args, 1)),
+        _ => Origin::Regular,
     };
-    Ok(answer.into_bytes())
+    let mut book = book_of(alloc, origin, text_or_empty(args, 0))?;
+    edit(alloc, &mut book, word, args, answer)
+}
+
+/// Carries out an edit on a book.
+fn edit(
+    alloc: Global,
+    book: &mut SheetBook,
+    word: &str,
+    args: &Value,
+    answer: &mut Answer,
+) -> Result<(), AllocError> {
+    match word {
+        "set" => set_all(alloc, book, values_from(args, 1), answer),
+        "selector" => select(book, args, answer),
+        "rule" => rule(book, args, answer),
+        "text" => replace(book, text_or_empty(args, 1), answer),
+        _ => {
+            answer.push("no such call");
+            Ok(())
+        }
+    }
 }
 
 /// A book with the sheet 1.
@@ -68,105 +90,129 @@ fn column(at: u64) -> LineRange {
     }
 }
 
-/// The sheet's text and the splices that lead back.
-fn spliced(alloc: Global, book: &SheetBook, backs: &[Splice]) -> Result<String, AllocError> {
-    let mut out = format!(in alloc; "{:?}", text_of(book))?;
-    for back in backs {
-        let (start, end, text) = (back.start, back.end, back.text.as_str());
-        out.push_str(format!(in alloc; " {start}-{end} {text:?}")?.as_str())?;
-    }
-    Ok(out)
+/// The sheet's text.
+fn push_text(book: &SheetBook, answer: &mut Answer) {
+    answer.push_debug(&text_of(book));
 }
 
-/// What came of edits.
-fn outcome(
-    alloc: Global,
-    book: &SheetBook,
-    made: Result<Vec<Splice>, SheetErr>,
-) -> Result<String, AllocError> {
-    match made {
-        Ok(backs) => spliced(alloc, book, backs.as_slice()),
-        Err(SheetErr::Fault(fault)) => format!(in alloc; "{fault:?} {:?}", text_of(book)),
-        Err(SheetErr::Memory) => Err(AllocError),
+/// The splice that leads back from an edit.
+fn push_splice(back: &Splice, answer: &mut Answer) {
+    answer.push(" ");
+    answer.push_range(back.start, back.end);
+    answer.push(" ");
+    answer.push_debug(&back.text.as_str());
+}
+
+/// What stopped an edit, and the sheet's text.
+fn push_stop(book: &SheetBook, stop: SheetErr, answer: &mut Answer) -> Result<(), AllocError> {
+    match stop {
+        SheetErr::Fault(fault) => {
+            answer.push_debug(&fault);
+            answer.push(" ");
+            push_text(book, answer);
+            Ok(())
+        }
+        SheetErr::Memory => Err(AllocError),
     }
 }
 
 /// What came of one edit.
-fn outcome_of_one(
-    alloc: Global,
+fn push_outcome(
     book: &SheetBook,
     made: Result<Splice, SheetErr>,
-) -> Result<String, AllocError> {
+    answer: &mut Answer,
+) -> Result<(), AllocError> {
     match made {
-        Ok(back) => spliced(alloc, book, &[back]),
-        Err(stop) => outcome(alloc, book, Err(stop)),
+        Ok(back) => {
+            push_text(book, answer);
+            push_splice(&back, answer);
+            Ok(())
+        }
+        Err(stop) => push_stop(book, stop, answer),
     }
+}
+
+/// The new body that a list names.
+fn edit_of(alloc: Global, edit: &Value) -> Result<StyleEdit, AllocError> {
+    Ok(StyleEdit {
+        sheet: 1,
+        range: range_of(edit),
+        text: Text::copied(alloc, text_or_empty(edit, 4))?,
+    })
 }
 
 /// The new bodies of a call.
 fn edits_of(alloc: Global, edits: &[Value]) -> Result<Vec<StyleEdit>, AllocError> {
     let mut out = Vec::new(alloc);
     for edit in edits {
-        out.push(StyleEdit {
-            sheet: 1,
-            range: range_of(edit),
-            text: Text::copied(alloc, text_or_empty(edit, 4))?,
-        })?;
+        out.push(edit_of(alloc, edit)?)?;
     }
     Ok(out)
 }
 
 /// Sets bodies in one call.
-fn styled(alloc: Global, text: &str, edits: &[Value]) -> Result<String, AllocError> {
-    let mut book = book_of(alloc, Origin::Regular, text)?;
+fn set_all(
+    alloc: Global,
+    book: &mut SheetBook,
+    edits: &[Value],
+    answer: &mut Answer,
+) -> Result<(), AllocError> {
     let edits = edits_of(alloc, edits)?;
-    let made = set_styles(&mut book, edits.as_slice());
-    outcome(alloc, &book, made)
+    match set_styles(book, edits.as_slice()) {
+        Ok(backs) => {
+            push_text(book, answer);
+            for back in &backs {
+                push_splice(back, answer);
+            }
+            Ok(())
+        }
+        Err(stop) => push_stop(book, stop, answer),
+    }
 }
 
 /// Sets a prelude.
-fn selected(alloc: Global, text: &str, args: &Value) -> Result<String, AllocError> {
-    let mut book = book_of(alloc, Origin::Regular, text)?;
+fn select(book: &mut SheetBook, args: &Value, answer: &mut Answer) -> Result<(), AllocError> {
     let Some(edit) = args.get(1) else {
-        return String::from_str(alloc, "no edit");
+        return Ok(());
     };
-    let made = set_selector(&mut book, 1, &range_of(edit), text_or_empty(edit, 4));
-    outcome_of_one(alloc, &book, made)
+    let made = set_selector(book, 1, &range_of(edit), text_or_empty(edit, 4));
+    push_outcome(book, made, answer)
 }
 
 /// Adds a rule.
-fn ruled(alloc: Global, text: &str, args: &Value) -> Result<String, AllocError> {
-    let mut book = book_of(alloc, origin_of(text_or_empty(args, 1)), text)?;
+fn rule(book: &mut SheetBook, args: &Value, answer: &mut Answer) -> Result<(), AllocError> {
     let Some(edit) = args.get(3) else {
-        return String::from_str(alloc, "no edit");
+        return Ok(());
     };
-    let made = add_rule(
-        &mut book,
-        number_or_zero(args, 2),
-        text_or_empty(edit, 4),
-        &range_of(edit),
-    );
-    outcome_of_one(alloc, &book, made)
+    let (id, text) = (number_or_zero(args, 2), text_or_empty(edit, 4));
+    let made = add_rule(book, id, text, &range_of(edit));
+    push_outcome(book, made, answer)
 }
 
 /// Sets the whole text, and then drops the sheet twice.
-fn another(alloc: Global, text: &str, new: &str) -> Result<String, AllocError> {
+fn replace(book: &mut SheetBook, new: &str, answer: &mut Answer) -> Result<(), AllocError> {
+    let made = set_text(book, 1, new);
+    push_outcome(book, made, answer)?;
+    answer.push("; ");
+    answer.push_debug(&drop_sheet(book, 1));
+    answer.push(" ");
+    answer.push_debug(&drop_sheet(book, 1));
+    Ok(())
+}
+
+/// Whether a rule may be added at this column of the first line.
+fn is_open(alloc: Global, text: &str, at: u64) -> Result<bool, AllocError> {
     let mut book = book_of(alloc, Origin::Regular, text)?;
-    let made = set_text(&mut book, 1, new);
-    let out = outcome_of_one(alloc, &book, made)?;
-    let first = drop_sheet(&mut book, 1);
-    let second = drop_sheet(&mut book, 1);
-    format!(in alloc; "{out}; {first:?} {second:?}")
+    Ok(add_rule(&mut book, 1, "u{}", &column(at)).is_ok())
 }
 
 /// The columns of the first line at which a rule may be added.
-fn open_columns(alloc: Global, text: &str) -> Result<String, AllocError> {
-    let mut out = String::new(alloc);
+fn push_open_columns(alloc: Global, text: &str, answer: &mut Answer) -> Result<(), AllocError> {
     for at in 0..text.len() as u64 {
-        let mut book = book_of(alloc, Origin::Regular, text)?;
-        if add_rule(&mut book, 1, "u{}", &column(at)).is_ok() {
-            out.push_str(format!(in alloc; " {at}")?.as_str())?;
+        if is_open(alloc, text, at)? {
+            answer.push(" ");
+            answer.push_number(at);
         }
     }
-    Ok(out)
+    Ok(())
 }

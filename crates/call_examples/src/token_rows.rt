@@ -1,22 +1,26 @@
 //! Rows of the tokenizer: `cut [TEXT]` names the pieces of a text and how many bytes each has, `next [TEXT]` asks for two
 //! pieces, and `say [TEXT]` tells what an escaped text stands for.
 
-use crate::row_parts::{call_of, text_or_empty};
+use crate::row_parts::{Answer, text_or_empty};
 use css_tokens::{Token, TokenKind, Tokens, all_tokens, unescape};
+use serde_json::Value;
 use std::alloc::{AllocError, Global};
-use std::io;
 
 /// What comes of a row.
-pub fn told(alloc: Global, row: &str) -> io::Result<Vec<u8>> {
-    let (word, args) = call_of(alloc, row)?;
-    let text = text_or_empty(&args, 0);
-    let answer = match word {
-        "cut" => pieces(alloc, text)?,
-        "next" => first_two(alloc, text)?,
-        "say" => unescape(alloc, text)?,
-        _ => String::from_str(alloc, "no such call")?,
-    };
-    Ok(answer.into_bytes())
+pub(crate) fn told(
+    alloc: Global,
+    word: &str,
+    args: &Value,
+    answer: &mut Answer,
+) -> Result<(), AllocError> {
+    let text = text_or_empty(args, 0);
+    match word {
+        "cut" => push_pieces(all_tokens(alloc, text)?.as_slice(), answer),
+        "next" => push_first_two(text, answer),
+        "say" => answer.push(unescape(alloc, text)?.as_str()),
+        _ => answer.push("no such call"),
+    }
+    Ok(())
 }
 
 /// A short name of the kind.
@@ -52,32 +56,30 @@ fn name(kind: TokenKind) -> &'static str {
 }
 
 /// The name of each piece's kind, and how many bytes it has.
-fn pieces(alloc: Global, text: &str) -> Result<String, AllocError> {
-    if text.is_empty() {
-        return String::from_str(alloc, "none");
+fn push_pieces(tokens: &[Token], answer: &mut Answer) {
+    if tokens.is_empty() {
+        answer.push("none");
     }
-    let mut out = String::new(alloc);
-    for token in all_tokens(alloc, text)? {
-        let kind = name(token.kind);
-        let len = token.end.saturating_sub(token.start);
-        out.push_str(format!(in alloc; "{kind} {len} ")?.as_str())?;
+    for token in tokens {
+        answer.push(name(token.kind));
+        answer.push(" ");
+        answer.push_number(token.end.saturating_sub(token.start) as u64);
+        answer.push(" ");
     }
-    Ok(out)
 }
 
 /// Where the first two pieces stand.
-fn first_two(alloc: Global, text: &str) -> Result<String, AllocError> {
+fn push_first_two(text: &str, answer: &mut Answer) {
     let mut tokens = Tokens::new(text);
-    let mut out = place(alloc, tokens.next())?;
-    out.push_str(" ")?;
-    out.push_str(place(alloc, tokens.next())?.as_str())?;
-    Ok(out)
+    push_place(tokens.next(), answer);
+    answer.push(" ");
+    push_place(tokens.next(), answer);
 }
 
 /// Where a piece stands, if there is one.
-fn place(alloc: Global, token: Option<Token>) -> Result<String, AllocError> {
+fn push_place(token: Option<Token>, answer: &mut Answer) {
     match token {
-        Some(Token { start, end, .. }) => format!(in alloc; "{start}-{end}"),
-        None => String::from_str(alloc, "none"),
+        Some(Token { start, end, .. }) => answer.push_range(start, end),
+        None => answer.push("none"),
     }
 }

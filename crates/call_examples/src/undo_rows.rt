@@ -2,20 +2,19 @@
 //! `sheet` one of a sheet, and `mark`, `undo`, `redo`, `cross`, `clear` and `kept` are as the calls. Of a group that is undone
 //! or redone the names are told, as if each of its edits gave an edit of the same name.
 
+use crate::row_parts::Answer;
 use page_tree::{Text, TreeEdit};
 use std::alloc::{AllocError, Global};
-use std::io;
 use style_edits::Splice;
 use undo_marks::{History, Inverse, Popped};
 
 /// What comes of a row.
-pub fn told(alloc: Global, row: &str) -> io::Result<Vec<u8>> {
+pub(crate) fn told(alloc: Global, row: &str, answer: &mut Answer) -> Result<(), AllocError> {
     let mut history = History::new(alloc);
-    let mut said = String::new(alloc);
     for step in row.split_whitespace() {
-        take_step(alloc, &mut history, step, &mut said)?;
+        take_step(alloc, &mut history, step, answer)?;
     }
-    Ok(said.into_bytes())
+    Ok(())
 }
 
 /// A step on a history.
@@ -23,7 +22,7 @@ fn take_step(
     alloc: Global,
     history: &mut History,
     step: &str,
-    said: &mut String,
+    answer: &mut Answer,
 ) -> Result<(), AllocError> {
     match step {
         "steps" => {}
@@ -31,9 +30,12 @@ fn take_step(
         "cross" => history.cross(),
         "clear" => history.clear(),
         "sheet" => note_sheet(alloc, history)?,
-        "undo" => undo(history, said)?,
-        "redo" => redo(history, said)?,
-        "kept" => said.push_str(format!(in alloc; "{} ", history.kept())?.as_str())?,
+        "undo" => undo(history, answer)?,
+        "redo" => redo(history, answer)?,
+        "kept" => {
+            answer.push_number(history.kept());
+            answer.push(" ");
+        }
         other => note_attribute(alloc, history, other)?,
     }
     Ok(())
@@ -56,45 +58,42 @@ fn note_sheet(alloc: Global, history: &mut History) -> Result<(), AllocError> {
     }))
 }
 
-/// What an edit changes.
-fn add_name(names: &mut String, inverse: &Inverse) -> Result<(), AllocError> {
-    match inverse {
-        Inverse::Tree(TreeEdit::DropAttr { name, .. }) => names.push_str(name.as_str()),
-        Inverse::Tree(_) => names.push_str("?"),
-        Inverse::Sheet(_) => names.push_str("sheet"),
-    }
-}
-
 /// What the edits change, in their order.
-fn add_names(names: &mut String, edits: &[Inverse]) -> Result<(), AllocError> {
+fn push_names(edits: &[Inverse], answer: &mut Answer) {
     for inverse in edits {
-        add_name(names, inverse)?;
+        match inverse {
+            Inverse::Tree(TreeEdit::DropAttr { name, .. }) => answer.push(name.as_str()),
+            Inverse::Tree(_) => answer.push("?"),
+            Inverse::Sheet(_) => answer.push("sheet"),
+        }
     }
-    names.push_str(" ")
+    answer.push(" ");
 }
 
 /// Undoes, as if each edit of the group gave an edit of the same name.
-fn undo(history: &mut History, said: &mut String) -> Result<(), AllocError> {
+fn undo(history: &mut History, answer: &mut Answer) -> Result<(), AllocError> {
     match history.pop_undo() {
         Popped::Group(edits) => {
             let edits = edits.into_vec();
-            add_names(said, &edits)?;
-            history.push_undone(edits)
+            push_names(&edits, answer);
+            return history.push_undone(edits);
         }
-        Popped::Nothing => said.push_str("nothing "),
-        Popped::Crossed => said.push_str("crossed "),
+        Popped::Nothing => answer.push("nothing "),
+        Popped::Crossed => answer.push("crossed "),
     }
+    Ok(())
 }
 
 /// Redoes in the same way.
-fn redo(history: &mut History, said: &mut String) -> Result<(), AllocError> {
+fn redo(history: &mut History, answer: &mut Answer) -> Result<(), AllocError> {
     match history.pop_redo() {
         Popped::Group(edits) => {
             let edits = edits.into_vec();
-            add_names(said, &edits)?;
-            history.push_redone(edits)
+            push_names(&edits, answer);
+            return history.push_redone(edits);
         }
-        Popped::Nothing => said.push_str("nothing "),
-        Popped::Crossed => said.push_str("crossed "),
+        Popped::Nothing => answer.push("nothing "),
+        Popped::Crossed => answer.push("crossed "),
     }
+    Ok(())
 }
