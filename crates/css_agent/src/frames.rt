@@ -79,12 +79,7 @@ fn tell_changes(alloc: Global, backs: &[Splice], out: &mut Vec<u8>) -> Result<()
 }
 
 /// Appends the reply.
-fn tell_result(
-    alloc: Global,
-    id: u64,
-    body: ReplyBody,
-    out: &mut Vec<u8>,
-) -> Result<(), AllocError>
+fn tell_result(alloc: Global, id: u64, body: ReplyBody, out: &mut Vec<u8>) -> Result<(), AllocError>
     ensures { OnOk result (out.new.items ≡ out.old.items ++ frames_of_moves (replied id body ∷ [])) }
 {
     write_reply(alloc, id, &body, out)
