@@ -10,6 +10,7 @@ use cdp_messages::{
     Asked, DomAsk, Down, DownErr, ReadErr, ReplyBody, Text, read_command, read_down, read_result,
     read_root, write_event, write_refused, write_reply,
 };
+use serde_json::Value;
 use std::alloc::{AllocError, Global};
 
 /// What a row comes to.
@@ -78,15 +79,26 @@ fn write_again(
     answer: &mut Answer,
 ) -> Result<(), AllocError> {
     match down {
-        Down::Reply { id, result } => match read_result(alloc, method, result) {
-            Ok(body) => write_reply(alloc, *id, &body, answer.bytes()),
-            Err(error) => push_error(error, "no message", answer),
-        },
+        Down::Reply { id, result } => reply_again(alloc, method, *id, result, answer),
         Down::Fault { id, code, text } => {
             push_fault(*id, *code, text, answer);
             Ok(())
         }
         Down::Event(event) => write_event(alloc, event, answer.bytes()),
+    }
+}
+
+/// Reads the result of a reply, and writes the reply.
+fn reply_again(
+    alloc: Global,
+    method: &str,
+    id: u64,
+    value: &Value,
+    answer: &mut Answer,
+) -> Result<(), AllocError> {
+    match read_result(alloc, method, value) {
+        Ok(body) => write_reply(alloc, id, &body, answer.bytes()),
+        Err(error) => push_error(error, "no message", answer),
     }
 }
 

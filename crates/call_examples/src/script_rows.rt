@@ -47,18 +47,23 @@ fn push_read(alloc: Global, script: &[u8], answer: &mut Answer) -> Result<(), Al
     let mut number = 0u64;
     for line in Lines::new(script) {
         number = number.wrapping_add(1);
-        match read_line(alloc, number, line) {
-            Ok(_) => {},
-            Err(LineErr::Fault(fault)) => {
-                push_fault(number, fault, answer);
-                return Ok(());
-            }
-            Err(LineErr::Memory) => return Err(AllocError),
+        if let Some(fault) = fault_of(alloc, number, line)? {
+            push_fault(number, fault, answer);
+            return Ok(());
         }
     }
     answer.push_number(number);
     answer.push(" lines");
     Ok(())
+}
+
+/// Why the line with this number is refused, if it is.
+fn fault_of(alloc: Global, number: u64, line: &[u8]) -> Result<Option<LineFault>, AllocError> {
+    match read_line(alloc, number, line) {
+        Ok(_) => Ok(None),
+        Err(LineErr::Fault(fault)) => Ok(Some(fault)),
+        Err(LineErr::Memory) => Err(AllocError),
+    }
 }
 
 /// A fault of the line with this number.

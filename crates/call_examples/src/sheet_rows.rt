@@ -27,14 +27,37 @@ pub(crate) fn told(
 ) -> Result<(), AllocError> {
     let text = text_or_empty(args, 0);
     match word {
-        "read" => push_sheet(&read_sheet(alloc, text)?, answer),
-        "long" => push_long(alloc, number_or_zero(args, 0), answer)?,
-        "style" => push_properties(read_style(alloc, text)?.as_slice(), answer),
-        "sealed" => answer.push_shown(&sealed(alloc, text)?),
-        "at" => push_there_and_back(text, args, answer),
-        "book" => take_steps(alloc, values_from(args, 0), answer)?,
-        _ => answer.push("no such call"),
+        "read" => push_read(alloc, text, answer),
+        "long" => push_long(alloc, number_or_zero(args, 0), answer),
+        "style" => push_style(alloc, text, answer),
+        "sealed" => push_sealed(alloc, text, answer),
+        "at" => {
+            push_there_and_back(text, args, answer);
+            Ok(())
+        }
+        "book" => take_steps(alloc, values_from(args, 0), answer),
+        _ => {
+            answer.push("no such call");
+            Ok(())
+        }
     }
+}
+
+/// Whether a text is sealed.
+fn push_sealed(alloc: Global, text: &str, answer: &mut Answer) -> Result<(), AllocError> {
+    answer.push_shown(&sealed(alloc, text)?);
+    Ok(())
+}
+
+/// What a text says as a sheet.
+fn push_read(alloc: Global, text: &str, answer: &mut Answer) -> Result<(), AllocError> {
+    push_sheet(&read_sheet(alloc, text)?, answer);
+    Ok(())
+}
+
+/// What a text says as a body.
+fn push_style(alloc: Global, text: &str, answer: &mut Answer) -> Result<(), AllocError> {
+    push_properties(read_style(alloc, text)?.as_slice(), answer);
     Ok(())
 }
 
@@ -133,11 +156,16 @@ fn take_step(
         "copy" => copy_step(book, number as usize, answer)?,
         "place" => answer.push_debug(&book.place_of(number)),
         "get" => push_entry(book.get(number), answer),
-        "remove" => push_entry(book.remove(number).as_ref(), answer),
+        "remove" => push_removed(book, number, answer),
         "len" => answer.push_number(book.len() as u64),
         _ => answer.push("no such step"),
     }
     Ok(())
+}
+
+/// Takes a sheet out of a book, and tells it.
+fn push_removed(book: &mut SheetBook, id: u64, answer: &mut Answer) {
+    push_entry(book.remove(id).as_ref(), answer);
 }
 
 /// A sheet as its id, origin and text.

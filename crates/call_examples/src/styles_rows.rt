@@ -26,31 +26,36 @@ pub(crate) fn told(
     answer: &mut Answer,
 ) -> Result<(), AllocError> {
     let book = book_of(alloc, text_or_empty(args, 0))?;
+    tell_call(alloc, word, args, &book, answer)?;
+    answer.drop_zero();
+    Ok(())
+}
+
+/// What a call comes to over the book.
+fn tell_call(
+    alloc: Global,
+    word: &str,
+    args: &Value,
+    book: &SheetBook,
+    answer: &mut Answer,
+) -> Result<(), AllocError> {
     match word {
-        "switch" => switch_twice(alloc, &book, answer)?,
+        "switch" => switch_twice(alloc, book, answer),
         "classes" => {
             let sheet = Text::copied(alloc, "s1")?;
-            ask(
-                alloc,
-                &book,
-                1,
-                &CssAsk::CollectClassNames { sheet },
-                answer,
-            )?;
+            ask(alloc, book, 1, CssAsk::CollectClassNames { sheet }, answer)
         }
         _ => {
             let (serial, node) = (number_or_zero(args, 1), number_or_zero(args, 2));
             ask(
                 alloc,
-                &book,
+                book,
                 serial,
-                &CssAsk::GetMatchedStyles { node },
+                CssAsk::GetMatchedStyles { node },
                 answer,
-            )?;
+            )
         }
     }
-    answer.drop_zero();
-    Ok(())
 }
 
 /// A book with the sheet 1.
@@ -74,12 +79,12 @@ fn ask(
     alloc: Global,
     book: &SheetBook,
     node: u64,
-    ask: &CssAsk,
+    ask: CssAsk,
     answer: &mut Answer,
 ) -> Result<(), AllocError> {
     let nodes = value_of(alloc, NODES)?;
     match page_of(alloc, &nodes)? {
-        Some(page) => answer_ask(alloc, &page, book, node, ask, answer),
+        Some(page) => answer_ask(alloc, &page, book, node, &ask, answer),
         None => Ok(()),
     }
 }
