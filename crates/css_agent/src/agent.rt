@@ -7,7 +7,7 @@ ghost use Rattle.css_agent.specs.Asks.{NodeIsThere, css_outcome, answer_move};
 ghost use Rattle.css_agent.specs.Edits.{css_edited, edit_splices, edit_moves};
 
 use crate::asks::CssAsk;
-use crate::edit_outcomes::css_edited;
+use crate::edit_outcomes::{Done, css_edited};
 use crate::edits::CssEdit;
 use crate::frames::{answer, tell_edit, tell_sheets_if};
 use crate::outcomes::css_outcome;
@@ -116,7 +116,8 @@ impl CssAgent {
             Ok(done) => done,
             Err(stop) => return Err(stop),
         };
-        tell_edit(self.alloc, id, done.backs.as_slice(), done.body, out)?;
-        Ok(done.backs)
+        let Done { backs, body } = done;
+        tell_edit(self.alloc, id, backs.as_slice(), body, out)?;
+        Ok(backs)
     }
 }
