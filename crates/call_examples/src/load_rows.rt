@@ -47,15 +47,16 @@ fn push_act(act: &Act, answer: &mut Answer) {
     match act {
         Act::SetAttr { node, name, value } => {
             push_numbers("set", &[*node], answer);
-            push_texts(&[name.as_str(), value.as_str()], answer);
+            push_text(name.as_str(), answer);
+            push_text(value.as_str(), answer);
         }
         Act::DropAttr { node, name } => {
             push_numbers("drop", &[*node], answer);
-            push_texts(&[name.as_str()], answer);
+            push_text(name.as_str(), answer);
         }
         Act::SetText { node, value } => {
             push_numbers("text", &[*node], answer);
-            push_texts(&[value.as_str()], answer);
+            push_text(value.as_str(), answer);
         }
         Act::Insert {
             parent,
@@ -63,7 +64,7 @@ fn push_act(act: &Act, answer: &mut Answer) {
             form,
         } => {
             push_numbers("insert", &[*parent, *before], answer);
-            push_texts(&[form.name.as_str()], answer);
+            push_text(form.name.as_str(), answer);
             push_numbers("", &[form.children.len() as u64], answer);
         }
         Act::Remove { node } => push_numbers("remove", &[*node], answer),
@@ -81,15 +82,17 @@ fn push_sheet_act(act: &Act, answer: &mut Answer) {
     match act {
         Act::AddSheet { origin, text } => {
             answer.push("add");
-            push_texts(&[origin_word(*origin), text.as_str()], answer);
+            push_text(origin_word(*origin), answer);
+            push_text(text.as_str(), answer);
         }
         Act::DropSheet { sheet } => {
             answer.push("drop");
-            push_texts(&[sheet.as_str()], answer);
+            push_text(sheet.as_str(), answer);
         }
         Act::ReplaceSheet { sheet, text } => {
             answer.push("replace");
-            push_texts(&[sheet.as_str(), text.as_str()], answer);
+            push_text(sheet.as_str(), answer);
+            push_text(text.as_str(), answer);
         }
         _ => answer.push("another act"),
     }
@@ -104,12 +107,10 @@ fn push_numbers(word: &str, numbers: &[u64], answer: &mut Answer) {
     }
 }
 
-/// Texts with a space before each.
-fn push_texts(texts: &[&str], answer: &mut Answer) {
-    for text in texts {
-        answer.push(" ");
-        answer.push(text);
-    }
+/// A text with a space before it.
+fn push_text(text: &str, answer: &mut Answer) {
+    answer.push(" ");
+    answer.push(text);
 }
 
 /// The sheets of a page after the number of nodes right below its document, or why it is refused.
