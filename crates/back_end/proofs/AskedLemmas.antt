@@ -11,87 +11,11 @@ use Rattle.cdp_json.specs.declared.fields.Field.TheVariants.{Is, Missing, WrongK
 use Rattle.cdp_json.specs.Fields.{field_if, field_from, field_of}
 use Rattle.cdp_json.proofs.Options.{and_then_some, if_some}
 use Rattle.cdp_messages.specs.declared.command.Command.{Command}
-use Rattle.cdp_messages.specs.declared.command.Command.TheVariants.{DomEnable, DomDisable, GetDocument, RequestChildNodes, PushByPath}
-use Rattle.cdp_messages.specs.declared.command.Command.TheVariants.{PushBySerials, QuerySelector, QuerySelectorAll, GetAttributes}
-use Rattle.cdp_messages.specs.declared.command.Command.TheVariants.{DescribeNode, SetAttributeValue, RemoveAttribute, SetNodeValue}
-use Rattle.cdp_messages.specs.declared.command.Command.TheVariants.{RemoveNode, MoveTo, CopyTo, MarkUndoableState, Undo, Redo, CssEnable}
-use Rattle.cdp_messages.specs.declared.command.Command.TheVariants.{CssDisable, GetMatchedStyles, GetStyleSheetText, CollectClassNames}
-use Rattle.cdp_messages.specs.declared.command.Command.TheVariants.{SetStyleTexts, SetRuleSelector, SetStyleSheetText, AddRule}
-use Rattle.cdp_messages.specs.declared.command.Command.TheVariants.{SetBreakpoint, RemoveBreakpoint, ReplayLoad, ReplayAct}
 use Rattle.cdp_messages.specs.declared.command.Asked.{Asked}
 use Rattle.cdp_messages.specs.declared.command.Refused.{Refused}
 use Rattle.cdp_messages.specs.declared.command.Why.{Why}
-use Rattle.cdp_messages.specs.declared.dom_ask.DomAsk.{DomAsk}
-use Rattle.cdp_messages.specs.DomAsks.{dom_ask_in, fits_ask}
 use Rattle.cdp_messages.specs.Asked.{json_of, fits_command, command_in, refusal, asked_by, with_id, asked_in, asked_value, asked}
 use Rattle.cdp_messages.proofs.Commands.{asks_fit}
-use Rattle.cdp_messages.proofs.DomAskLaws.{dom_asks_are_commands}
-use Rattle.back_end.specs.declared.parts.SeatPart.{SeatPart}
-use Rattle.back_end.specs.declared.parts.SeatPart.TheVariants as part
-use Rattle.back_end.specs.Servers.{part_of}
-
--- what the agent is asked by a command whose parameters fit, fits
-pub ask-fits : (c : Command) (o : Option DomAsk) → o ≡ dom_ask_in c → fits_command c ≡ true → IfSome o (λ a. fits_ask a ≡ true)
-ask-fits c None is fits = tt
-ask-fits c (Some a) is fits = ap fits_command (sym (dom_asks_are_commands c a (sym is))) ∙ fits
-
--- what a part of the seat asks the agent
-abbrev ask_of_part : SeatPart → Option DomAsk
-ask_of_part part.Enables = None
-ask_of_part part.Disables = None
-ask_of_part part.CssEnables = None
-ask_of_part part.CssDisables = None
-ask_of_part (part.Styles ask) = None
-ask_of_part (part.TreeEdits edit) = None
-ask_of_part (part.SheetEdits edit) = None
-ask_of_part part.EndsGroup = None
-ask_of_part part.Undoes = None
-ask_of_part part.Redoes = None
-ask_of_part (part.Watches node kind) = None
-ask_of_part (part.Unwatches node kind) = None
-ask_of_part (part.Loads params) = None
-ask_of_part (part.Acts params) = None
-ask_of_part (part.Others ask) = ask
-
--- which is what the command asks it
-part-ask : (c : Command) → ask_of_part (part_of c) ≡ dom_ask_in c
-part-ask DomEnable = refl
-part-ask DomDisable = refl
-part-ask (GetDocument depth pierce) = refl
-part-ask (RequestChildNodes node depth pierce) = refl
-part-ask (PushByPath path) = refl
-part-ask (PushBySerials serials) = refl
-part-ask (QuerySelector node selector) = refl
-part-ask (QuerySelectorAll node selector) = refl
-part-ask (GetAttributes node) = refl
-part-ask (DescribeNode id serial depth pierce) = refl
-part-ask (SetAttributeValue node name value) = refl
-part-ask (RemoveAttribute node name) = refl
-part-ask (SetNodeValue node value) = refl
-part-ask (RemoveNode node) = refl
-part-ask (MoveTo node target before) = refl
-part-ask (CopyTo node target before) = refl
-part-ask MarkUndoableState = refl
-part-ask Undo = refl
-part-ask Redo = refl
-part-ask CssEnable = refl
-part-ask CssDisable = refl
-part-ask (GetMatchedStyles node) = refl
-part-ask (GetStyleSheetText sheet) = refl
-part-ask (CollectClassNames sheet) = refl
-part-ask (SetStyleTexts edits) = refl
-part-ask (SetRuleSelector sheet range selector) = refl
-part-ask (SetStyleSheetText sheet text) = refl
-part-ask (AddRule sheet rule_text location) = refl
-part-ask (SetBreakpoint node kind) = refl
-part-ask (RemoveBreakpoint node kind) = refl
-part-ask (ReplayLoad params) = refl
-part-ask (ReplayAct params) = refl
-
--- so what a command that is for others asks of the agent, fits where the command does
-pub others-fit : (c : Command) (ask : Option DomAsk) → part_of c ≡ part.Others ask → fits_command c ≡ true
-    → IfSome ask (λ a. fits_ask a ≡ true)
-others-fit c ask is fits = ask-fits c ask (sym (ap ask_of_part is) ∙ part-ask c) fits
 
 -- ---- ids
 

@@ -92,6 +92,24 @@ part_of (RemoveBreakpoint node kind) = part.Unwatches node kind
 part_of (ReplayLoad params) = part.Loads params
 part_of (ReplayAct params) = part.Acts params
 
+-- what a part of a seat asks the DOM agent
+abbrev pub agent_ask : SeatPart → Option DomAsk
+agent_ask part.Enables = None
+agent_ask part.Disables = None
+agent_ask part.CssEnables = None
+agent_ask part.CssDisables = None
+agent_ask (part.Styles ask) = None
+agent_ask (part.TreeEdits edit) = None
+agent_ask (part.SheetEdits edit) = None
+agent_ask part.EndsGroup = None
+agent_ask part.Undoes = None
+agent_ask part.Redoes = None
+agent_ask (part.Watches node kind) = None
+agent_ask (part.Unwatches node kind) = None
+agent_ask (part.Loads params) = None
+agent_ask (part.Acts params) = None
+agent_ask (part.Others ask) = ask
+
 -- who serves a command of that part
 abbrev pub by_part : SeatPart → Server
 by_part part.Enables = enables

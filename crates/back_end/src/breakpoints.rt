@@ -39,6 +39,7 @@ impl Desk {
         ensures sent { (state : State) → DeskStandsFor self.old side.old state
             → OnOk result (out.new.items ≡ out.old.items ++ frames_of_moves (command_step id (server.watches node kind) state).moves) }
     {
+        // The clauses alone speak of the page.
         let _ = side;
         if !self.is_on {
             return self.refuse(id, Why::DomOff, out);
@@ -64,6 +65,7 @@ impl Desk {
         ensures sent { (state : State) → DeskStandsFor self.old side.old state
             → OnOk result (out.new.items ≡ out.old.items ++ frames_of_moves (command_step id (server.unwatches node kind) state).moves) }
     {
+        // The clauses alone speak of the page.
         let _ = side;
         if !self.is_on {
             return self.refuse(id, Why::DomOff, out);

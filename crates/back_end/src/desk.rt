@@ -184,6 +184,7 @@ impl Desk {
         ensures sent { (state : State)
             → OnOk result (out.new.items ≡ out.old.items ++ frames_of_moves (server_step id server.enables state).moves) }
     {
+        // The clauses alone speak of the page.
         let _ = side;
         write_reply(self.alloc, id, &ReplyBody::Nothing, out)?;
         self.is_on = true;

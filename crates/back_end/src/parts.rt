@@ -1,6 +1,8 @@
 // Which part of a seat a command is for.
-ghost use Rattle.std.specs.Prelude.{◌≡◌};
-ghost use Rattle.back_end.specs.Servers.{part_of};
+ghost use Rattle.std.specs.Prelude.{◌≡◌, true, IfSome};
+ghost use Rattle.cdp_messages.specs.Asked.{fits_command};
+ghost use Rattle.cdp_messages.specs.DomAsks.{fits_ask};
+ghost use Rattle.back_end.specs.Servers.{part_of, agent_ask};
 
 use crate::dom_edits::DomEdit;
 use cdp_messages::{Command, DomAsk, Json, WatchWord};
@@ -44,7 +46,9 @@ pub(crate) enum SeatPart {
 impl SeatPart {
     /// The part that a command is for: a row for each command that is not the DOM agent's.
     pub(crate) fn of_command(command: Command) -> SeatPart
-        ensures { result ≡ part_of command }
+        ensures part { result ≡ part_of command }
+        // what the DOM agent is asked has its parameters in their ranges where the command has them so
+        ensures fits { fits_command command ≡ true → IfSome (agent_ask result) (λ ask. fits_ask ask ≡ true) }
     {
         match command {
             Command::DomEnable => SeatPart::Enables,

@@ -92,6 +92,7 @@ impl PageSheets {
         requires there { IsSome (entry_of number self.now.entries) }
         ensures { result ≡ is_too_big text.now (removed number self.now.entries) }
     {
+        // The clauses alone speak of the sheet.
         let _ = number;
         is_too_long(text) || self.book.len() > MOST_SHEETS
     }

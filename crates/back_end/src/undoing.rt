@@ -30,6 +30,7 @@ impl Desk {
         ensures sent { (state : State) → DeskStandsFor self.old side.old state
             → OnOk result (out.new.items ≡ out.old.items ++ frames_of_moves (command_step id server.ends_group state).moves) }
     {
+        // The clauses alone speak of the page.
         let _ = side;
         if !self.is_on {
             return self.refuse(id, Why::DomOff, out);

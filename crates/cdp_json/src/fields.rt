@@ -10,7 +10,7 @@ use serde_json::{Map, Value};
 use std::alloc::{AllocError, Global};
 
 /// What stands under a name.
-#[derive(Clone, Copy, PartialEq, Eq, Debug, Drop)]
+#[derive(Clone, Copy, Drop)]
 pub enum Field<T> {
     Is(T),
     Missing,

@@ -1,3 +1,4 @@
+//! The values of the messages as JSON: objects are read field by field, in the order of their names, and written likewise.
 #![tactic(auto)]
 
 mod cursor;

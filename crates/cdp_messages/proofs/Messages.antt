@@ -51,7 +51,7 @@ use Rattle.cdp_messages.specs.Results.{first_field, all_forms, is_form}
 use Rattle.cdp_messages.specs.NodeObject.{flat}
 use Rattle.cdp_messages.specs.Laws.{RepliesAreRead, EventsAreRead, RefusalsAreRead, MessagesAreRead, FaultsAreRead, ObjectsAreEmpty}
 use Rattle.cdp_messages.specs.Laws.{has_result, answers, ResultsAreRead, MessagesAreSpelled, Spells, ResultsAreSpelled, OneMessage}
-use Rattle.cdp_messages.specs.Laws.{OneResult}
+use Rattle.cdp_messages.specs.Laws.{OneResult, ValuesAreRead, SpellingsAreRead}
 use Rattle.cdp_messages.proofs.Options.{both, both_parts, map_some}
 use Rattle.cdp_messages.proofs.FrameBytes.{json_is}
 use Rattle.cdp_messages.proofs.NodeObjects.{attributes_lawful, flat_fits}
@@ -92,7 +92,7 @@ ids_lawful = object_lawful (and_need_lawful _ (list_lawful whole_lawful) ends_la
 
 -- ---- values
 
-pub message_again : (m : Message) → fits_message m ≡ true → message_in (message_data m) ≡ Some m
+pub message_again : ValuesAreRead
 message_again (reply id result) f =
     let d = message_data (reply id result) in
     ap (λ o. first_of (option_map reply_from o) (first_of (option_map fault_from (fault_kind.reads d)) (option_map event (news_in d))))
@@ -101,6 +101,9 @@ message_again (fault id code said) f =
     ap (λ o. first_of (option_map fault_from o) (option_map event (news_in (message_data (fault id code said)))))
     (fault_lawful.again ((code, (said, tt)), (id, tt)) f)
 message_again (event n) f = ap (option_map event) (news_again n f)
+
+pub spellings_are_read : SpellingsAreRead
+spellings_are_read m bytes f e = ap (option_and_then message_in) e ∙ message_again m f
 
 or_else_some : {A : Type 0} (o p : Option A) (x : A) → first_of o p ≡ Some x → (o ≡ Some x) ⊎ (p ≡ Some x)
 or_else_some None p x e = inr e

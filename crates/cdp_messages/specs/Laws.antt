@@ -24,7 +24,7 @@ use Rattle.cdp_messages.specs.declared.down.ReplyBody.{ReplyBody}
 use Rattle.cdp_messages.specs.declared.down.ReplyBody.TheVariants.{Nothing, Root, Node, NodeId, NodeIds, Attributes, ClassNames, SheetText}
 use Rattle.cdp_messages.specs.declared.down.ReplyBody.TheVariants.{Styles, Selectors, Rule, Matched}
 use Rattle.cdp_messages.specs.Asked.{asked, asked_by, command_of, method_of, method_name, parameters, fits_command, command_value}
-use Rattle.cdp_messages.specs.Asked.{command_text}
+use Rattle.cdp_messages.specs.Asked.{command_text, json_of}
 use Rattle.cdp_messages.specs.Events.{News, attribute_modified, attribute_removed, text_modified, count_updated, inserted, removed}
 use Rattle.cdp_messages.specs.Events.{set_children, document_updated, sheet_added, sheet_changed, sheet_removed, paused, is_object}
 use Rattle.cdp_messages.specs.Events.{news_data, fits_news}
@@ -196,11 +196,20 @@ EventsAreRead = (n : News) → fits_news n ≡ true → Shallow (news_data n) �
 abbrev pub RefusalsAreRead : Type 0
 RefusalsAreRead = (r : Refused) → holds_of_some is_counted r.id ≡ true → down_of (refused_text r) ≡ Some (refusal_message r)
 
--- the text of a message is read as that message: of one with any result that is an object, and of one with any code and any text
+-- the compact text of a message of whole numbers is read as that message
 abbrev pub MessagesAreRead : Type 0
 MessagesAreRead = (m : Message) → fits_message m ≡ true → is_plain (message_data m) ≡ true → Shallow (message_data m)
     → IsUtf8 (compact_text (message_data m))
     → down_of (compact_text (message_data m)) ≡ Some m
+
+-- what spells a message is read as that message, of any value: with any result that is an object, with any code and any text
+abbrev pub ValuesAreRead : Type 0
+ValuesAreRead = (m : Message) → fits_message m ≡ true → message_in (message_data m) ≡ Some m
+
+-- and so is every text of such a value, compact or not, whatever its numbers
+abbrev pub SpellingsAreRead : Type 0
+SpellingsAreRead = (m : Message) (bytes : List ℕ) → fits_message m ≡ true → json_of bytes ≡ Some (message_data m)
+    → down_of bytes ≡ Some m
 
 -- an error of any code and any text is read as that error
 abbrev pub FaultsAreRead : Type 0

@@ -45,6 +45,7 @@ pub record IsMirror (v : Nodes Seen) : Type 0 where
 -- ---- keys in document order
 
 module _ {R : Type 0} (key : R → ℕ) where
+  -- the keys of all nodes
   abbrev pub keys : Nodes R → List ℕ
   keys none = []
   keys (node r c t) = key r ∷ (keys c ++ keys t)

@@ -1,6 +1,7 @@
 // What the DOM agent serves.
-ghost use Rattle.std.specs.Prelude.{◌≡◌};
-ghost use Rattle.cdp_messages.specs.DomAsks.{dom_ask_in};
+ghost use Rattle.std.specs.Prelude.{◌≡◌, true, IfSome};
+ghost use Rattle.cdp_messages.specs.Asked.{fits_command};
+ghost use Rattle.cdp_messages.specs.DomAsks.{dom_ask_in, fits_ask};
 
 use crate::command::Command;
 use crate::numbers::Numbers;
@@ -54,7 +55,9 @@ pub enum DomAsk {
 impl DomAsk {
     /// What the agent is asked by a command, if it serves it.
     pub fn of_command(command: Command) -> Option<DomAsk>
-        ensures { result ≡ dom_ask_in command }
+        ensures ask { result ≡ dom_ask_in command }
+        // its parameters are in their ranges where the command's are
+        ensures fits { fits_command command ≡ true → IfSome result (λ ask. fits_ask ask ≡ true) }
     {
         match command {
             Command::GetDocument { depth, pierce } => Some(DomAsk::GetDocument { depth, pierce }),

@@ -3,7 +3,7 @@ ghost use Rattle.cdp_messages.specs.Laws.{AsksAreAsked, AsksFit, CommandsAreAske
 ghost use Rattle.cdp_messages.specs.Laws.{DomAsksAreCommands, RepliesAreRead, RepliesAreShallow, EventsAreRead, EventsAreShallow};
 ghost use Rattle.cdp_messages.specs.Laws.{EventsAreUtf8, ShownChildrenFit, RefusalsAreRead, ResultsAreRead, MessagesAreRead, FaultsAreRead};
 ghost use Rattle.cdp_messages.specs.Laws.{ObjectsAreEmpty, MessagesAreSpelled, ResultsAreSpelled, OneMessage, OneResult, TextsHaveNoZero};
-ghost use Rattle.cdp_messages.specs.Laws.{RepliesAreUtf8, ShownTreesFit};
+ghost use Rattle.cdp_messages.specs.Laws.{RepliesAreUtf8, ShownTreesFit, ValuesAreRead, SpellingsAreRead};
 
 /// What a writer appends is read as what it was given, nothing else is read, and no value spells two messages.
 pub fn spell_law()
@@ -21,6 +21,8 @@ pub fn spell_law()
     ensures events_utf8 { EventsAreUtf8 }
     ensures refusals { RefusalsAreRead }
     ensures messages { MessagesAreRead }
+    ensures values { ValuesAreRead }
+    ensures spellings { SpellingsAreRead }
     ensures faults { FaultsAreRead }
     ensures results { ResultsAreRead }
     ensures empty_results { ObjectsAreEmpty }

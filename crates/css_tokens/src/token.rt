@@ -1,7 +1,7 @@
 //! Kinds of pieces, and where a piece stands in its text.
 
 /// The kind of a piece: one variant for each form that the table of pieces has.
-#[derive(Clone, Copy, Debug, PartialEq, Eq)]
+#[derive(Clone, Copy)]
 pub enum TokenKind {
     /// `/*` up to and with the next `*/`, or to the text's end.
     Comment,
@@ -54,14 +54,14 @@ pub enum TokenKind {
 }
 
 /// A part of a text: the bytes from `start` up to `end`.
-#[derive(Clone, Copy, Debug, PartialEq, Eq)]
+#[derive(Clone, Copy)]
 pub struct Range {
     pub start: usize,
     pub end: usize,
 }
 
 /// A piece of a text: its kind, and the bytes from `start` up to `end`.
-#[derive(Clone, Copy, Debug, PartialEq, Eq)]
+#[derive(Clone, Copy)]
 pub struct Token {
     pub kind: TokenKind,
     pub start: usize,

@@ -1,33 +1,37 @@
 -- The commands open these sets.
 use Rattle.std.proofs.Common.{◌≡◌, ℕ, ℤ, ◌==◌, Bool, true, false, cond, not, ◌||◌, ◌⊎◌, ◌↔◌, inl, inr, List, [], ◌∷◌, ◌++◌, Option, Some}
-use Rattle.std.proofs.Common.{None, refl, sym, ap, subst, ◌∙◌, arith}
+use Rattle.std.proofs.Common.{None, Result, ◌&&◌, map, refl, sym, ap, subst, ◌∙◌, arith}
 use Rattle.std.proofs.Math.Logic.{⊎_elim}
 use Rattle.std.specs.List.{filter}
 use Rattle.std.proofs.lemmas.Bool.{eq-eqb, eqb-true}
 use Rattle.node_tree.proofs.KeyLemmas.{has-there}
 use Rattle.node_tree.specs.Nodes.{Nodes, none, node, Branch, alone}
 use Rattle.node_tree.specs.Keys.{tally, has, find}
+use Rattle.node_tree.specs.Labels.{holds}
 use Rattle.page_tree.specs.Pages.{PageRow, row_serial, PageValue, IsValid}
 use Rattle.node_binding.specs.Counts.{times, stands_in}
-use Rattle.node_binding.specs.Openings.{containers_within}
+use Rattle.node_binding.specs.Openings.{containers_within, levelled}
 use Rattle.node_binding.specs.Cuts.{known}
 use Rattle.node_binding.specs.Sessions.{Session, IsSession, session_of, is_open, session_ids, known_by, serial_at}
 use Rattle.node_binding.proofs.PairLemmas.{find-there}
 use Rattle.node_binding.proofs.OpeningLemmas.{AreDistinct, reached-tally}
-use Rattle.node_binding.proofs.InViewLemmas.{InView, in_view-tally}
-use Rattle.dom_agent.proofs.NewlyLemmas.{anew-filter, pushed-all, anew-all, anew-requested, anew-within, closed-in_view}
+use Rattle.node_binding.proofs.InViewLemmas.{InView, in_view-tally, roots_in_view}
+use Rattle.dom_agent.proofs.NewlyLemmas.{all_levelled, anew-filter, pushed-all, anew-all, anew-requested, anew-within, closed-in_view}
 use Rattle.node_binding.proofs.StartLemmas.{distinct-alone}
 use Rattle.node_binding.proofs.BoundLemmas.{is_in-cons}
 use Rattle.node_binding.proofs.AnewLemmas.{at_or_other, found_here, found_later}
+use Rattle.cdp_messages.specs.declared.command.Why.{Why}
 use Rattle.cdp_messages.specs.declared.command.Why.TheVariants.{NotPushed}
 use Rattle.dom_agent.specs.Keepers.{session_keeper}
 use Rattle.dom_agent.specs.Paths.{node_at_path}
 use Rattle.dom_agent.specs.Requests.{Opening, Outcome, refused, Pushes, requested, ancestors_down, pushing, known_node, of_children}
+use Rattle.dom_agent.specs.Queries.{Query, all_matching}
+use Rattle.dom_agent.specs.Requests.{of_query, first_asked, with_first, all_asked}
 use Rattle.dom_agent.specs.Requests.{of_path, with_ids, all_opened, all_pushed, pushed as push_of, state_after}
 use Rattle.dom_agent.specs.Distances.{IsReached, IsAncestor, OpensAlso}
 use Rattle.dom_agent.specs.Sets.{levels_asked, DocumentOpens, RequestOpens, newly_known, RequestPushes, PathOpens, IsAncestorOfOne}
-use Rattle.dom_agent.specs.Sets.{SerialsOpen}
-use Rattle.dom_agent.proofs.OpeningsLemmas.{AreContainers, requested-are, opened_all, opened_all-grows}
+use Rattle.dom_agent.specs.Sets.{SerialsOpen, row_serials, children_in_turn, shut_ancestors, PathPushes, FirstFoundOpens, FoundOpen}
+use Rattle.dom_agent.proofs.OpeningsLemmas.{AreContainers, by_one, pushing-are, requested-are, opened_all, opened_all-grows}
 use Rattle.dom_agent.proofs.KnownLemmas.{opened_after}
 use Rattle.dom_agent.proofs.OutcomeLemmas.{containers-page, known-found}
 use Rattle.dom_agent.proofs.SetLemmas.{there_once, stands-below, or_split, or_joined, opened_all-set, requested-set, reached-set}
@@ -111,6 +115,45 @@ path_opens page path w x valid begun found t =
     (subst (λ (f : Option (Branch PageRow)). P (of_path (session_keeper n) page.tree f w)) (sym found)
     (path_by page valid w.opened w.pushed w.since x.row.serial begun t))
 
+-- ---- what becomes known by a push
+
+-- with no level left, the nodes side by side alone
+side_by_side : (n : Nodes PageRow) → levelled (Some 0) n ≡ row_serials n
+side_by_side none = refl
+side_by_side (node r c t) = ap (λ l. r.serial ∷ l) (alone_now (holds r.label.kind) ∙ side_by_side t)
+  where
+    alone_now : (h : Bool) → cond (h && false) (levelled (Some 0) c) [] ++ levelled (Some 0) t ≡ levelled (Some 0) t
+    alone_now true = refl
+    alone_now false = refl
+
+one_level_each : (xs : List (Branch PageRow)) → all_levelled (map by_one xs) ≡ children_in_turn xs
+one_level_each [] = refl
+one_level_each (x ∷ xs) =
+    ap (λ l. l ++ all_levelled (map by_one xs)) (side_by_side x.children) ∙ ap (λ l. row_serials x.children ++ l) (one_level_each xs)
+
+push_pushes : (page : PageValue) → IsValid page → (opened : Option (ℕ → Bool)) (pushed : List ℕ) (since s : ℕ)
+    → IsSession (alone page.tree) (record { opened = opened; pushed = pushed; since = since })
+    → is_open opened page.tree.row.serial ≡ true
+    → (push_of (session_keeper (alone page.tree)) page.tree s (record { opened = opened; pushed = pushed; since = since })).state.pushed
+    ≡ pushed ++ children_in_turn (shut_ancestors page (record { opened = opened; pushed = pushed; since = since }) s)
+push_pushes page valid None pushed since s session begun = cc
+push_pushes page valid (Some o) pushed since s session begun =
+    let n : Nodes PageRow = alone page.tree in
+    let distinct = distinct-alone page valid in
+    let are = pushing-are n distinct o s n o (containers-page page valid) distinct (roots_in_view o n) (λ k h. refl) in
+    pushed-all n page.tree (pushing o s n) o pushed since
+    ∙ ap (λ l. pushed ++ l)
+    (anew-all n page.tree (pushing o s n) o pushed since distinct are session
+    ∙ one_level_each (filter (λ (x : Branch PageRow). not (o x.row.serial)) (ancestors_down s n)))
+
+pub path_pushes : PathPushes
+path_pushes page path w x valid session begun found =
+    let n : Nodes PageRow = alone page.tree in
+    let P : Outcome Session → Type 0 = λ y. (state_after w y).pushed ≡ w.pushed ++ children_in_turn (shut_ancestors page w x.row.serial) in
+    subst (λ (b : Bool). P (cond b (of_path (session_keeper n) page.tree (node_at_path path page.tree) w) (refused NotPushed))) (sym begun)
+    (subst (λ (f : Option (Branch PageRow)). P (of_path (session_keeper n) page.tree f w)) (sym found)
+    (push_pushes page valid w.opened w.pushed w.since x.row.serial session begun))
+
 -- ---- several pushes
 
 either : {A : Type 0} (P : A → Type 0) (b : Bool) (x y : A) → (b ≡ true → P x) → (b ≡ false → P y) → P (cond b x y)
@@ -181,6 +224,25 @@ serials_open page serials w valid begun t =
     (cond b (with_ids (session_keeper n) page.tree (all_pushed (session_keeper n) page.tree serials w)) (refused NotPushed))).opened t
     ≡ true) ↔ ((is_open w.opened t ≡ true) ⊎ IsAncestorOfOne page.tree serials t)) (sym begun)
     (serials_by page valid serials w.opened w.pushed w.since begun t)
+
+-- ---- what a query opens
+
+pub first_found_opens : FirstFoundOpens
+first_found_opens page id text w q s valid asks found t =
+    let n : Nodes PageRow = alone page.tree in
+    let P : Outcome Session → Type 0 = λ y. (is_open (state_after w y).opened t ≡ true)
+    ↔ ((is_open w.opened t ≡ true) ⊎ IsAncestor page.tree s t) in
+    subst (λ (r : Result Query Why). P (of_query (session_keeper n) page.tree (first_asked (session_keeper n) page.tree) r w)) (sym asks.1)
+    (subst (λ (f : Option ℕ). P (with_first (session_keeper n) page.tree f w)) (sym found)
+    (path_by page valid w.opened w.pushed w.since s asks.0 t))
+
+pub found_open : FoundOpen
+found_open page id text w q valid asks t =
+    let n : Nodes PageRow = alone page.tree in
+    subst (λ (r : Result Query Why).
+    (is_open (state_after w (of_query (session_keeper n) page.tree (all_asked (session_keeper n) page.tree) r w)).opened t ≡ true)
+    ↔ ((is_open w.opened t ≡ true) ⊎ IsAncestorOfOne page.tree (all_matching q.selectors q.root page.tree) t)) (sym asks.1)
+    (serials_by page valid (all_matching q.selectors q.root page.tree) w.opened w.pushed w.since asks.0 t)
 
 -- ---- what becomes known by a request
 

@@ -92,9 +92,11 @@ module _ {S : Type 0} (k : Keeper S) (document : Branch PageRow) where
       let after = k.opened x.levels x.node w in
       followed (told_of x.node after ∷ []) (all_opened xs after)
 
+  -- a node is pushed
   abbrev pub pushed : ℕ → S → Progress S
   pushed s w = all_opened (pushing (k.is_open w) s (alone document)) w
 
+  -- a push with the id of its node, before further ones
   abbrev pub and_id : ℕ → Progress S → Pushes S → Pushes S
   and_id id first later = record { progress = followed first.shown later.progress; ids = id ∷ later.ids }
 
@@ -120,13 +122,16 @@ module _ {S : Type 0} (k : Keeper S) (document : Branch PageRow) where
   known_node w None = None
   known_node w (Some s) = find row_serial s (alone document)
 
+  -- a push is answered by the id of its node
   abbrev pub with_id : ℕ → Progress S → Outcome S
   with_id s p = served p (NodeId (k.id_of p.state s))
 
+  -- the node that a path leads to is pushed
   abbrev pub of_path : Option (Branch PageRow) → S → Outcome S
   of_path None w = refused NoPath
   of_path (Some x) w = with_id x.row.serial (pushed x.row.serial w)
 
+  -- pushes are answered by the ids of their nodes
   abbrev pub with_ids : Pushes S → Outcome S
   with_ids p = served p.progress (NodeIds p.ids)
 
@@ -143,6 +148,7 @@ module _ {S : Type 0} (k : Keeper S) (document : Branch PageRow) where
   with_first None w = only_replied (NodeId 0) w
   with_first (Some s) w = with_id s (pushed s w)
 
+  -- a query for one node
   abbrev pub first_asked : ℕ → List SelectorForm → S → Outcome S
   first_asked s selectors w = with_first (first_matching selectors s document) w
 
@@ -170,6 +176,7 @@ module _ {S : Type 0} (k : Keeper S) (document : Branch PageRow) where
   of_description depth None w = refused UnknownNode
   of_description depth (Some x) w = only_replied (Node (described (levels_of (unwrap_or depth (pos 1))) x)) w
 
+  -- what a command comes to
   abbrev pub outcome : DomAsk → S → Outcome S
   outcome (GetDocument depth pierce) w = with_document (k.started (levels_of (unwrap_or depth (pos 1))) w)
   outcome (RequestChildNodes id depth pierce) w = of_children depth (known_node w (k.serial_of w id)) w

@@ -1,14 +1,16 @@
 -- What the commands open, as sets of nodes of the page.
-use Rattle.std.specs.Prelude.{◌≡◌, ℕ, ℤ, pos, Bool, true, not, List, ◌++◌, filter, ◌↔◌, Option, Some, unwrap_or}
-use Rattle.node_tree.specs.Nodes.{Branch, alone}
+use Rattle.std.specs.Prelude.{◌≡◌, ℕ, ℤ, pos, Bool, true, not, List, [], ◌∷◌, ◌++◌, filter, ◌↔◌, Option, Some, unwrap_or, Ok}
+use Rattle.node_tree.specs.Nodes.{Nodes, none, node, Branch, alone}
 use Rattle.page_tree.specs.Pages.{PageRow, PageValue, IsValid}
 use Rattle.node_binding.specs.Counts.{stands_in}
 use Rattle.node_binding.specs.Openings.{levels_of}
 use Rattle.node_binding.specs.Sessions.{Session, IsSession, is_open, known_by, knows, serial_at}
-use Rattle.cdp_messages.specs.declared.dom_ask.DomAsk.TheVariants.{GetDocument, RequestChildNodes, PushByPath, PushBySerials}
+use Rattle.cdp_messages.specs.declared.dom_ask.DomAsk.TheVariants.{GetDocument, RequestChildNodes, PushByPath, PushBySerials, QuerySelector}
+use Rattle.cdp_messages.specs.declared.dom_ask.DomAsk.TheVariants.{QuerySelectorAll}
 use Rattle.dom_agent.specs.Keepers.{session_keeper}
 use Rattle.dom_agent.specs.Paths.{node_at_path}
-use Rattle.dom_agent.specs.Requests.{known_node, state_after}
+use Rattle.dom_agent.specs.Queries.{Query, query_of, first_matching, all_matching}
+use Rattle.dom_agent.specs.Requests.{ancestors_down, known_node, state_after}
 use Rattle.dom_agent.specs.Distances.{IsReached, IsAncestor, OpensAlso}
 use Rattle.dom_agent.specs.Laws.{session_outcome}
 
@@ -45,6 +47,27 @@ PathOpens = (page : PageValue) (path : List ℕ) (w : Session) (x : Branch PageR
     → is_open w.opened page.tree.row.serial ≡ true → node_at_path path page.tree ≡ Some x
     → OpensAlso w (state_after w (session_outcome page (PushByPath path) w)) (IsAncestor page.tree x.row.serial)
 
+-- the serials of some nodes, side by side
+abbrev pub row_serials : Nodes PageRow → List ℕ
+row_serials none = []
+row_serials (node r c t) = r.serial ∷ row_serials t
+
+-- the children of each, one node after the other
+abbrev pub children_in_turn : List (Branch PageRow) → List ℕ
+children_in_turn [] = []
+children_in_turn (x ∷ xs) = row_serials x.children ++ children_in_turn xs
+
+-- the proper ancestors of a node that are not opened, from the top down
+abbrev pub shut_ancestors : PageValue → Session → ℕ → List (Branch PageRow)
+shut_ancestors page w s = filter (λ (x : Branch PageRow). not (is_open w.opened x.row.serial)) (ancestors_down s (alone page.tree))
+
+-- and the nodes that become known by it get the next ids: the children of each ancestor that it opens, from the top down
+abbrev pub PathPushes : Type 0
+PathPushes = (page : PageValue) (path : List ℕ) (w : Session) (x : Branch PageRow) → IsValid page → IsSession (alone page.tree) w
+    → is_open w.opened page.tree.row.serial ≡ true → node_at_path path page.tree ≡ Some x
+    → (state_after w (session_outcome page (PushByPath path) w)).pushed
+    ≡ w.pushed ++ children_in_turn (shut_ancestors page w x.row.serial)
+
 -- a push of several nodes opens the proper ancestors of each; a serial that no node has opens nothing
 pub record IsAncestorOfOne (document : Branch PageRow) (serials : List ℕ) (t : ℕ) : Type 0 where
   pub serial : ℕ
@@ -55,3 +78,20 @@ pub record IsAncestorOfOne (document : Branch PageRow) (serials : List ℕ) (t :
 abbrev pub SerialsOpen : Type 0
 SerialsOpen = (page : PageValue) (serials : List ℕ) (w : Session) → IsValid page → is_open w.opened page.tree.row.serial ≡ true
     → OpensAlso w (state_after w (session_outcome page (PushBySerials serials) w)) (IsAncestorOfOne page.tree serials)
+
+-- what a query of a known node asks, of a client that has the document opened
+abbrev pub Asks : PageValue → Session → ℕ → List ℕ → Query → Type 0
+Asks page w id text q = (is_open w.opened page.tree.row.serial ≡ true)
+    × (query_of (known_node (session_keeper (alone page.tree)) page.tree w (serial_at w (alone page.tree) id)) text ≡ Ok q)
+
+-- a query for one node opens the proper ancestors of the first that matches
+abbrev pub FirstFoundOpens : Type 0
+FirstFoundOpens = (page : PageValue) (id : ℕ) (text : List ℕ) (w : Session) (q : Query) (s : ℕ) → IsValid page → Asks page w id text q
+    → first_matching q.selectors q.root page.tree ≡ Some s
+    → OpensAlso w (state_after w (session_outcome page (QuerySelector id text) w)) (IsAncestor page.tree s)
+
+-- a query for all nodes opens the proper ancestors of each that matches
+abbrev pub FoundOpen : Type 0
+FoundOpen = (page : PageValue) (id : ℕ) (text : List ℕ) (w : Session) (q : Query) → IsValid page → Asks page w id text q
+    → OpensAlso w (state_after w (session_outcome page (QuerySelectorAll id text) w))
+    (IsAncestorOfOne page.tree (all_matching q.selectors q.root page.tree))

@@ -1,5 +1,6 @@
 ghost use Rattle.dom_agent.specs.Shows.{RequestTells};
-ghost use Rattle.dom_agent.specs.Sets.{DocumentOpens, RequestOpens, RequestPushes, PathOpens, SerialsOpen};
+ghost use Rattle.dom_agent.specs.Sets.{DocumentOpens, RequestOpens, RequestPushes, PathOpens, PathPushes, SerialsOpen};
+ghost use Rattle.dom_agent.specs.Sets.{FirstFoundOpens, FoundOpen};
 ghost use Rattle.dom_agent.specs.EditLaws.{EditKeepsSession, EditKeepsBound, SameEditMoves, EditsAreMoves, EditDrawsOne};
 ghost use Rattle.dom_agent.specs.Laws.{StaysSession, StaysBound, SameMoves, DrawsFew, StepsAreMoves, RepliesAnswer};
 
@@ -15,14 +16,17 @@ pub fn serve_law()
     ensures few { DrawsFew }
     // these lead from the one view to the other, and messages can tell each view in between
     ensures moves { StepsAreMoves }
-    // what is opened after `DOM.getDocument`, after a request, and after pushes by a path and by serials
+    // what is opened after `DOM.getDocument`, after a request, after pushes by a path and by serials, and after queries
     ensures document_opens { DocumentOpens }
     ensures request_opens { RequestOpens }
     ensures request_pushes { RequestPushes }
     // its events, by levels
     ensures request_tells { RequestTells }
     ensures path_opens { PathOpens }
+    ensures path_pushes { PathPushes }
     ensures serials_open { SerialsOpen }
+    ensures first_found_opens { FirstFoundOpens }
+    ensures found_open { FoundOpen }
     // the reply is one of the command's method
     ensures replies { RepliesAnswer }
 {}

@@ -1,5 +1,5 @@
 /// The kinds of DOM breakpoints (the protocol's `DOMDebugger.DOMBreakpointType`).
-#[derive(Clone, Copy, PartialEq, Eq, Debug)]
+#[derive(Clone, Copy)]
 pub enum WatchKind {
     /// `subtree-modified`
     Subtree,
@@ -10,7 +10,7 @@ pub enum WatchKind {
 }
 
 /// Why an edit pauses (the `data` of `Debugger.paused`). Nodes are named by their serials.
-#[derive(Clone, Copy, PartialEq, Eq, Debug)]
+#[derive(Clone, Copy)]
 pub struct Pause {
     pub kind: WatchKind,
     /// The node with the watch.

@@ -1,10 +1,11 @@
 -- What the calls on the link and on the ends keep over every link.
 use Rattle.std.proofs.Common.{◌≡◌, is_some, ◌+◌, ◌*◌, ◌≤◌, ℕ, suc, ◌<◌, ◌^◌, List, [], ◌∷◌, ◌++◌, length, drop, codes, Option, Some, None}
-use Rattle.std.proofs.Common.{true, false, refl, sym, ◌∙◌, ap, subst, arith, append_assoc, Result, Ok, Err}
+use Rattle.std.proofs.Common.{true, false, refl, sym, ◌∙◌, ap, subst, arith, append_assoc, length-append, Result, Ok, Err}
+use Rattle.std.proofs.Math.Seq.{drop-append_seam}
 use Rattle.std.proofs.lemmas.List.{drop_all}
 use Rattle.std.specs.Result.{OnOk, IsOk}
 use Rattle.std.specs.Io.KnownBytes.{Appends}
-use Rattle.pipe_frames.specs.Pipe.{Pipe, given_since}
+use Rattle.pipe_frames.specs.Pipe.{Pipe, given_since, sent_since}
 use Rattle.pipe_frames.specs.Frames.{IsText, Frames, framed, frames_of, held_after, continued}
 use Rattle.pipe_frames.proofs.WholeLemmas.{Appends-nil, Appends-append}
 use Rattle.node_tree.specs.Nodes.{Nodes}
@@ -46,7 +47,7 @@ use Rattle.inspect_replay.specs.Says.{Phase, untouched, reading, underway, ended
 use Rattle.inspect_replay.specs.Answers.{InReadOnly, source_counts, IsInputStop}
 use Rattle.back_end.specs.Seats.{StandsFor, HasRoomLeft}
 use Rattle.inspect_replay.specs.Followed.{AllCame, GivesNoMore, Passed, FoldsAt, fold_since, StatusFolds, StopFolds, EndsShown}
-use Rattle.inspect_replay.specs.Followed.{AnswersInOrder, FollowsWith, FollowsRun, FollowsAnswer, PrintedSome}
+use Rattle.inspect_replay.specs.Followed.{AnswersInOrder, FollowsWith, FollowsRun, FollowsAnswer, PrintedSome, LessAt, StatusLess, IsWell}
 use Rattle.inspect_replay.specs.Prints.{IsRead, ReadsAt}
 use Rattle.inspect_replay.specs.Runs.{ends_of}
 use Rattle.inspect_replay.specs.Moments.{moment}
@@ -56,8 +57,8 @@ use Rattle.inspect_replay.proofs.RunLemmas.{no_frames, first_ends, ends-first, I
 
 -- ---- stops
 
--- a stop that is not the front end's, where the fold meets no fault
-pub stop-folds : (stop : Stop) (passed : Passed) → GoesWell {T = Unit {0}} (Err stop) → IsOk passed.fold
+-- a stop that is not the front end's, where all went well
+pub stop-folds : (stop : Stop) (passed : Passed) → GoesWell {T = Unit {0}} (Err stop) → IsWell passed
     → StopFolds {T = Unit {0}} (Err stop) passed
 stop-folds (Line number fault) passed never good = good
 stop-folds TooLong passed never good = good
@@ -66,16 +67,17 @@ stop-folds WriteFault passed never good = good
 stop-folds LinkFault passed never good = good
 stop-folds (FrontRefused place kind) passed never good = absurd never
 stop-folds NoRoom passed never good = absurd never
-stop-folds Memory passed never good = tt
+stop-folds Memory passed never good = (tt, tt)
 
--- the fold of a run that follows meets no fault
+-- a run that follows goes well
 pub follows-good : (state0 : Started) (up0 down0 up down : Pipe) (waiting : List (List ℕ)) (e : HeldEnds)
     → Follows state0 up0 down0 up down waiting e
-    → IsOk (fold_since up0 down0 up down).fold
-follows-good state0 up0 down0 up down waiting e f = subst IsOk (sym (follows-fold state0 up0 down0 up down waiting e f)) refl
+    → IsWell (fold_since up0 down0 up down)
+follows-good state0 up0 down0 up down waiting e f =
+    (subst IsOk (sym (follows-fold state0 up0 down0 up down waiting e f)) refl, follows-less state0 up0 down0 up down waiting e f)
 
 pub run-good : (state0 : Started) (up0 down0 up down : Pipe) (e : Ends) → FollowsRun state0 up0 down0 up down e
-    → IsOk (fold_since up0 down0 up down).fold
+    → IsWell (fold_since up0 down0 up down)
 run-good state0 up0 down0 up down e run = follows-good state0 up0 down0 up down e.splitter.whole (ends_of e) run.so_far
 
 -- the matched styles that were shown came
@@ -101,8 +103,8 @@ pub same-stop : (stop : Stop) (state0 : Started) (up0 down0 up down up1 down1 : 
     → StopFolds {T = Unit {0}} (Err stop) (fold_since up0 down0 up1 down1)
 same-stop stop state0 up0 down0 up down up1 down1 waiting e f never same_up same_down =
     stop-folds stop (fold_since up0 down0 up1 down1) never
-    (subst (λ u. IsOk (fold_since up0 down0 u down1).fold) (sym same_up)
-    (subst (λ d. IsOk (fold_since up0 down0 up d).fold) (sym same_down) (follows-good state0 up0 down0 up down waiting e f)))
+    (subst (λ u. IsWell (fold_since up0 down0 u down1)) (sym same_up)
+    (subst (λ d. IsWell (fold_since up0 down0 up d)) (sym same_down) (follows-good state0 up0 down0 up down waiting e f)))
 
 -- ---- what a call keeps
 
@@ -141,14 +143,16 @@ pub front-stops : (state0 : Started) (up0 down0 up down : Pipe) (e : Ends) → F
     → ((e.front.next < 2 ^ 30) × (2 ^ 30 + e.front.fetches < 2 ^ 52) → false ≡ true)
     → StopFolds {T = Unit {0}} (Err NoRoom) (fold_since up0 down0 up down)
 front-stops state0 up0 down0 up down e run none =
-    (run-good state0 up0 down0 up down e run, front-full state0 up0 down0 up down e.splitter.whole (ends_of e) run.so_far none)
+    let well = run-good state0 up0 down0 up down e run in
+    ((well.0, front-full state0 up0 down0 up down e.splitter.whole (ends_of e) run.so_far none), well.1)
 
 -- or the back end
 pub seat-stops : (state0 : Started) (up0 down0 up down : Pipe) (waiting : List (List ℕ)) (e : HeldEnds)
     → Follows state0 up0 down0 up down waiting e
     → (HasRoomLeft e.seat e.side → false ≡ true) → StopFolds {T = Unit {0}} (Err NoRoom) (fold_since up0 down0 up down)
 seat-stops state0 up0 down0 up down waiting e f none =
-    (follows-good state0 up0 down0 up down waiting e f, seat-full state0 up0 down0 up down waiting e f none)
+    let well = follows-good state0 up0 down0 up down waiting e f in
+    ((well.0, seat-full state0 up0 down0 up down waiting e f none), well.1)
 
 -- ---- the link and the ends
 
@@ -266,17 +270,36 @@ delivered-follows state0 up0 down0 up down up1 down1 waiting e piece bytes there
     subst (λ pipe. Follows state0 up0 down0 pipe down1 waiting (record e { front = front1; down_there = there })) (sym same_up)
     (subst (λ s. Follows state0 up0 down0 up down1 waiting (record e { front = s; down_there = there })) (sym now) all)
 
+-- as many bytes came down as were there at most
+less-down : (state0 : Started) (up0 down0 up down down1 : Pipe) (waiting : List (List ℕ)) (e : HeldEnds) (bytes : List ℕ)
+    → Follows state0 up0 down0 up down waiting e → length bytes ≤ e.down_there
+    → down1.sent ≡ down.sent → down1.given ≡ down.given ++ bytes
+    → GivesNoMore (fold_since up0 down0 up down1)
+less-down state0 up0 down0 up down down1 waiting e bytes f most same given_is =
+    let sent : length (sent_since down0 down1) ≡ length f.sent_down = ap (λ all. length (drop (length down0.sent) all))
+    (same ∙ f.down_is.sent_is) ∙ ap length (drop-append_seam down0.sent f.sent_down) in
+    let given : length (given_since down0 down1) ≡ length (f.given_down ++ bytes) = ap (λ all. length (drop (length down0.given) all))
+    (given_is ∙ ap (λ all. all ++ bytes) f.down_is.given_is ∙ append_assoc down0.given f.given_down bytes)
+    ∙ ap length (drop-append_seam down0.given (f.given_down ++ bytes)) in
+    let both : length (f.given_down ++ bytes) ≡ length f.given_down + length bytes = length-append f.given_down bytes in
+    let left : e.down_there + length f.given_down ≡ length f.sent_down = f.down_left in
+    ((follows-less state0 up0 down0 up down waiting e f).0, omega (arith, sent, given, both, left, most))
+
 -- or it refused one
 pub refused-folds : (state0 : Started) (up0 down0 up down up1 down1 : Pipe) (waiting : List (List ℕ)) (e : HeldEnds) (piece bytes : List ℕ)
     (front1 : FrontState) (fault : FrontFault)
-    → Follows state0 up0 down0 up down waiting e → (down1.sent ≡ down.sent) × (down1.given ≡ down.given ++ bytes) → up1 ≡ up
+    → Follows state0 up0 down0 up down waiting e → length bytes ≤ e.down_there
+    → (down1.sent ≡ down.sent) × (down1.given ≡ down.given ++ bytes) → up1 ≡ up
     → piece ≡ bytes → front1 ≡ after_take e.front piece → front1.fault ≡ Some fault
-    → (fold_since up0 down0 up1 down1).fold ≡ Err fault
-refused-folds state0 up0 down0 up down up1 down1 waiting e piece bytes front1 fault f moved same_up same_bytes front_is bad =
-    let now : front1 ≡ after_take e.front bytes = front_is ∙ ap (after_take e.front) same_bytes in
-    ap (λ pipe. (fold_since up0 down0 pipe down1).fold) same_up
-    ∙ follows-refused state0 up0 down0 up down down1 waiting e bytes fault f moved.0 moved.1
-    (sym (ap (λ (s : FrontState). s.fault) now) ∙ bad)
+    → ((fold_since up0 down0 up1 down1).fold ≡ Err fault) × GivesNoMore (fold_since up0 down0 up1 down1)
+refused-folds state0 up0 down0 up down up1 down1 waiting e piece bytes front1 fault f most moved same_up same_bytes front_is bad =
+    let now : front1 ≡ after_take e.front bytes = front_is ∙ ap (after_take e.front) same_bytes in (
+      ap (λ pipe. (fold_since up0 down0 pipe down1).fold) same_up
+          ∙ follows-refused state0 up0 down0 up down down1 waiting e bytes fault f moved.0 moved.1
+          (sym (ap (λ (s : FrontState). s.fault) now) ∙ bad),
+      subst (λ pipe. GivesNoMore (fold_since up0 down0 pipe down1)) (sym same_up)
+          (less-down state0 up0 down0 up down down1 waiting e bytes f most moved.0 moved.1),
+    )
 
 -- the next frame is answered, before those that the splitter holds
 pub follow_turn : {T : Type 0} (result : Result T Stop) (state0 : Started) (up0 down0 up down up1 down1 : Pipe) (e e1 : Ends) (s : Frames)
@@ -293,7 +316,7 @@ follow_turn result state0 up0 down0 up down up1 down1 e e1 s frame f whole rest 
 pub follow_end : (state0 : Started) (up0 down0 up down : Pipe) (e e1 : Ends) → FollowsWith state0 up0 down0 up down e
     → e1.splitter ≡ e.splitter → e1.splitter.whole ≡ []
     → ((rest : List ℕ) → record (ends_of e) { back_rest = rest } ≡ record (ends_of e1) { back_rest = rest })
-    → FollowsRun state0 up0 down0 up down e1 × IsOk (fold_since up0 down0 up down).fold
+    → FollowsRun state0 up0 down0 up down e1 × IsWell (fold_since up0 down0 up down)
 follow_end state0 up0 down0 up down e e1 f same none ends = (
   record {
     so_far = subst (Follows state0 up0 down0 up down e1.splitter.whole) (ends e1.splitter.rest)
@@ -335,7 +358,7 @@ pub closes-shown : (result : Result (Unit {0}) Stop) (state0 : Started) (up0 dow
     (e : Ends) (tree : Nodes Seen)
     → FollowsRun state0 up0 down0 up down e → tree ≡ e.front.value.tree → GoesWell result
     → OnOk result (Appends before after (codes "# end" ++ 10 ∷ outline_text seen_line tree))
-    → OnOk result (EndsShown before after (fold_since up0 down0 up down) × AnswersInOrder up0 down0 up down × GivesNoMore up0 down0 up down
+    → OnOk result (EndsShown before after (fold_since up0 down0 up down) × AnswersInOrder up0 down0 up down
     × AllCame (fold_since up0 down0 up down) state0.shown) × StopFolds result (fold_since up0 down0 up down)
 closes-shown (Ok value) state0 up0 down0 up down before after e tree run shows never printed = (
   (
@@ -347,7 +370,6 @@ closes-shown (Ok value) state0 up0 down0 up down before after e tree run shows n
     },
     follows-replies state0 up0 down0 up down (ends_of e)
         (subst (λ frames. Follows state0 up0 down0 up down frames (ends_of e)) run.none_whole run.so_far),
-    follows-less state0 up0 down0 up down e.splitter.whole (ends_of e) run.so_far,
     run-came state0 up0 down0 up down e run,
   ),
   run-good state0 up0 down0 up down e run,
@@ -374,34 +396,31 @@ ends-after before middle after passed some shown =
 
 pub ends-shown : {T : Type 0} (result : Result T Stop) (before middle after : Option (List ℕ)) (up0 down0 up down : Pipe) (shown : List ℕ)
     → PrintedSome before middle
-    → OnOk result (EndsShown middle after (fold_since up0 down0 up down) × AnswersInOrder up0 down0 up down × GivesNoMore up0 down0 up down
+    → OnOk result (EndsShown middle after (fold_since up0 down0 up down) × AnswersInOrder up0 down0 up down
     × AllCame (fold_since up0 down0 up down) shown) → OnOk result (EndsShown before after (fold_since up0 down0 up down))
 ends-shown (Ok value) before middle after up0 down0 up down shown some both = ends-after before middle after
     (fold_since up0 down0 up down) some both.0
 ends-shown (Err stop) before middle after up0 down0 up down shown some both = tt
 
 pub in-order : {T : Type 0} (result : Result T Stop) (before after : Option (List ℕ)) (up0 down0 up down : Pipe) (shown : List ℕ)
-    → OnOk result (EndsShown before after (fold_since up0 down0 up down) × AnswersInOrder up0 down0 up down × GivesNoMore up0 down0 up down
+    → OnOk result (EndsShown before after (fold_since up0 down0 up down) × AnswersInOrder up0 down0 up down
     × AllCame (fold_since up0 down0 up down) shown) → OnOk result (AnswersInOrder up0 down0 up down)
 in-order (Ok value) before after up0 down0 up down shown both = both.1
 in-order (Err stop) before after up0 down0 up down shown both = tt
 
-pub no-more : {T : Type 0} (result : Result T Stop) (before after : Option (List ℕ)) (up0 down0 up down : Pipe) (shown : List ℕ)
-    → OnOk result (EndsShown before after (fold_since up0 down0 up down) × AnswersInOrder up0 down0 up down × GivesNoMore up0 down0 up down
-    × AllCame (fold_since up0 down0 up down) shown) → OnOk result (GivesNoMore up0 down0 up down)
-no-more (Ok value) before after up0 down0 up down shown all = all.2
-no-more (Err stop) before after up0 down0 up down shown all = tt
-
 -- ---- the start and the end
 
 -- nothing was sent or given yet
-pub start-good : (up down : Pipe) → IsOk (fold_since up down up down).fold
+pub start-good : (up down : Pipe) → IsWell (fold_since up down up down)
 unfolding frames_of
 start-good up down =
     let none : (bytes : List ℕ) → drop (length bytes) bytes ≡ [] = λ bytes. drop_all (length bytes) bytes (omega arith) in
     let folds : IsOk (fold_of [] []) = refl in
-    subst (λ bytes. IsOk (fold_of bytes (given_since down down))) (sym (none up.sent))
-    (subst (λ bytes. IsOk (fold_of [] bytes)) (sym (none down.given)) folds)
+    let nothing : (bytes : List ℕ) → length (drop (length bytes) bytes) ≡ 0 = λ bytes. ap length (none bytes) in (
+      subst (λ bytes. IsOk (fold_of bytes (given_since down down))) (sym (none up.sent))
+          (subst (λ bytes. IsOk (fold_of [] bytes)) (sym (none down.given)) folds),
+      (omega (arith, nothing up.given), omega (arith, nothing down.given)),
+    )
 
 pub run-first : (up down : Pipe) (page : LoadedPage) (lines : ℕ) (e : Ends) → CanLoadPage page → PageHasTexts page → lines ≤ 2 ^ 26
     → IsNewSide e.seat e.side page
@@ -425,34 +444,47 @@ run-first up down page lines e can texts few new splitter_is front_is up_none do
 
 -- a line that is not read
 pub read-folds : (stop : Stop) (number : ℕ) (bad : Option LineFault) (passed : Passed) → IsRead {T = Unit {0}} (Err stop) number bad
-    → IsOk passed.fold
+    → IsWell passed
     → StopFolds {T = Unit {0}} (Err stop) passed
 read-folds stop number bad passed read good = let s : Says = says (status_of stop) in at-line s.phase s.lie s.line read
   where
-    at-line : (phase : Phase) (lie : Option Lie) (line : Option (ℕ × LineFault)) → ReadsAt phase line number bad → FoldsAt phase lie passed
+    at-line : (phase : Phase) (lie : Option Lie) (line : Option (ℕ × LineFault)) → ReadsAt phase line number bad
+        → FoldsAt phase lie passed × LessAt phase passed
     at-line untouched lie line read = absurd read
     at-line reading lie line read = absurd read
     at-line underway lie line read = absurd read
     at-line ended lie line read = good
-    at-line anywhen lie line read = tt
+    at-line anywhen lie line read = (tt, tt)
+
+-- where no more was given than sent, each phase says so
+pub less-at : (phase : Phase) (passed : Passed) → GivesNoMore passed → LessAt phase passed
+less-at untouched passed less = less
+less-at reading passed less = less
+less-at underway passed less = less
+less-at ended passed less = less
+less-at anywhen passed less = tt
 
 -- the status that a stop is
 pub status-folds : (stop : Stop) (status : Status) (passed : Passed) → status ≡ status_of stop → StopFolds {T = Unit {0}} (Err stop) passed
     → StatusFolds status passed
-status-folds stop status passed is folds = subst (λ s. StatusFolds s passed) (sym is) folds
+status-folds stop status passed is folds = subst (λ s. StatusFolds s passed) (sym is) folds.0
+
+pub status-less : (stop : Stop) (status : Status) (passed : Passed) → status ≡ status_of stop → StopFolds {T = Unit {0}} (Err stop) passed
+    → StatusLess status passed
+status-less stop status passed is folds = subst (λ s. StatusLess s passed) (sym is) folds.1
 
 -- an input that is not read
-pub input-folds : (stop : Stop) (before after : ℕ) (passed : Passed) → IsInputStop before after (Err stop) → IsOk passed.fold
+pub input-folds : (stop : Stop) (before after : ℕ) (passed : Passed) → IsInputStop before after (Err stop) → IsWell passed
     → StopFolds {T = Unit {0}} (Err stop) passed
 input-folds stop before after passed is good = let s : Says = says (status_of stop) in at-input s.phase s.lie
     (PartRose (source_counts before after) s.failed) is
   where
-    at-input : (phase : Phase) (lie : Option Lie) (P : Type 0) → InReadOnly phase P → FoldsAt phase lie passed
+    at-input : (phase : Phase) (lie : Option Lie) (P : Type 0) → InReadOnly phase P → FoldsAt phase lie passed × LessAt phase passed
     at-input untouched lie P is = absurd is
     at-input reading lie P is = good
     at-input underway lie P is = absurd is
     at-input ended lie P is = absurd is
-    at-input anywhen lie P is = tt
+    at-input anywhen lie P is = (tt, tt)
 
 -- a stop is not the end
 pub never-done : (stop : Stop) (s : Status) → s ≡ status_of stop → s ≡ status.Done → ⊥

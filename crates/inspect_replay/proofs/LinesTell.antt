@@ -23,7 +23,7 @@ use Rattle.inspect_replay.specs.Says.{Phase, untouched, reading, underway, ended
 use Rattle.inspect_replay.specs.Moments.{Moment}
 use Rattle.inspect_replay.specs.Stops.{AmidRun, two_counts, HasStopCause}
 use Rattle.inspect_replay.specs.Answers.{AtEnd, RunTells}
-use Rattle.inspect_replay.specs.Followed.{AllCame, EndsShown, AnswersInOrder, GivesNoMore, Passed, fold_since, FollowsRun, LineFollows}
+use Rattle.inspect_replay.specs.Followed.{AllCame, EndsShown, AnswersInOrder, Passed, fold_since, FollowsRun, LineFollows}
 use Rattle.inspect_replay.specs.Followed.{LineTells, LinesCarried}
 use Rattle.inspect_replay.specs.Prints.{numbered_line, IsRead}
 use Rattle.inspect_replay.specs.Runs.{ends_of}
@@ -232,9 +232,9 @@ carried-tells state0 up0 down0 new lines c = c.none _ (run-came (run_started sta
 pub closing-tells : (result : Result (Unit {0}) Stop) (sink0 sink1 link0 link1 : ℕ) (state0 : State) (up0 down0 up down : Pipe)
     (new : Moment) (before after : Option (List ℕ)) (lines : List (List ℕ))
     → (c : LinesCarried state0 up0 down0 new lines) → HasStopCause sink0 sink1 link0 link1 result
-    → OnOk result (EndsShown before after (fold_since up0 down0 up down) × AnswersInOrder up0 down0 up down × GivesNoMore up0 down0 up down
+    → OnOk result (EndsShown before after (fold_since up0 down0 up down) × AnswersInOrder up0 down0 up down
     × AllCame (fold_since up0 down0 up down) c.shown)
     → RunTells result (first_refused (came_styles (fold_since up0 down0 up down).fold) 2 lines)
-closing-tells (Ok value) sink0 sink1 link0 link1 state0 up0 down0 up down new before after lines c cause shown = c.none _ shown.3
+closing-tells (Ok value) sink0 sink1 link0 link1 state0 up0 down0 up down new before after lines c cause shown = c.none _ shown.2
 closing-tells (Err stop) sink0 sink1 link0 link1 state0 up0 down0 up down new before after lines c cause shown =
     part-tells stop sink0 sink1 link0 link1 (first_refused (came_styles (fold_since up0 down0 up down).fold) 2 lines) cause

@@ -22,15 +22,25 @@ use Rattle.inspect_replay.specs.Runs.{ends_of}
 
 -- ---- what the clauses of the whole call say
 
--- What went over a link: the fold of the bytes given down, begun with the asks among those sent up; and how many were sent up.
+-- What went over a link: the fold of the bytes given down, begun with the asks among those sent up; and how many were sent and
+-- given, up and down.
 pub record Passed : Type 0 where
   pub fold : Result FrontValue FrontFault
   pub sent_up : ℕ
+  pub given_up : ℕ
+  pub sent_down : ℕ
+  pub given_down : ℕ
 
 -- the same since the pipes were as `up0` and `down0`
 abbrev pub fold_since : (up0 down0 up down : Pipe) → Passed
 fold_since up0 down0 up down =
-    record { fold = fold_of (sent_since up0 up) (given_since down0 down); sent_up = length (sent_since up0 up) }
+    record {
+      fold = fold_of (sent_since up0 up) (given_since down0 down);
+      sent_up = length (sent_since up0 up);
+      given_up = length (given_since up0 up);
+      sent_down = length (sent_since down0 down);
+      given_down = length (given_since down0 down);
+    }
 
 -- what an answer says of it: the message that the fold refuses, or that it refuses none; want of memory says nothing
 abbrev pub FoldsAt : Phase → Option Lie → Passed → Type 0
@@ -60,15 +70,30 @@ AnswersInOrder up0 down0 up down = map (λ (t : ShownReply). t.id) (replies_in (
     ≡ map reply_id (frames_of (given_since up0 up)).whole
 
 -- Of each pipe no more bytes were given than were sent: a delivery asks for no more than are there.
-abbrev pub GivesNoMore : (up0 down0 up down : Pipe) → Type 0
-GivesNoMore up0 down0 up down =
-    (length (given_since up0 up) ≤ length (sent_since up0 up)) × (length (given_since down0 down) ≤ length (sent_since down0 down))
+abbrev pub GivesNoMore : Passed → Type 0
+GivesNoMore passed = (passed.given_up ≤ passed.sent_up) × (passed.given_down ≤ passed.sent_down)
+
+-- so it is whatever is answered; want of memory says nothing
+abbrev pub LessAt : Phase → Passed → Type 0
+LessAt untouched passed = GivesNoMore passed
+LessAt reading passed = GivesNoMore passed
+LessAt underway passed = GivesNoMore passed
+LessAt ended passed = GivesNoMore passed
+LessAt anywhen passed = ⊤
+
+-- the same of what the whole call answers
+abbrev pub StatusLess : Status → Passed → Type 0
+StatusLess status passed = LessAt (says status).phase passed
 
 -- ---- the same of its parts
 
--- what the result of a part says of it
+-- what the result of a part says of both
 abbrev pub StopFolds : {T : Type 0} → Result T Stop → Passed → Type 0
-StopFolds result passed = FoldsAt (says_of result).phase (says_of result).lie passed
+StopFolds result passed = FoldsAt (says_of result).phase (says_of result).lie passed × LessAt (says_of result).phase passed
+
+-- the fold meets no fault, and no more was given than sent
+abbrev pub IsWell : Passed → Type 0
+IsWell passed = IsOk passed.fold × GivesNoMore passed
 
 -- the ends follow the link; the splitter may hold whole frames that are not yet answered
 abbrev pub FollowsWith : Started → (up0 down0 up down : Pipe) → Ends → Type 0
@@ -145,5 +170,5 @@ ClosesShown old new result =
     (state0 : Started) (up0 down0 : Pipe) → FollowsRun state0 up0 down0 old.now.up old.now.down old.now.ends
     → OnOk result (EndsShown old.taken new.taken (fold_since up0 down0 new.now.up new.now.down)
     × AnswersInOrder up0 down0 new.now.up new.now.down
-    × GivesNoMore up0 down0 new.now.up new.now.down × AllCame (fold_since up0 down0 new.now.up new.now.down) state0.shown)
+    × AllCame (fold_since up0 down0 new.now.up new.now.down) state0.shown)
     × StopFolds result (fold_since up0 down0 new.now.up new.now.down)

@@ -14,6 +14,15 @@ pub record Moment : Type 1 where
 abbrev pub moment : Type 0 → Pipe → Pipe → Ends → Moment
 moment honest up down ends = record { honest = honest; up = up; down = down; ends = ends }
 
+-- what a call leads from, and to
+pub record Passage : Type 1 where
+  pub before : Moment
+  pub after : Moment
+
+-- these two together
+abbrev pub passage : Moment → Moment → Passage
+passage before after = record { before = before; after = after }
+
 -- a moment, with what the sink has taken
 pub record Scene : Type 1 where
   pub now : Moment

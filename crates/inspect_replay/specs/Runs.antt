@@ -11,7 +11,7 @@ use Rattle.inspect_world.specs.FreshRuns.{front_fetcher, refreshes, Together}
 use Rattle.inspect_world.specs.Held.{Ends as HeldEnds, InWorld}
 use Rattle.inspect_replay.specs.declared.ends.Ends.{Ends}
 use Rattle.inspect_replay.specs.declared.stop.Stop.{Stop}
-use Rattle.inspect_replay.specs.Moments.{Moment}
+use Rattle.inspect_replay.specs.Moments.{Moment, Passage}
 use Rattle.inspect_replay.specs.Stops.{GoesWell}
 
 -- what the ends of the program hold
@@ -45,10 +45,11 @@ Steps old new result f =
     → GoesWell result × OnOk result (InRun new.honest up0 down0 new.up new.down (f w) new.ends)
 
 -- the same of a call that sends a frame or makes a step of the script, while there is room for a line of so many bytes
-abbrev pub Spends : {T : Type 0} → ℕ → Moment → Moment → Result T Stop → (World RunState → World RunState) → Type 0
-Spends bytes old new result f =
-    (up0 down0 : Pipe) (w : World RunState) → HasLeft w.spent bytes → InRun old.honest up0 down0 old.up old.down w old.ends
-    → GoesWell result × OnOk result (InRun new.honest up0 down0 new.up new.down (f w) new.ends)
+abbrev pub Spends : {T : Type 0} → ℕ → Passage → Result T Stop → (World RunState → World RunState) → Type 0
+Spends bytes m result f =
+    (up0 down0 : Pipe) (w : World RunState) → HasLeft w.spent bytes
+    → InRun m.before.honest up0 down0 m.before.up m.before.down w m.before.ends
+    → GoesWell result × OnOk result (InRun m.after.honest up0 down0 m.after.up m.after.down (f w) m.after.ends)
 
 -- the same of a call that answers the frames that came up whole
 abbrev pub AnswersAll : {T : Type 0} → Moment → Moment → Result T Stop → Type 0

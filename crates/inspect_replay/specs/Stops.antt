@@ -39,6 +39,10 @@ pub record HasStopCause {T : Type 0} (sink_before sink_after link_before link_af
   pub link_later : link_before ≤ link_after
   pub rose : RoseAt (two_counts sink_before sink_after link_before link_after) result
 
+-- the same of counts in one record
+abbrev pub StopRose : {T : Type 0} → Counts → Result T Stop → Type 0
+StopRose c result = HasStopCause c.sink_before c.sink_after c.link_before c.link_after result
+
 -- a call goes well: the front end was not at fault, and there was room
 abbrev pub GoesWell : {T : Type 0} → Result T Stop → Type 0
 GoesWell result = Absent (says_of result).lie
@@ -52,3 +56,7 @@ pub record HasRunCause {T : Type 0} (sink_before sink_after link_before link_aft
   pub sink_later : sink_before ≤ sink_after
   pub link_later : link_before ≤ link_after
   pub rose : RunRoseAt (two_counts sink_before sink_after link_before link_after) result
+
+-- the same of counts in one record
+abbrev pub RunRose : {T : Type 0} → Counts → Result T Stop → Type 0
+RunRose c result = HasRunCause c.sink_before c.sink_after c.link_before c.link_after result

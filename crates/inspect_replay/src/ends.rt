@@ -61,10 +61,10 @@ fn framed(alloc: Global, text: &str) -> Result<Vec<u8>, AllocError>
 }
 
 impl Ends {
-    ghost use Rattle.inspect_replay.specs.Stops.{HasStopCause};
+    ghost use Rattle.inspect_replay.specs.Stops.{StopRose};
     ghost use Rattle.inspect_replay.specs.Runs.{Steps, Spends, TakesUp, AnswersAll, AnswersOne, SendsFetch, FetchesText, FetchesOne};
     ghost use Rattle.inspect_replay.specs.Runs.{FetchesAll, Refreshes};
-    ghost use Rattle.inspect_replay.specs.Moments.{moment};
+    ghost use Rattle.inspect_replay.specs.Moments.{moment, passage};
     ghost use Rattle.inspect_replay.specs.Followed.{KeepsFollowing, LineFollows, KeepsFollowingWith, FollowsAnswers, FollowsAnswer};
 
     /// Both ends of a page that is loaded, with serials and numbers of sheets from 1 on.
@@ -161,11 +161,12 @@ impl Ends {
         requires params { IsTrue (is_whole_where_there (option_map view ask.now.params)) }
         requires session { IsTrue (is_whole_where_there (option_map view ask.now.session)) }
         ensures honest { L.honest link.old → L.honest link.new }
-        ensures cause { HasStopCause 0 0 (L.faults link.old) (L.faults link.new) result }
+        ensures cause { StopRose (two_counts 0 0 (L.faults link.old) (L.faults link.new)) result }
         ensures follows { KeepsFollowing (moment (L.honest link.old) (L.up link.old) (L.down link.old) self.old)
             (moment (L.honest link.new) (L.up link.new) (L.down link.new) self.new) result }
-        ensures steps { Spends (ask_cost (seen_ask ask.now)) (moment (L.honest link.old) (L.up link.old) (L.down link.old) self.old)
-            (moment (L.honest link.new) (L.up link.new) (L.down link.new) self.new) result (λ w. sends (seen_ask ask.now) w) }
+        ensures steps { Spends (ask_cost (seen_ask ask.now))
+            (passage (moment (L.honest link.old) (L.up link.old) (L.down link.old) self.old)
+            (moment (L.honest link.new) (L.up link.new) (L.down link.new) self.new)) result (λ w. sends (seen_ask ask.now) w) }
     {
         if !self.front.has_room() {
             return Err(Stop::NoRoom);
@@ -192,11 +193,11 @@ impl Ends {
         requires text { IsText text.now }
         requires bare { IsBare text.now }
         ensures honest { L.honest link.old → L.honest link.new }
-        ensures cause { HasStopCause 0 0 (L.faults link.old) (L.faults link.new) result }
+        ensures cause { StopRose (two_counts 0 0 (L.faults link.old) (L.faults link.new)) result }
         ensures follows { KeepsFollowing (moment (L.honest link.old) (L.up link.old) (L.down link.old) self.old)
             (moment (L.honest link.new) (L.up link.new) (L.down link.new) self.new) result }
-        ensures steps { Spends least_line (moment (L.honest link.old) (L.up link.old) (L.down link.old) self.old)
-            (moment (L.honest link.new) (L.up link.new) (L.down link.new) self.new) result (λ w. raw text.now w) }
+        ensures steps { Spends least_line (passage (moment (L.honest link.old) (L.up link.old) (L.down link.old) self.old)
+            (moment (L.honest link.new) (L.up link.new) (L.down link.new) self.new)) result (λ w. raw text.now w) }
     {
         let frame = framed(self.alloc, text)?;
         let Some(there) = self.up_there.checked_add(frame.len() as u64) else {
@@ -220,11 +221,11 @@ impl Ends {
         requires { IsTurn (acts act) }
         ensures fault { IfOk result (λ fault. fault ≡ act_fault act self.old.side.page self.old.side.sheets.entries) }
         ensures honest { L.honest link.old → L.honest link.new }
-        ensures cause { HasStopCause 0 0 (L.faults link.old) (L.faults link.new) result }
+        ensures cause { StopRose (two_counts 0 0 (L.faults link.old) (L.faults link.new)) result }
         ensures follows { LineFollows (moment (L.honest link.old) (L.up link.old) (L.down link.old) self.old)
             (moment (L.honest link.new) (L.up link.new) (L.down link.new) self.new) result }
-        ensures steps { Spends least_line (moment (L.honest link.old) (L.up link.old) (L.down link.old) self.old)
-            (moment (L.honest link.new) (L.up link.new) (L.down link.new) self.new) result (λ w. turned run_turn (acts act) w) }
+        ensures steps { Spends least_line (passage (moment (L.honest link.old) (L.up link.old) (L.down link.old) self.old)
+            (moment (L.honest link.new) (L.up link.new) (L.down link.new) self.new)) result (λ w. turned run_turn (acts act) w) }
     {
         if !self.seat.has_room(&self.side) {
             return Err(Stop::NoRoom);
@@ -247,11 +248,11 @@ impl Ends {
     pub(crate) fn load_page<L: Link>(&mut self, link: &mut L, form: PageForm) -> Result<(), Stop>
         requires { IsTurn (loads (loaded_page form)) }
         ensures honest { L.honest link.old → L.honest link.new }
-        ensures cause { HasStopCause 0 0 (L.faults link.old) (L.faults link.new) result }
+        ensures cause { StopRose (two_counts 0 0 (L.faults link.old) (L.faults link.new)) result }
         ensures follows { LineFollows (moment (L.honest link.old) (L.up link.old) (L.down link.old) self.old)
             (moment (L.honest link.new) (L.up link.new) (L.down link.new) self.new) result }
-        ensures steps { Spends least_line (moment (L.honest link.old) (L.up link.old) (L.down link.old) self.old)
-            (moment (L.honest link.new) (L.up link.new) (L.down link.new) self.new) result
+        ensures steps { Spends least_line (passage (moment (L.honest link.old) (L.up link.old) (L.down link.old) self.old)
+            (moment (L.honest link.new) (L.up link.new) (L.down link.new) self.new)) result
             (λ w. turned run_turn (loads (loaded_page form)) w) }
     {
         if !self.seat.has_room(&self.side) {
@@ -274,7 +275,7 @@ impl Ends {
     /// Delivers `n` bytes up, or as many as are there. Each frame that becomes whole is answered at once.
     pub(crate) fn deliver_up<L: Link>(&mut self, link: &mut L, n: u64) -> Result<(), Stop>
         ensures honest { L.honest link.old → L.honest link.new }
-        ensures cause { HasStopCause 0 0 (L.faults link.old) (L.faults link.new) result }
+        ensures cause { StopRose (two_counts 0 0 (L.faults link.old) (L.faults link.new)) result }
         ensures follows { KeepsFollowing (moment (L.honest link.old) (L.up link.old) (L.down link.old) self.old)
             (moment (L.honest link.new) (L.up link.new) (L.down link.new) self.new) result }
         ensures steps { Steps (moment (L.honest link.old) (L.up link.old) (L.down link.old) self.old)
@@ -289,7 +290,7 @@ impl Ends {
     /// Takes up to `n` bytes that come up, and cuts them into frames.
     fn take_up<L: Link>(&mut self, link: &mut L, n: u64) -> Result<(), Stop>
         ensures honest { L.honest link.old → L.honest link.new }
-        ensures cause { HasStopCause 0 0 (L.faults link.old) (L.faults link.new) result }
+        ensures cause { StopRose (two_counts 0 0 (L.faults link.old) (L.faults link.new)) result }
         ensures follows { KeepsFollowingWith (moment (L.honest link.old) (L.up link.old) (L.down link.old) self.old)
             (moment (L.honest link.new) (L.up link.new) (L.down link.new) self.new) result }
         ensures steps { TakesUp (moment (L.honest link.old) (L.up link.old) (L.down link.old) self.old)
@@ -308,7 +309,7 @@ impl Ends {
     /// Answers the frames that came up whole.
     fn answer_frames<L: Link>(&mut self, link: &mut L) -> Result<(), Stop>
         ensures honest { L.honest link.old → L.honest link.new }
-        ensures cause { HasStopCause 0 0 (L.faults link.old) (L.faults link.new) result }
+        ensures cause { StopRose (two_counts 0 0 (L.faults link.old) (L.faults link.new)) result }
         ensures follows { FollowsAnswers (moment (L.honest link.old) (L.up link.old) (L.down link.old) self.old)
             (moment (L.honest link.new) (L.up link.new) (L.down link.new) self.new) result }
         ensures steps { AnswersAll (moment (L.honest link.old) (L.up link.old) (L.down link.old) self.old)
@@ -326,7 +327,7 @@ impl Ends {
     fn answer<L: Link>(&mut self, link: &mut L, frame: &[u8]) -> Result<(), Stop>
         ensures same { self.new.splitter ≡ self.old.splitter }
         ensures honest { L.honest link.old → L.honest link.new }
-        ensures cause { HasStopCause 0 0 (L.faults link.old) (L.faults link.new) result }
+        ensures cause { StopRose (two_counts 0 0 (L.faults link.old) (L.faults link.new)) result }
         ensures follows { FollowsAnswer (moment (L.honest link.old) (L.up link.old) (L.down link.old) self.old)
             (moment (L.honest link.new) (L.up link.new) (L.down link.new) self.new) frame.now result }
         ensures steps { AnswersOne (moment (L.honest link.old) (L.up link.old) (L.down link.old) self.old)
@@ -353,7 +354,7 @@ impl Ends {
     /// Delivers `n` bytes down, or as many as are there.
     pub(crate) fn deliver_down<L: Link>(&mut self, link: &mut L, n: u64) -> Result<(), Stop>
         ensures honest { L.honest link.old → L.honest link.new }
-        ensures cause { HasStopCause 0 0 (L.faults link.old) (L.faults link.new) result }
+        ensures cause { StopRose (two_counts 0 0 (L.faults link.old) (L.faults link.new)) result }
         ensures follows { KeepsFollowing (moment (L.honest link.old) (L.up link.old) (L.down link.old) self.old)
             (moment (L.honest link.new) (L.up link.new) (L.down link.new) self.new) result }
         ensures steps { Steps (moment (L.honest link.old) (L.up link.old) (L.down link.old) self.old)
@@ -377,7 +378,7 @@ impl Ends {
     /// Delivers all of the up pipe, and then all of the down pipe.
     fn deliver_all<L: Link>(&mut self, link: &mut L) -> Result<(), Stop>
         ensures honest { L.honest link.old → L.honest link.new }
-        ensures cause { HasStopCause 0 0 (L.faults link.old) (L.faults link.new) result }
+        ensures cause { StopRose (two_counts 0 0 (L.faults link.old) (L.faults link.new)) result }
         ensures follows { KeepsFollowing (moment (L.honest link.old) (L.up link.old) (L.down link.old) self.old)
             (moment (L.honest link.new) (L.up link.new) (L.down link.new) self.new) result }
         ensures steps { Steps (moment (L.honest link.old) (L.up link.old) (L.down link.old) self.old)
@@ -397,7 +398,7 @@ impl Ends {
     fn send_fetch<L: Link>(&mut self, link: &mut L, number: u64) -> Result<(), Stop>
         requires known { has_sheet number self.old.front.value.sheets ≡ true }
         ensures honest { L.honest link.old → L.honest link.new }
-        ensures cause { HasStopCause 0 0 (L.faults link.old) (L.faults link.new) result }
+        ensures cause { StopRose (two_counts 0 0 (L.faults link.old) (L.faults link.new)) result }
         ensures follows { KeepsFollowing (moment (L.honest link.old) (L.up link.old) (L.down link.old) self.old)
             (moment (L.honest link.new) (L.up link.new) (L.down link.new) self.new) result }
         ensures steps { SendsFetch (moment (L.honest link.old) (L.up link.old) (L.down link.old) self.old)
@@ -423,7 +424,7 @@ impl Ends {
     fn fetch_text<L: Link>(&mut self, link: &mut L, number: u64) -> Result<(), Stop>
         requires known { has_sheet number self.old.front.value.sheets ≡ true }
         ensures honest { L.honest link.old → L.honest link.new }
-        ensures cause { HasStopCause 0 0 (L.faults link.old) (L.faults link.new) result }
+        ensures cause { StopRose (two_counts 0 0 (L.faults link.old) (L.faults link.new)) result }
         ensures follows { KeepsFollowing (moment (L.honest link.old) (L.up link.old) (L.down link.old) self.old)
             (moment (L.honest link.new) (L.up link.new) (L.down link.new) self.new) result }
         ensures steps { FetchesText (moment (L.honest link.old) (L.up link.old) (L.down link.old) self.old)
@@ -438,7 +439,7 @@ impl Ends {
     /// The same; a sheet that the front end does not know any more is passed over.
     fn fetch_if_known<L: Link>(&mut self, link: &mut L, number: u64) -> Result<(), Stop>
         ensures honest { L.honest link.old → L.honest link.new }
-        ensures cause { HasStopCause 0 0 (L.faults link.old) (L.faults link.new) result }
+        ensures cause { StopRose (two_counts 0 0 (L.faults link.old) (L.faults link.new)) result }
         ensures follows { KeepsFollowing (moment (L.honest link.old) (L.up link.old) (L.down link.old) self.old)
             (moment (L.honest link.new) (L.up link.new) (L.down link.new) self.new) result }
         ensures steps { FetchesOne (moment (L.honest link.old) (L.up link.old) (L.down link.old) self.old)
@@ -453,7 +454,7 @@ impl Ends {
     /// Fetches the texts of these sheets, one after the other.
     fn fetch_all<L: Link>(&mut self, link: &mut L, numbers: &[u64]) -> Result<(), Stop>
         ensures honest { L.honest link.old → L.honest link.new }
-        ensures cause { HasStopCause 0 0 (L.faults link.old) (L.faults link.new) result }
+        ensures cause { StopRose (two_counts 0 0 (L.faults link.old) (L.faults link.new)) result }
         ensures follows { KeepsFollowing (moment (L.honest link.old) (L.up link.old) (L.down link.old) self.old)
             (moment (L.honest link.new) (L.up link.new) (L.down link.new) self.new) result }
         ensures steps { FetchesAll (moment (L.honest link.old) (L.up link.old) (L.down link.old) self.old)
@@ -471,7 +472,7 @@ impl Ends {
     /// Fetches each text that the front end lacks or knows to be old. Which these are is found before the first fetch.
     fn fetch_stale<L: Link>(&mut self, link: &mut L) -> Result<(), Stop>
         ensures honest { L.honest link.old → L.honest link.new }
-        ensures cause { HasStopCause 0 0 (L.faults link.old) (L.faults link.new) result }
+        ensures cause { StopRose (two_counts 0 0 (L.faults link.old) (L.faults link.new)) result }
         ensures follows { KeepsFollowing (moment (L.honest link.old) (L.up link.old) (L.down link.old) self.old)
             (moment (L.honest link.new) (L.up link.new) (L.down link.new) self.new) result }
         ensures steps { FetchesAll (moment (L.honest link.old) (L.up link.old) (L.down link.old) self.old)
@@ -484,7 +485,7 @@ impl Ends {
     /// Delivers all that is on its way, and then fetches each text that the front end lacks or knows to be old.
     pub(crate) fn settle<L: Link>(&mut self, link: &mut L) -> Result<(), Stop>
         ensures honest { L.honest link.old → L.honest link.new }
-        ensures cause { HasStopCause 0 0 (L.faults link.old) (L.faults link.new) result }
+        ensures cause { StopRose (two_counts 0 0 (L.faults link.old) (L.faults link.new)) result }
         ensures follows { KeepsFollowing (moment (L.honest link.old) (L.up link.old) (L.down link.old) self.old)
             (moment (L.honest link.new) (L.up link.new) (L.down link.new) self.new) result }
         ensures steps { Refreshes (moment (L.honest link.old) (L.up link.old) (L.down link.old) self.old)

@@ -1,7 +1,7 @@
 // The link's calls, with what a run stops by.
 ghost use Rattle.std.specs.Prelude.{◌≡◌, ℕ, ◌++◌, take, IfOk, OnOk, OnErr};
 ghost use Rattle.pipe_frames.specs.Pipe.{Pipe, waiting};
-ghost use Rattle.inspect_replay.specs.Stops.{HasStopCause, GoesWell};
+ghost use Rattle.inspect_replay.specs.Stops.{StopRose, GoesWell};
 ghost use Rattle.inspect_replay.specs.Moved.{Sent, Got};
 
 use crate::stop::Stop;
@@ -13,7 +13,7 @@ pub(crate) fn send_up<L: Link>(link: &mut L, bytes: &[u8]) -> Result<(), Stop>
     ensures down { L.down link.new ≡ L.down link.old }
     ensures honest { L.honest link.old → L.honest link.new }
     ensures never { GoesWell result }
-    ensures cause { HasStopCause 0 0 (L.faults link.old) (L.faults link.new) result }
+    ensures cause { StopRose (two_counts 0 0 (L.faults link.old) (L.faults link.new)) result }
 {
     match link.put_up(bytes) {
         Ok(()) => Ok(()),
@@ -27,7 +27,7 @@ pub(crate) fn send_down<L: Link>(link: &mut L, bytes: &[u8]) -> Result<(), Stop>
     ensures up { L.up link.new ≡ L.up link.old }
     ensures honest { L.honest link.old → L.honest link.new }
     ensures never { GoesWell result }
-    ensures cause { HasStopCause 0 0 (L.faults link.old) (L.faults link.new) result }
+    ensures cause { StopRose (two_counts 0 0 (L.faults link.old) (L.faults link.new)) result }
 {
     match link.put_down(bytes) {
         Ok(()) => Ok(()),
@@ -43,7 +43,7 @@ pub(crate) fn receive_up<L: Link>(alloc: Global, link: &mut L, max: usize) -> Re
     ensures honest { L.honest link.old → L.honest link.new }
     ensures all { L.honest link.old → IfOk result (λ piece. piece.items ≡ take max (waiting (L.up link.old))) }
     ensures never { GoesWell result }
-    ensures cause { HasStopCause 0 0 (L.faults link.old) (L.faults link.new) result }
+    ensures cause { StopRose (two_counts 0 0 (L.faults link.old) (L.faults link.new)) result }
 {
     let mut piece = Vec::new(alloc);
     match link.get_up(max, &mut piece) {
@@ -64,7 +64,7 @@ pub(crate) fn receive_down<L: Link>(
     ensures honest { L.honest link.old → L.honest link.new }
     ensures all { L.honest link.old → IfOk result (λ piece. piece.items ≡ take max (waiting (L.down link.old))) }
     ensures never { GoesWell result }
-    ensures cause { HasStopCause 0 0 (L.faults link.old) (L.faults link.new) result }
+    ensures cause { StopRose (two_counts 0 0 (L.faults link.old) (L.faults link.new)) result }
 {
     let mut piece = Vec::new(alloc);
     match link.get_down(max, &mut piece) {

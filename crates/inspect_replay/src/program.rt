@@ -7,7 +7,7 @@ ghost use Rattle.inspect_world.specs.Scripts.{report, report_refused};
 ghost use Rattle.inspect_world.specs.ScriptsFit.{UndoRestoresInRuns};
 ghost use Rattle.inspect_replay.specs.Words.{is_replay, is_serve};
 ghost use Rattle.inspect_replay.specs.declared.status.Status.TheVariants.{Done, Usage};
-ghost use Rattle.inspect_replay.specs.Followed.{StatusFolds, EndsShown, AnswersInOrder, GivesNoMore, fold_since};
+ghost use Rattle.inspect_replay.specs.Followed.{StatusFolds, EndsShown, AnswersInOrder, StatusLess, fold_since};
 ghost use Rattle.inspect_replay.specs.Answers.{FitsLimits, TellsLine, Took, IsHonest, WritesNothing, StatusRose, InputTells, IsInputStop};
 ghost use Rattle.inspect_replay.specs.Answers.{ReadsAll, IsLate};
 ghost use Rattle.inspect_replay.specs.Says.{status_of};
@@ -59,8 +59,9 @@ pub fn inspect<S: Source, K: Sink, L: Link>(
     // over every link: the replies sent down answer the frames given up, in their order, each with its frame's id
     ensures replies { is_replay (map string_bytes words.now) ≡ true
         → result ≡ Done → AnswersInOrder (L.up link.old) (L.down link.old) (L.up link.new) (L.down link.new) }
-    // over every link: a delivery asks for no more bytes than are there, so no more are given than were sent
-    ensures less { result ≡ Done → GivesNoMore (L.up link.old) (L.down link.old) (L.up link.new) (L.down link.new) }
+    // over every link, whatever is answered but want of memory: a delivery asks for no more bytes than are there, so no more
+    // are given than were sent
+    ensures less { StatusLess result (fold_since (L.up link.old) (L.down link.old) (L.up link.new) (L.down link.new)) }
     ensures usage { result ≡ Usage ↔ ((is_replay (map string_bytes words.now) || is_serve (map string_bytes words.now)) ≡ false) }
     ensures unread { result ≡ Usage → src.new ≡ src.old }
     ensures unwritten { result ≡ Usage → out.new ≡ out.old }
@@ -127,7 +128,7 @@ fn replay<S: Source, K: Sink, L: Link>(
     ensures closes { result ≡ Done → EndsShown (K.taken out.old) (K.taken out.new)
         (fold_since (L.up link.old) (L.down link.old) (L.up link.new) (L.down link.new)) }
     ensures replies { result ≡ Done → AnswersInOrder (L.up link.old) (L.down link.old) (L.up link.new) (L.down link.new) }
-    ensures less { result ≡ Done → GivesNoMore (L.up link.old) (L.down link.old) (L.up link.new) (L.down link.new) }
+    ensures less { StatusLess result (fold_since (L.up link.old) (L.down link.old) (L.up link.new) (L.down link.new)) }
     ensures used { result ≡ Usage → ⊥ }
     ensures line { (input : List ℕ) → S.left src.old ≡ Some input
         → TellsLine result
@@ -165,7 +166,7 @@ fn run_input<K: Sink, L: Link>(alloc: Global, input: &[u8], out: &mut K, link: &
     ensures closes { result ≡ Done → EndsShown (K.taken out.old) (K.taken out.new)
         (fold_since (L.up link.old) (L.down link.old) (L.up link.new) (L.down link.new)) }
     ensures replies { result ≡ Done → AnswersInOrder (L.up link.old) (L.down link.old) (L.up link.new) (L.down link.new) }
-    ensures less { result ≡ Done → GivesNoMore (L.up link.old) (L.down link.old) (L.up link.new) (L.down link.new) }
+    ensures less { StatusLess result (fold_since (L.up link.old) (L.down link.old) (L.up link.new) (L.down link.new)) }
     ensures used { result ≡ Usage → ⊥ }
     ensures line { TellsLine result
         (script_refused (came_styles (fold_since (L.up link.old) (L.down link.old) (L.up link.new) (L.down link.new)).fold) input.now) }

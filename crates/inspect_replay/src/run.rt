@@ -17,11 +17,11 @@ ghost use Rattle.inspect_world.specs.World as world;
 ghost use Rattle.inspect_world.specs.Costs.{ask_cost, least_line, line_bytes};
 ghost use Rattle.inspect_world.specs.Scripts.{report, report_refused, rest_text, rest_refused, loaded_world, sends};
 ghost use Rattle.inspect_replay.specs.Runs.{Spends};
-ghost use Rattle.inspect_replay.specs.Stops.{HasStopCause, HasRunCause};
+ghost use Rattle.inspect_replay.specs.Stops.{StopRose, RunRose};
 ghost use Rattle.inspect_replay.specs.Answers.{RunTells, RunTook};
-ghost use Rattle.inspect_replay.specs.Moments.{moment, scene};
+ghost use Rattle.inspect_replay.specs.Moments.{moment, scene, passage};
 ghost use Rattle.inspect_replay.specs.Followed.{KeepsFollowing, LineFollows, LineTells, LinesFollow, PrintedSome, ClosesShown, StopFolds};
-ghost use Rattle.inspect_replay.specs.Followed.{fold_since, EndsShown, AnswersInOrder, GivesNoMore};
+ghost use Rattle.inspect_replay.specs.Followed.{fold_since, EndsShown, AnswersInOrder};
 ghost use Rattle.inspect_replay.specs.Prints.{CarriesOut, CarriesLine, RunsLines, Closes, IsRead, numbered_line, load_of};
 
 use crate::ends::Ends;
@@ -44,7 +44,7 @@ fn show_front<K: Sink, L: Link>(
     link: &mut L,
 ) -> Result<(), Stop>
     ensures honest { L.honest link.old → L.honest link.new }
-    ensures cause { HasStopCause (K.faults out.old) (K.faults out.new) (L.faults link.old) (L.faults link.new) result }
+    ensures cause { StopRose (two_counts (K.faults out.old) (K.faults out.new) (L.faults link.old) (L.faults link.new)) result }
     ensures follows { KeepsFollowing (moment (L.honest link.old) (L.up link.old) (L.down link.old) ends.old)
         (moment (L.honest link.new) (L.up link.new) (L.down link.new) ends.new) result }
     ensures some { OnOk result (PrintedSome (K.taken out.old) (K.taken out.new)) }
@@ -67,7 +67,7 @@ fn show_replies<K: Sink, L: Link>(
     link: &mut L,
 ) -> Result<(), Stop>
     ensures honest { L.honest link.old → L.honest link.new }
-    ensures cause { HasStopCause (K.faults out.old) (K.faults out.new) (L.faults link.old) (L.faults link.new) result }
+    ensures cause { StopRose (two_counts (K.faults out.old) (K.faults out.new) (L.faults link.old) (L.faults link.new)) result }
     ensures follows { KeepsFollowing (moment (L.honest link.old) (L.up link.old) (L.down link.old) ends.old)
         (moment (L.honest link.new) (L.up link.new) (L.down link.new) ends.new) result }
     ensures some { OnOk result (PrintedSome (K.taken out.old) (K.taken out.new)) }
@@ -99,7 +99,7 @@ fn show_sheets<K: Sink, L: Link>(
     link: &mut L,
 ) -> Result<(), Stop>
     ensures honest { L.honest link.old → L.honest link.new }
-    ensures cause { HasStopCause (K.faults out.old) (K.faults out.new) (L.faults link.old) (L.faults link.new) result }
+    ensures cause { StopRose (two_counts (K.faults out.old) (K.faults out.new) (L.faults link.old) (L.faults link.new)) result }
     ensures follows { KeepsFollowing (moment (L.honest link.old) (L.up link.old) (L.down link.old) ends.old)
         (moment (L.honest link.new) (L.up link.new) (L.down link.new) ends.new) result }
     ensures some { OnOk result (PrintedSome (K.taken out.old) (K.taken out.new)) }
@@ -122,7 +122,7 @@ fn show_pauses<K: Sink, L: Link>(
     link: &mut L,
 ) -> Result<(), Stop>
     ensures honest { L.honest link.old → L.honest link.new }
-    ensures cause { HasStopCause (K.faults out.old) (K.faults out.new) (L.faults link.old) (L.faults link.new) result }
+    ensures cause { StopRose (two_counts (K.faults out.old) (K.faults out.new) (L.faults link.old) (L.faults link.new)) result }
     ensures follows { KeepsFollowing (moment (L.honest link.old) (L.up link.old) (L.down link.old) ends.old)
         (moment (L.honest link.new) (L.up link.new) (L.down link.new) ends.new) result }
     ensures some { OnOk result (PrintedSome (K.taken out.old) (K.taken out.new)) }
@@ -156,7 +156,7 @@ fn show_styles<K: Sink, L: Link>(
     link: &mut L,
 ) -> Result<(), Stop>
     ensures honest { L.honest link.old → L.honest link.new }
-    ensures cause { HasRunCause (K.faults out.old) (K.faults out.new) (L.faults link.old) (L.faults link.new) result }
+    ensures cause { RunRose (two_counts (K.faults out.old) (K.faults out.new) (L.faults link.old) (L.faults link.new)) result }
     ensures follows { KeepsFollowing (moment (L.honest link.old) (L.up link.old) (L.down link.old) ends.old)
         (moment (L.honest link.new) (L.up link.new) (L.down link.new) ends.new) result }
     ensures tells { LineTells (moment (L.honest link.old) (L.up link.old) (L.down link.old) ends.old)
@@ -183,7 +183,7 @@ fn carry_act<K: Sink, L: Link>(
 ) -> Result<(), Stop>
     requires { IsTurn (acts change) }
     ensures honest { L.honest link.old → L.honest link.new }
-    ensures cause { HasStopCause (K.faults out.old) (K.faults out.new) (L.faults link.old) (L.faults link.new) result }
+    ensures cause { StopRose (two_counts (K.faults out.old) (K.faults out.new) (L.faults link.old) (L.faults link.new)) result }
     ensures follows { LineFollows (moment (L.honest link.old) (L.up link.old) (L.down link.old) ends.old)
         (moment (L.honest link.new) (L.up link.new) (L.down link.new) ends.new) result }
     ensures some { OnOk result (PrintedSome (K.taken out.old) (K.taken out.new)) }
@@ -201,11 +201,11 @@ fn carry_act<K: Sink, L: Link>(
 fn carry_ask<L: Link>(ends: &mut Ends, link: &mut L, sent: Ask) -> Result<(), Stop>
     requires { CanSend (seen_ask sent) }
     ensures honest { L.honest link.old → L.honest link.new }
-    ensures cause { HasStopCause 0 0 (L.faults link.old) (L.faults link.new) result }
+    ensures cause { StopRose (two_counts 0 0 (L.faults link.old) (L.faults link.new)) result }
     ensures follows { KeepsFollowing (moment (L.honest link.old) (L.up link.old) (L.down link.old) ends.old)
         (moment (L.honest link.new) (L.up link.new) (L.down link.new) ends.new) result }
-    ensures steps { Spends (ask_cost (seen_ask sent)) (moment (L.honest link.old) (L.up link.old) (L.down link.old) ends.old)
-        (moment (L.honest link.new) (L.up link.new) (L.down link.new) ends.new) result (λ w. sends (seen_ask sent) w) }
+    ensures steps { Spends (ask_cost (seen_ask sent)) (passage (moment (L.honest link.old) (L.up link.old) (L.down link.old) ends.old)
+        (moment (L.honest link.new) (L.up link.new) (L.down link.new) ends.new)) result (λ w. sends (seen_ask sent) w) }
 {
     ends.ask(link, &sent)
 }
@@ -215,11 +215,11 @@ fn carry_raw<L: Link>(ends: &mut Ends, link: &mut L, text: Text) -> Result<(), S
     requires text { IsText text }
     requires bare { IsBare text }
     ensures honest { L.honest link.old → L.honest link.new }
-    ensures cause { HasStopCause 0 0 (L.faults link.old) (L.faults link.new) result }
+    ensures cause { StopRose (two_counts 0 0 (L.faults link.old) (L.faults link.new)) result }
     ensures follows { KeepsFollowing (moment (L.honest link.old) (L.up link.old) (L.down link.old) ends.old)
         (moment (L.honest link.new) (L.up link.new) (L.down link.new) ends.new) result }
-    ensures steps { Spends least_line (moment (L.honest link.old) (L.up link.old) (L.down link.old) ends.old)
-        (moment (L.honest link.new) (L.up link.new) (L.down link.new) ends.new) result (λ w. world.raw text w) }
+    ensures steps { Spends least_line (passage (moment (L.honest link.old) (L.up link.old) (L.down link.old) ends.old)
+        (moment (L.honest link.new) (L.up link.new) (L.down link.new) ends.new)) result (λ w. world.raw text w) }
 {
     ends.send_raw(link, text.as_str())
 }
@@ -236,7 +236,7 @@ fn carry_plain<K: Sink, L: Link>(
     requires later { IsLater (seen line) }
     requires plain { styles_ask (seen line) ≡ None }
     ensures honest { L.honest link.old → L.honest link.new }
-    ensures cause { HasStopCause (K.faults out.old) (K.faults out.new) (L.faults link.old) (L.faults link.new) result }
+    ensures cause { StopRose (two_counts (K.faults out.old) (K.faults out.new) (L.faults link.old) (L.faults link.new)) result }
     ensures follows { LineFollows (moment (L.honest link.old) (L.up link.old) (L.down link.old) ends.old)
         (moment (L.honest link.new) (L.up link.new) (L.down link.new) ends.new) result }
     ensures some { OnOk result (PrintedSome (K.taken out.old) (K.taken out.new)) }
@@ -272,7 +272,7 @@ fn carry_out<K: Sink, L: Link>(
 ) -> Result<(), Stop>
     requires { IsLater (seen line) }
     ensures honest { L.honest link.old → L.honest link.new }
-    ensures cause { HasRunCause (K.faults out.old) (K.faults out.new) (L.faults link.old) (L.faults link.new) result }
+    ensures cause { RunRose (two_counts (K.faults out.old) (K.faults out.new) (L.faults link.old) (L.faults link.new)) result }
     ensures follows { LineFollows (moment (L.honest link.old) (L.up link.old) (L.down link.old) ends.old)
         (moment (L.honest link.new) (L.up link.new) (L.down link.new) ends.new) result }
     ensures tells { LineTells (moment (L.honest link.old) (L.up link.old) (L.down link.old) ends.old)
@@ -298,7 +298,7 @@ fn run_lines<K: Sink, L: Link>(
 ) -> Result<(), Stop>
     requires few { length lines ≤ 2 ^ 26 }
     ensures honest { L.honest link.old → L.honest link.new }
-    ensures cause { HasRunCause (K.faults out.old) (K.faults out.new) (L.faults link.old) (L.faults link.new) result }
+    ensures cause { RunRose (two_counts (K.faults out.old) (K.faults out.new) (L.faults link.old) (L.faults link.new)) result }
     ensures follows { LinesFollow (moment (L.honest link.old) (L.up link.old) (L.down link.old) ends.old)
         (moment (L.honest link.new) (L.up link.new) (L.down link.new) ends.new) lines.entry result }
     ensures some { OnOk result (PrintedSome (K.taken out.old) (K.taken out.new)) }
@@ -384,7 +384,7 @@ fn close<K: Sink, L: Link>(
     link: &mut L,
 ) -> Result<(), Stop>
     ensures honest { L.honest link.old → L.honest link.new }
-    ensures cause { HasStopCause (K.faults out.old) (K.faults out.new) (L.faults link.old) (L.faults link.new) result }
+    ensures cause { StopRose (two_counts (K.faults out.old) (K.faults out.new) (L.faults link.old) (L.faults link.new)) result }
     ensures shown { ClosesShown (scene (moment (L.honest link.old) (L.up link.old) (L.down link.old) ends.old) (K.taken out.old))
         (scene (moment (L.honest link.new) (L.up link.new) (L.down link.new) ends.new) (K.taken out.new)) result }
     ensures runs { Closes (scene (moment (L.honest link.old) (L.up link.old) (L.down link.old) ends.old) (K.taken out.old))
@@ -413,12 +413,11 @@ fn run_loaded<K: Sink, L: Link>(
     ensures stops { L.honest link.old → IsLevel (L.up link.old) → IsLevel (L.down link.old)
         → RunTells result (rest_refused (first_bad 2 lines.entry) (good_lines 2 lines.entry) (loaded_world (loaded_page form))) }
     ensures honest { L.honest link.old → L.honest link.new }
-    ensures cause { HasRunCause (K.faults out.old) (K.faults out.new) (L.faults link.old) (L.faults link.new) result }
+    ensures cause { RunRose (two_counts (K.faults out.old) (K.faults out.new) (L.faults link.old) (L.faults link.new)) result }
     ensures refused { StopFolds result (fold_since (L.up link.old) (L.down link.old) (L.up link.new) (L.down link.new)) }
     ensures closes { OnOk result (EndsShown (K.taken out.old) (K.taken out.new)
         (fold_since (L.up link.old) (L.down link.old) (L.up link.new) (L.down link.new))) }
     ensures replies { OnOk result (AnswersInOrder (L.up link.old) (L.down link.old) (L.up link.new) (L.down link.new)) }
-    ensures less { OnOk result (GivesNoMore (L.up link.old) (L.down link.old) (L.up link.new) (L.down link.new)) }
     ensures took { L.honest link.old → IsLevel (L.up link.old) → IsLevel (L.down link.old)
         → RunTook result (K.taken out.old) (K.taken out.new)
         (rest_text (first_bad 2 lines.entry) (good_lines 2 lines.entry) (loaded_world (loaded_page form))) }
@@ -442,12 +441,11 @@ pub(crate) fn run_script<K: Sink, L: Link>(
         (script_refused (came_styles (fold_since (L.up link.old) (L.down link.old) (L.up link.new) (L.down link.new)).fold) input.now) }
     ensures stops { L.honest link.old → IsLevel (L.up link.old) → IsLevel (L.down link.old) → RunTells result (report_refused input.now) }
     ensures honest { L.honest link.old → L.honest link.new }
-    ensures cause { HasRunCause (K.faults out.old) (K.faults out.new) (L.faults link.old) (L.faults link.new) result }
+    ensures cause { RunRose (two_counts (K.faults out.old) (K.faults out.new) (L.faults link.old) (L.faults link.new)) result }
     ensures refused { StopFolds result (fold_since (L.up link.old) (L.down link.old) (L.up link.new) (L.down link.new)) }
     ensures closes { OnOk result (EndsShown (K.taken out.old) (K.taken out.new)
         (fold_since (L.up link.old) (L.down link.old) (L.up link.new) (L.down link.new))) }
     ensures replies { OnOk result (AnswersInOrder (L.up link.old) (L.down link.old) (L.up link.new) (L.down link.new)) }
-    ensures less { OnOk result (GivesNoMore (L.up link.old) (L.down link.old) (L.up link.new) (L.down link.new)) }
     ensures took { L.honest link.old → IsLevel (L.up link.old) → IsLevel (L.down link.old)
         → RunTook result (K.taken out.old) (K.taken out.new) (report input.now) }
 {

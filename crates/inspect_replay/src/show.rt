@@ -11,7 +11,7 @@ ghost use Rattle.replay_script.specs.Script.{numbered_or, styles_missing};
 ghost use Rattle.inspect_replay.specs.Answers.{RunTook, RunTells};
 ghost use Rattle.inspect_world.specs.Scripts.{page_line, styles_shown};
 ghost use Rattle.inspect_world.specs.ShownReplies.{told_of, told_line, told_lines};
-ghost use Rattle.inspect_replay.specs.Stops.{HasStopCause, HasRunCause, GoesWell};
+ghost use Rattle.inspect_replay.specs.Stops.{StopRose, RunRose, GoesWell};
 ghost use Rattle.inspect_replay.specs.Followed.{PrintedSome};
 
 use crate::page_lines::page_text;
@@ -39,7 +39,7 @@ pub(crate) fn print_outline<K: Sink>(
     ensures err { OnErr result (WrotePart (K.taken out.old) (K.taken out.new)
         (heading.now ++ 10 ∷ outline_text seen_line mirror.now)) }
     ensures never { GoesWell result }
-    ensures cause { HasStopCause (K.faults out.old) (K.faults out.new) 0 0 result }
+    ensures cause { StopRose (two_counts (K.faults out.old) (K.faults out.new) 0 0) result }
 {
     let text = outline_under(alloc, heading, mirror)?;
     match write_all(out, &text) {
@@ -93,7 +93,7 @@ pub(crate) fn print_replies<K: Sink>(
     ensures err { OnErr result (WrotePart (K.taken out.old) (K.taken out.new)
         (codes "# replies" ++ 10 ∷ told_lines (map told_of replies.now))) }
     ensures never { GoesWell result }
-    ensures cause { HasStopCause (K.faults out.old) (K.faults out.new) 0 0 result }
+    ensures cause { StopRose (two_counts (K.faults out.old) (K.faults out.new) 0 0) result }
 {
     let text = replies_under(alloc, replies)?;
     match write_all(out, &text) {
@@ -110,7 +110,7 @@ pub(crate) fn print_page<K: Sink>(alloc: Global, page: &Page, out: &mut K) -> Re
     ensures err { OnErr result (WrotePart (K.taken out.old) (K.taken out.new)
         (codes "# page" ++ 10 ∷ outline_text page_line (alone page.now.tree))) }
     ensures never { GoesWell result }
-    ensures cause { HasStopCause (K.faults out.old) (K.faults out.new) 0 0 result }
+    ensures cause { StopRose (two_counts (K.faults out.old) (K.faults out.new) 0 0) result }
 {
     let text = page_text(alloc, page)?;
     match write_all(out, &text) {
@@ -127,7 +127,7 @@ pub(crate) fn print_sheets<K: Sink>(alloc: Global, front: &Front, out: &mut K) -
     ensures err { OnErr result (WrotePart (K.taken out.old) (K.taken out.new)
         (codes "# sheets" ++ 10 ∷ known_lines front.now.value.sheets)) }
     ensures never { GoesWell result }
-    ensures cause { HasStopCause (K.faults out.old) (K.faults out.new) 0 0 result }
+    ensures cause { StopRose (two_counts (K.faults out.old) (K.faults out.new) 0 0) result }
 {
     let text = sheets_text(alloc, front)?;
     match write_all(out, &text) {
@@ -148,7 +148,7 @@ pub(crate) fn print_pauses<K: Sink>(
     ensures err { OnErr result (WrotePart (K.taken out.old) (K.taken out.new)
         (codes "# pauses" ++ 10 ∷ seen_pause_lines pauses.now)) }
     ensures never { GoesWell result }
-    ensures cause { HasStopCause (K.faults out.old) (K.faults out.new) 0 0 result }
+    ensures cause { StopRose (two_counts (K.faults out.old) (K.faults out.new) 0 0) result }
 {
     let text = pauses_text(alloc, pauses)?;
     match write_all(out, &text) {
@@ -168,7 +168,7 @@ fn print_styles<K: Sink>(
     ensures ok { OnOk result (Appends (K.taken out.old) (K.taken out.new) (styles_text ask matched.now)) }
     ensures err { OnErr result (WrotePart (K.taken out.old) (K.taken out.new) (styles_text ask matched.now)) }
     ensures never { GoesWell result }
-    ensures cause { HasStopCause (K.faults out.old) (K.faults out.new) 0 0 result }
+    ensures cause { StopRose (two_counts (K.faults out.old) (K.faults out.new) 0 0) result }
 {
     let text = styles_text(alloc, ask, matched)?;
     match write_all(out, &text) {
@@ -190,7 +190,7 @@ pub(crate) fn print_matched<K: Sink>(
     ensures tells { RunTells result (numbered_or number (styles_missing (is_some (option_map (λ m. m.now) matched.entry))) None) }
     ensures some { OnOk result (PrintedSome (K.taken out.old) (K.taken out.new)) }
     ensures never { GoesWell result }
-    ensures cause { HasRunCause (K.faults out.old) (K.faults out.new) 0 0 result }
+    ensures cause { RunRose (two_counts (K.faults out.old) (K.faults out.new) 0 0) result }
 {
     match matched {
         Some(matched) => print_styles(alloc, ask, matched, out),
@@ -211,7 +211,7 @@ pub(crate) fn print_fault<K: Sink>(
     ensures ok { OnOk result (Appends (K.taken out.old) (K.taken out.new) (act_text number fault)) }
     ensures err { OnErr result (WrotePart (K.taken out.old) (K.taken out.new) (act_text number fault)) }
     ensures never { GoesWell result }
-    ensures cause { HasStopCause (K.faults out.old) (K.faults out.new) 0 0 result }
+    ensures cause { StopRose (two_counts (K.faults out.old) (K.faults out.new) 0 0) result }
 {
     match fault {
         Some(fault) => print_refusal(alloc, number, fault, out),
@@ -228,7 +228,7 @@ fn print_refusal<K: Sink>(
     ensures ok { OnOk result (Appends (K.taken out.old) (K.taken out.new) (refused_line number fault)) }
     ensures err { OnErr result (WrotePart (K.taken out.old) (K.taken out.new) (refused_line number fault)) }
     ensures never { GoesWell result }
-    ensures cause { HasStopCause (K.faults out.old) (K.faults out.new) 0 0 result }
+    ensures cause { StopRose (two_counts (K.faults out.old) (K.faults out.new) 0 0) result }
 {
     let text = refusal_text(alloc, number, fault)?;
     match write_all(out, &text) {

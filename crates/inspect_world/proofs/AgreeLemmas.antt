@@ -5,7 +5,8 @@ use Rattle.inspect_world.specs.Stream.{Stream, sent, put, passed, held, arriving
 use Rattle.back_end.specs.Steps.{Stepped}
 use Rattle.inspect_world.specs.World.{World, Spent, one_ask, one_raw, one_turn, steps, sent_up, turned, given_up, delivered_up}
 use Rattle.inspect_world.specs.World.{delivered_down, settled}
-use Rattle.inspect_world.specs.Fold.{folded, joined, then, Machine, Laws, Fits}
+use Rattle.cdp_json.specs.Lookups.{then_ok}
+use Rattle.inspect_world.specs.Fold.{folded, joined, Machine, Laws, Fits}
 use Rattle.inspect_world.specs.Fetches.{Fetcher, front_in, FetchLaws}
 use Rattle.inspect_world.specs.Agreement.{IsLike, RunsAgree}
 use Rattle.inspect_world.proofs.Frames.{sent-passed, awaited-passed, whole-sent, whole-given, rest-given}
@@ -34,7 +35,7 @@ like-passed n s t like = record {
 -- ---- folds
 
 -- a result with its value is that value
-then-ok : {F E : Type 0} (result : Result F E) (value : F) → then result (λ next. Ok next) ≡ Ok value → result ≡ Ok value
+then-ok : {F E : Type 0} (result : Result F E) (value : F) → then_ok result (λ next. Ok next) ≡ Ok value → result ≡ Ok value
 then-ok (Ok next) value e = e
 then-ok (Err fault) value e = absurd cc
 
@@ -95,7 +96,7 @@ module _ {S F E X A : Type 0} (machine : Machine S F E X) (IsNext : Spent → Li
         is_front =
             ap (folded machine.take first) (whole-given n w.down)
             ∙ folded-append machine.take first given (arriving n w.down)
-            ∙ ap (λ result. then result (λ next. folded machine.take next (arriving n w.down))) is
+            ∙ ap (λ result. then_ok result (λ next. folded machine.take next (arriving n w.down))) is
             ∙ halves.before;
         is_fold = halves.before;
       }

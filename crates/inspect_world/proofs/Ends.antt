@@ -15,7 +15,8 @@ use Rattle.replay_script.specs.Forms.{AskForm, ask}
 use Rattle.inspect_world.specs.Stream.{Stream, sent, put, passed, held, arriving, awaited}
 use Rattle.inspect_world.specs.World.{World, AlreadyTold, nothing_told, Spent, one_ask, one_fetch, one_raw, steps, sent_up, raw, turned}
 use Rattle.inspect_world.specs.World.{answered, given_up, delivered_down}
-use Rattle.inspect_world.specs.Fold.{folded, joined, then}
+use Rattle.cdp_json.specs.Lookups.{then_ok}
+use Rattle.inspect_world.specs.Fold.{folded, joined}
 use Rattle.back_end.specs.declared.seat.Seat.{Seat}
 use Rattle.back_end.specs.declared.side.PageSide.{PageSide}
 use Rattle.back_end.specs.States.{loaded_state}
@@ -49,7 +50,7 @@ pub front-folded : (frames : List (List ℕ)) (v w : FrontValue) → folded take
     → front.front_folded v frames ≡ record { value = w; fault = None }
 front-folded [] v w e = let same : v ≡ w = cc in ap (λ value. record { value = value; fault = None }) same
 front-folded (frame ∷ frames) v w e =
-    (elim (take_frame v frame) as (λ (r : Result FrontValue FrontKind). then r (λ next. folded take_frame next frames) ≡ Ok w
+    (elim (take_frame v frame) as (λ (r : Result FrontValue FrontKind). then_ok r (λ next. folded take_frame next frames) ≡ Ok w
     → after_message v (λ next. front.front_folded next frames) r ≡ record { value = w; fault = None }) [
       | Ok next ↦ λ rest. front-folded frames next w rest
       | Err kind ↦ λ rest. let no : ◌≡◌ {A = Result FrontValue FrontKind} (Err kind) (Ok w) = rest in cc
@@ -104,7 +105,7 @@ takes up0 down0 up down w frames e n piece in_world front_part =
       is_fold =
           ap (folded take_frame start) (whole-given n w.down)
           ∙ folded-append take_frame start given (arriving n w.down)
-          ∙ ap (λ result. then result (λ next. folded take_frame next (arriving n w.down))) in_world.is_fold
+          ∙ ap (λ result. then_ok result (λ next. folded take_frame next (arriving n w.down))) in_world.is_fold
           ∙ halves.before;
     }
 

@@ -35,7 +35,8 @@ use Rattle.back_end.specs.States.{State, sheets_shown, view_of}
 use Rattle.back_end.specs.Laws.{HasRoom}
 use Rattle.inspect_world.specs.Stream.{sent}
 use Rattle.inspect_world.specs.World.{World, AlreadyTold, Spent, settled}
-use Rattle.inspect_world.specs.Fold.{folded, then}
+use Rattle.cdp_json.specs.Lookups.{then_ok}
+use Rattle.inspect_world.specs.Fold.{folded}
 use Rattle.inspect_world.specs.Fetches.{front_in, fetched, fetched_if, all_fetched, stale_in, IsDue, GivesText, FetchLaws}
 use Rattle.inspect_world.specs.Fits.{join, with_ask, IsPlainFrame, most_bytes, most_sheets, most_fetches, kept_styles, IsBare, IsNext}
 use Rattle.inspect_world.specs.Fits.{IsNextTurn, IsFit, replay, Fits}
@@ -194,7 +195,7 @@ gives-text n front after run number numbers due taken =
     let is : after ≡ f.0 =
     ok-one (folded take_frame (join front text) (frames_of (run_step run text).sent).whole) after f.0 taken
     (ap (λ u. folded take_frame u (frames_of (run_step run text).sent).whole) joins ∙ ap (folded take_frame v) frames ∙ ap
-    (λ r. then r (λ (next : FrontValue). Ok next)) f.1) in
+    (λ r. then_ok r (λ (next : FrontValue). Ok next)) f.1) in
     let apart : AreApart front.sheets = are-apart 1 state.side.next_sheet front.sheets (sheets_shown state) due.fit.has.sheets
     (shown-below state due.fit.is_state).numbers in
     record {

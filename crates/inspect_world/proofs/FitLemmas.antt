@@ -20,7 +20,8 @@ use Rattle.cdp_messages.specs.Moves.{frames_of_moves}
 use Rattle.inspect_world.specs.RunStates.{RunState, ToldStyles, styles_answered, run_step, run_turn}
 use Rattle.back_end.specs.Laws.{most_ids, tree_edits, edits_kept, edits_asked, KeepsAtMost, HasRoom, StepsWell, IsAnswered}
 use Rattle.inspect_world.specs.World.{Spent, one_turn}
-use Rattle.inspect_world.specs.Fold.{folded, then, Laws, Leads}
+use Rattle.cdp_json.specs.Lookups.{then_ok}
+use Rattle.inspect_world.specs.Fold.{folded, Laws, Leads}
 use Rattle.inspect_world.specs.Fits.{join, ask_of_frame, ask_with, sheet_fetched, IsPlainFrame, edits_of_frame, drawing, asking, with_ask}
 use Rattle.inspect_world.specs.Fits.{Sendable, is_ask, is_bare, AreSendable, asks_among, most_bytes, most_frames, most_trees, IsNext}
 use Rattle.inspect_world.specs.Fits.{next_ask, next_fetch, next_raw, IsNextTurn, most_drawn, most_serials, most_numbers, kept_styles, IsFit}
@@ -48,10 +49,10 @@ folded-join : (ask : List ℕ) (before after : FrontValue) (frames : List (List 
 folded-join ask before after [] e = let same : before ≡ after = cc in ap (λ v. Ok (join v ask)) same
 folded-join ask before after (frame ∷ frames) e =
     (elim (take_frame before frame) as (λ (r : Result FrontValue FrontKind). take_frame before frame ≡ r
-    → then r (λ next. folded take_frame next frames) ≡ Ok after
-    → then (take_frame (join before ask) frame) (λ next. folded take_frame next frames) ≡ Ok (join after ask)) [
+    → then_ok r (λ next. folded take_frame next frames) ≡ Ok after
+    → then_ok (take_frame (join before ask) frame) (λ next. folded take_frame next frames) ≡ Ok (join after ask)) [
       | Ok next ↦ λ is rest.
-          ap (λ result. then result (λ next. folded take_frame next frames)) (taken-with_ask before next (ask_of_frame ask) frame is)
+          ap (λ result. then_ok result (λ next. folded take_frame next frames)) (taken-with_ask before next (ask_of_frame ask) frame is)
           ∙ folded-join ask next after frames rest
       | Err kind ↦ λ is rest. let no : ◌≡◌ {A = Result FrontValue FrontKind} (Err kind) (Ok after) = rest in cc
     ]) refl e

@@ -1,24 +1,25 @@
 -- Folding over frames that come in parts.
 use Rattle.std.proofs.Common.{◌≡◌, ℕ, List, [], ◌∷◌, ◌++◌, refl, sym, ◌∙◌, ap, Result, Ok, Err}
-use Rattle.inspect_world.specs.Fold.{folded, joined, then}
+use Rattle.cdp_json.specs.Lookups.{then_ok}
+use Rattle.inspect_world.specs.Fold.{folded, joined}
 
 then-then : {F E G H : Type 0} (result : Result F E) (first : F → Result G E) (second : G → Result H E)
-    → then result (λ value. then (first value) second) ≡ then (then result first) second
+    → then_ok result (λ value. then_ok (first value) second) ≡ then_ok (then_ok result first) second
 then-then (Ok value) first second = refl
 then-then (Err fault) first second = refl
 
 then-same : {F E G : Type 0} (result : Result F E) (first second : F → Result G E)
-    → ((value : F) → first value ≡ second value) → then result first ≡ then result second
+    → ((value : F) → first value ≡ second value) → then_ok result first ≡ then_ok result second
 then-same (Ok value) first second same = same value
 then-same (Err fault) first second same = refl
 
 -- frames in two parts
 pub folded-append : {F E : Type 0} (take : F → List ℕ → Result F E) (front : F) (first second : List (List ℕ))
-    → folded take front (first ++ second) ≡ then (folded take front first) (λ next. folded take next second)
+    → folded take front (first ++ second) ≡ then_ok (folded take front first) (λ next. folded take next second)
 folded-append take front [] second = refl
 folded-append take front (frame ∷ first) second =
     then-same (take front frame) (λ next. folded take next (first ++ second))
-    (λ next. then (folded take next first) (λ last. folded take last second))
+    (λ next. then_ok (folded take next first) (λ last. folded take last second))
     (λ next. folded-append take next first second)
     ∙ then-then (take front frame) (λ next. folded take next first) (λ last. folded take last second)
 
@@ -35,7 +36,7 @@ pub record Halves {F E : Type 0} (take : F → List ℕ → Result F E) (front l
   pub after : folded take middle second ≡ Ok last
 
 then-halves : {F E : Type 0} (take : F → List ℕ → Result F E) (front last : F) (first second : List (List ℕ)) (result : Result F E)
-    → folded take front first ≡ result → then result (λ next. folded take next second) ≡ Ok last
+    → folded take front first ≡ result → then_ok result (λ next. folded take next second) ≡ Ok last
     → Halves take front last first second
 then-halves take front last first second (Ok middle) is e = record { middle = middle; before = is; after = e }
 then-halves {F} {E} take front last first second (Err fault) is e =
@@ -50,4 +51,4 @@ folded-halves take front last first second e =
 pub folded-rest : {F E : Type 0} (take : F → List ℕ → Result F E) (front middle last : F) (first second : List (List ℕ))
     → folded take front first ≡ Ok middle → folded take front (first ++ second) ≡ Ok last → folded take middle second ≡ Ok last
 folded-rest take front middle last first second is e =
-    sym (ap (λ result. then result (λ next. folded take next second)) is) ∙ sym (folded-append take front first second) ∙ e
+    sym (ap (λ result. then_ok result (λ next. folded take next second)) is) ∙ sym (folded-append take front first second) ∙ e

@@ -27,7 +27,8 @@ use Rattle.front_mirror.specs.Sheets.{told_sheet, has_sheet, marked_old, without
 use Rattle.front_mirror.specs.Front.{FrontValue, first_value, take_frame, method_waiting, with_root, root_fault, matched_told, matched_in}
 use Rattle.front_mirror.specs.Front.{with_matched, with_effect, with_body, with_reply, with_fault, with_tree, ToldChange, told_change}
 use Rattle.front_mirror.specs.Front.{at_spot, change_fault, with_change, seen_pause, halted, is_shown, told_sheets, with_news, with_message}
-use Rattle.inspect_world.specs.Fold.{folded, joined, then}
+use Rattle.cdp_json.specs.Lookups.{then_ok}
+use Rattle.inspect_world.specs.Fold.{folded, joined}
 use Rattle.inspect_world.specs.Fits.{join, with_ask, ask_of_frame}
 use Rattle.inspect_world.specs.Links.{knows_styles}
 use Rattle.inspect_world.specs.ShownPauses.{pause_told, pauses_of_message, pauses_in_frame}
@@ -149,7 +150,7 @@ pub grows-folded : (frames : List (List ℕ)) (v w : FrontValue) → folded take
 grows-folded [] v w e = grows-same v v w refl refl e
 grows-folded (frame ∷ frames) v w e =
     (elim (take_frame v frame) as (λ (r : Result FrontValue FrontKind). take_frame v frame ≡ r
-    → then r (λ next. folded take_frame next frames) ≡ Ok w → Grows v (pauses_in_frame frame ++ flat_map pauses_in_frame frames) w) [
+    → then_ok r (λ next. folded take_frame next frames) ≡ Ok w → Grows v (pauses_in_frame frame ++ flat_map pauses_in_frame frames) w) [
       | Ok next ↦ λ is rest.
           let one : Grows v (pauses_in_frame frame) next = grows-frame v next frame is in
           let later : Grows next (flat_map pauses_in_frame frames) w = grows-folded frames next w rest in

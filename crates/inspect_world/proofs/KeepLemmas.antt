@@ -5,7 +5,8 @@ use Rattle.std.proofs.lemmas.List.Elements.{All-head, All-tail}
 use Rattle.pipe_frames.specs.Frames.{frames_of}
 use Rattle.inspect_world.specs.Stream.{sent}
 use Rattle.inspect_world.specs.World.{World}
-use Rattle.inspect_world.specs.Fold.{folded, joined, then, Machine}
+use Rattle.cdp_json.specs.Lookups.{then_ok}
+use Rattle.inspect_world.specs.Fold.{folded, joined, Machine}
 use Rattle.inspect_world.specs.Agreement.{RunsAgree}
 use Rattle.inspect_world.specs.Keeping.{all_told_by, KeepLaws}
 
@@ -27,7 +28,7 @@ module _ {F E R : Type 0} (take : F → List ℕ → Result F E) (join : F → L
       ok-same a b e = cc
   kept-folded (frame ∷ frames) v w waits e =
       (elim (take v frame) as (λ (r : Result F E). take v frame ≡ r
-      → then r (λ next. folded take next frames) ≡ Ok w → kept w ≡ kept v ++ (tells frame ++ all_told_by tells frames)) [
+      → then_ok r (λ next. folded take next frames) ≡ Ok w → kept w ≡ kept v ++ (tells frame ++ all_told_by tells frames)) [
         | Ok next ↦ λ is rest.
             let one = keeps.takes v next frame waits is in
             kept-folded frames next w one.0 rest

@@ -28,7 +28,8 @@ use Rattle.front_mirror.specs.Front.{FrontValue, first_value, take_frame, method
 use Rattle.front_mirror.specs.Front.{refused, with_root, root_fault, matched_told, with_matched, with_effect, with_body, with_reply}
 use Rattle.front_mirror.specs.Front.{with_fault, with_tree, ToldChange, told_change, at_spot, change_fault, with_change, halted, is_shown}
 use Rattle.front_mirror.specs.Front.{told_sheets, with_news, with_message}
-use Rattle.inspect_world.specs.Fold.{folded, joined, then}
+use Rattle.cdp_json.specs.Lookups.{then_ok}
+use Rattle.inspect_world.specs.Fold.{folded, joined}
 use Rattle.inspect_world.specs.Fits.{join, with_ask, ask_of_frame, IsPlainFrame}
 use Rattle.inspect_world.specs.ShownReplies.{ShownReply, told_of, replies_in_frame, replies_among}
 use Rattle.inspect_world.proofs.PlainAsks.{ArePlain, kept-plain, without-plain, joined-plain}
@@ -165,7 +166,8 @@ keeps-folded : (frames : List (List ℕ)) (v w : FrontValue) → ArePlain v.asks
 keeps-folded [] v w plain e = keeps-none v v w refl refl plain e
 keeps-folded (frame ∷ frames) v w plain e =
     (elim (take_frame v frame) as (λ (r : Result FrontValue FrontKind). take_frame v frame ≡ r
-    → then r (λ next. folded take_frame next frames) ≡ Ok w → Keeps v (replies_in_frame frame (down_of frame) ++ replies_among frames) w) [
+    → then_ok r (λ next. folded take_frame next frames) ≡ Ok w → Keeps v (replies_in_frame frame (down_of frame) ++
+    replies_among frames) w) [
       | Ok next ↦ λ is rest.
           let one : Keeps v (replies_in_frame frame (down_of frame)) next = keeps-message v frame (down_of frame) next plain is in
           let later : Keeps next (replies_among frames) w = keeps-folded frames next w one.plain rest in

@@ -29,7 +29,8 @@ use Rattle.front_mirror.specs.Laws.{kept_after_all, is_quiet, InTurn, rests, tel
 use Rattle.back_end.specs.States.{State, view_of}
 use Rattle.back_end.specs.Steps.{Step}
 use Rattle.back_end.specs.Laws.{reply_ids, MayAnswerAll, IsAnswered}
-use Rattle.inspect_world.specs.Fold.{folded, then}
+use Rattle.cdp_json.specs.Lookups.{then_ok}
+use Rattle.inspect_world.specs.Fold.{folded}
 use Rattle.inspect_world.specs.Fits.{ask_with}
 use Rattle.inspect_world.specs.ShownReplies.{ShownReply, told_of}
 use Rattle.inspect_world.proofs.Messages.{AskedAs, commanded, refused_as}
@@ -123,7 +124,7 @@ folded-fold [] v w e = let same : v ≡ w = cc in ap (λ (x : FrontValue). taken
 folded-fold (frame ∷ frames) v w e =
     (elim (take_frame v frame) as (λ (r : Result FrontValue FrontKind).
     outcome (after_message v (λ u. front.front_folded u frames) r).value (after_message v (λ u. front.front_folded u frames) r).fault ≡ Ok w
-    → then r (λ next. folded take_frame next frames) ≡ Ok w) [
+    → then_ok r (λ next. folded take_frame next frames) ≡ Ok w) [
       | Ok next ↦ λ rest. folded-fold frames next w rest
       | Err kind ↦ λ rest. let no : ◌≡◌ {A = Result FrontValue FrontFault} (Err (record { place = v.taken + 1; kind = kind }))
           (Ok w) = rest in absurd cc

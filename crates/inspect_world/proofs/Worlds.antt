@@ -6,7 +6,8 @@ use Rattle.inspect_world.specs.Stream.{Stream, sent, put, passed, held, arriving
 use Rattle.back_end.specs.Steps.{Stepped}
 use Rattle.inspect_world.specs.World.{World, Spent, nothing_spent, one_ask, one_turn, first_world, steps, sent_up, ask_sent, turned}
 use Rattle.inspect_world.specs.World.{answered, given_up, delivered_up, delivered_down, settled}
-use Rattle.inspect_world.specs.Fold.{folded, joined, then, Machine, Laws, Leads, FitsWith, Fits}
+use Rattle.cdp_json.specs.Lookups.{then_ok}
+use Rattle.inspect_world.specs.Fold.{folded, joined, Machine, Laws, Leads, FitsWith, Fits}
 use Rattle.inspect_world.proofs.Frames.{rest-sent, sent-passed, awaited-passed}
 use Rattle.inspect_world.proofs.Folds.{folded-append, joined-append}
 
@@ -122,7 +123,7 @@ module _ {S F E X : Type 0} (machine : Machine S F E X) (IsNext : Spent → List
         is_fold =
             ap (folded machine.take front) all
             ∙ folded-append machine.take front (frames_of (sent w.down)).whole (frames_of out).whole
-            ∙ ap (λ result. then result (λ next. folded machine.take next (frames_of out).whole)) fits.is_fold
+            ∙ ap (λ result. then_ok result (λ next. folded machine.take next (frames_of out).whole)) fits.is_fold
             ∙ leads.is_fold;
         fit = leads.fit;
         up_whole = fits.up_whole;

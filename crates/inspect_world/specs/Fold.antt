@@ -1,19 +1,15 @@
 -- Frames folded into a value one by one, up to the first that it refuses.
 use Rattle.std.specs.Prelude.{◌≡◌, ℕ, List, [], ◌∷◌, ◌++◌, Result, Ok, Err}
+use Rattle.cdp_json.specs.Lookups.{then_ok}
 use Rattle.pipe_frames.specs.Frames.{frames_of}
 use Rattle.inspect_world.specs.Stream.{sent, awaited}
 use Rattle.back_end.specs.Steps.{Stepped}
 use Rattle.inspect_world.specs.World.{World, Spent, one_turn}
 
--- what a result that is no error goes on to
-abbrev pub then : {F E G : Type 0} → Result F E → (F → Result G E) → Result G E
-then (Ok value) next = next value
-then (Err fault) next = Err fault
-
 -- frames taken one after the other, up to the first fault
 abbrev pub folded : {F E : Type 0} → (F → List ℕ → Result F E) → F → List (List ℕ) → Result F E
 folded take front [] = Ok front
-folded take front (frame ∷ frames) = then (take front frame) (λ next. folded take next frames)
+folded take front (frame ∷ frames) = then_ok (take front frame) (λ next. folded take next frames)
 
 -- the asks of frames join, one by one, those that wait
 abbrev pub joined : {F : Type 0} → (F → List ℕ → F) → F → List (List ℕ) → F

@@ -38,6 +38,7 @@ module _ {Slot Row : Type 0} (form : SlotForm Slot Row) where
     slot_tree None below after = after
     slot_tree (Some slot) below after = node (form.row slot) (below (form.children slot)) after
 
+    -- the trees of these keys, side by side
     abbrev pub slot_trees : (List ℕ → Nodes Row) → List ℕ → Nodes Row
     slot_trees below [] = none
     slot_trees below (k ∷ ks) = slot_tree (slots k) below (slot_trees below ks)

@@ -19,7 +19,7 @@ fn make_room(pairs: &mut Vec<(Text, Text)>) -> Result<(), AllocError>
 }
 
 /// A list of attributes, each a name and a value, which contracts see as the list of the pairs of their bytes.
-#[derive(Drop, Debug)]
+#[derive(Drop)]
 pub struct Attributes {
     pairs: Vec<(Text, Text)>,
 }

@@ -13,7 +13,7 @@ pub use names::{is_attribute_name, is_element_name};
 pub use texts::Text;
 
 /// The kinds of nodes of a document (DOM, section 4.4), those that this page model has.
-#[derive(Clone, Copy, PartialEq, Eq, Debug)]
+#[derive(Clone, Copy)]
 pub enum Kind {
     Document,
     Element,

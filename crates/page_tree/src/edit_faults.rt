@@ -2,7 +2,7 @@ use std::alloc::AllocError;
 use thiserror::Error;
 
 /// Why an edit of a page is refused, in the order in which the first one that applies is answered.
-#[derive(Clone, Copy, PartialEq, Eq, Debug, Error)]
+#[derive(Clone, Copy, Debug, Error)]
 pub enum EditFault {
     /// A named serial is not live.
     #[error("there is no such node")]
@@ -39,7 +39,7 @@ pub enum EditFault {
     NotContainer,
 }
 
-#[derive(Clone, Copy, PartialEq, Eq, Debug, Error)]
+#[derive(Clone, Copy, Debug, Error)]
 pub enum EditErr {
     #[error(transparent)]
     Fault(EditFault),

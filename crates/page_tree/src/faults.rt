@@ -2,7 +2,7 @@ use std::alloc::AllocError;
 use thiserror::Error;
 
 /// Why the list of nodes of a load is refused, in the order in which the first one that applies is answered.
-#[derive(Clone, Copy, PartialEq, Eq, Debug, Error)]
+#[derive(Clone, Copy, Debug, Error)]
 pub enum LoadFault {
     /// Not the form of nodes: an odd attribute list, a repeated attribute name and a doctype below an element are none.
     #[error("the nodes have not their form")]
@@ -18,7 +18,7 @@ pub enum LoadFault {
     BadName,
 }
 
-#[derive(Clone, Copy, PartialEq, Eq, Debug, Error)]
+#[derive(Clone, Copy, Debug, Error)]
 pub enum LoadErr {
     #[error(transparent)]
     Fault(LoadFault),

@@ -19,10 +19,20 @@ pub record GivesPiece (old new : Pipe) (before after : List ℕ) (n : ℕ) : Typ
   pub given : new.given ≡ old.given ++ piece
   pub sent : new.sent ≡ old.sent
 
+-- a pipe, and a buffer that takes what it gives
+pub record Filling : Type 0 where
+  pub pipe : Pipe
+  pub into : List ℕ
+
+-- the two of them
+abbrev pub filling : Pipe → List ℕ → Filling
+filling pipe into = record { pipe = pipe; into = into }
+
 -- a get moves at most max bytes into the buffer at `Ok`, and nothing at `Err`
-abbrev pub Gets : {E : Type 0} → Pipe → Pipe → ℕ → List ℕ → List ℕ → Result ℕ E → Type 0
-Gets old new max before after result =
-    MatchResult result (λ n. (n ≤ max) × GivesPiece old new before after n) (λ _. (new ≡ old) × (after ≡ before))
+abbrev pub Gets : {E : Type 0} → ℕ → Filling → Filling → Result ℕ E → Type 0
+Gets max old new result =
+    MatchResult result (λ n. (n ≤ max) × GivesPiece old.pipe new.pipe old.into new.into n)
+    (λ _. (new.pipe ≡ old.pipe) × (new.into ≡ old.into))
 
 -- the bytes that were sent and not given, in a pipe that gives what was sent
 abbrev pub waiting : Pipe → List ℕ
@@ -33,8 +43,8 @@ abbrev pub GivesPrefix : Pipe → Type 0
 GivesPrefix pipe = pipe.sent ≡ pipe.given ++ waiting pipe
 
 -- a get gives the bytes that wait, as many as were asked for and are there
-abbrev pub GivesAll : {E : Type 0} → Pipe → ℕ → List ℕ → List ℕ → Result ℕ E → Type 0
-GivesAll pipe max before after result = OnOk result (after ≡ before ++ take max (waiting pipe))
+abbrev pub GivesAll : {E : Type 0} → ℕ → Filling → List ℕ → Result ℕ E → Type 0
+GivesAll max old after result = OnOk result (after ≡ old.into ++ take max (waiting old.pipe))
 
 -- there is nothing left to give
 abbrev pub IsLevel : Pipe → Type 0

@@ -1,5 +1,5 @@
 ghost use Rattle.std.specs.Prelude.{◌≡◌, ◌-◌, ◌+◌, ◌≤◌, min, length, OnOk, OnErr, OnSome, IfOk, IfSome, IfNone, Err};
-ghost use Rattle.pipe_frames.specs.Pipe.{Puts, Gets, GivesAll, waiting};
+ghost use Rattle.pipe_frames.specs.Pipe.{Puts, Gets, GivesAll, filling, waiting};
 ghost use Rattle.pipe_frames.specs.Calls.{no_flow, pipe_of};
 
 use crate::given::Given;
@@ -54,8 +54,8 @@ impl Channel {
     }
 
     pub(crate) fn get(&mut self, max: usize, into: &mut Vec<u8>) -> Result<usize, OutErr>
-        ensures gets { Gets (pipe_of self.old) (pipe_of self.new) max into.old.items into.new.items result }
-        ensures all { GivesAll (pipe_of self.old) max into.old.items into.new.items result }
+        ensures gets { Gets max (filling (pipe_of self.old) into.old.items) (filling (pipe_of self.new) into.new.items) result }
+        ensures all { GivesAll max (filling (pipe_of self.old) into.old.items) into.new.items result }
         ensures count { IfOk result (λ n. n ≡ min max (length (waiting (pipe_of self.old)))) }
         ensures memory { OnErr result ((self.new ≡ self.old) × (result ≡ Err OutErr.Memory)) }
     {
@@ -87,8 +87,8 @@ impl Channel {
 
     // Copies the next bytes that wait, behind those that the buffer has.
     fn copy_out(&mut self, max: usize, into: &mut Vec<u8>) -> Result<usize, OutErr>
-        ensures gets { Gets (pipe_of self.old) (pipe_of self.new) max into.old.items into.new.items result }
-        ensures all { GivesAll (pipe_of self.old) max into.old.items into.new.items result }
+        ensures gets { Gets max (filling (pipe_of self.old) into.old.items) (filling (pipe_of self.new) into.new.items) result }
+        ensures all { GivesAll max (filling (pipe_of self.old) into.old.items) into.new.items result }
         ensures count { IfOk result (λ n. n ≡ min max (length (waiting (pipe_of self.old)))) }
         ensures memory { OnErr result ((self.new ≡ self.old) × (result ≡ Err OutErr.Memory)) }
     {

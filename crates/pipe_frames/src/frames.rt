@@ -45,6 +45,7 @@ impl Splitter {
         ensures ok { OnOk result (self.new ≡ continued self.old piece.now) }
         ensures err { OnErr result ((n : ℕ) × (n < length piece.now) × (self.new ≡ continued self.old (take n piece.now))) }
     {
+        // For the proof alone, which learns here what each splitter is.
         let _ = &self.rest;
         for byte in piece {
             self.take_byte(*byte)?;

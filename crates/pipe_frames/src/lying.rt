@@ -1,6 +1,6 @@
 ghost use Rattle.std.specs.Prelude.{◌≡◌, ◌≤◌, ◌-◌, ◌+◌, ◌++◌, Err, IfOk, OnErr, min, take, drop, length};
 ghost use Rattle.pipe_frames.specs.Fault.{HasCause};
-ghost use Rattle.pipe_frames.specs.Pipe.{Puts, Gets, GivesAll, waiting};
+ghost use Rattle.pipe_frames.specs.Pipe.{Puts, Gets, GivesAll, filling, waiting};
 ghost use Rattle.pipe_frames.specs.Calls.{no_flow, pipe_of, lying_pipe, replaced, gives_prefix};
 
 use crate::channel::Channel;
@@ -80,8 +80,8 @@ impl Link for LyingLink {
     }
 
     fn get_up(&mut self, max: usize, into: &mut Vec<u8>) -> Result<usize, OutErr>
-        ensures up { Gets (pipe_of self.old.up) (pipe_of self.new.up) max into.old.items into.new.items result }
-        ensures all { GivesAll (pipe_of self.old.up) max into.old.items into.new.items result }
+        ensures up { Gets max (filling (pipe_of self.old.up) into.old.items) (filling (pipe_of self.new.up) into.new.items) result }
+        ensures all { GivesAll max (filling (pipe_of self.old.up) into.old.items) into.new.items result }
         ensures same { self.new ≡ record self.old { up = self.new.up } }
         ensures memory { OnErr result (result ≡ Err OutErr.Memory) }
     {
@@ -89,8 +89,8 @@ impl Link for LyingLink {
     }
 
     fn get_down(&mut self, max: usize, into: &mut Vec<u8>) -> Result<usize, OutErr>
-        ensures down { Gets (lying_pipe self.old.place self.old.to self.old.down)
-            (lying_pipe self.new.place self.new.to self.new.down) max into.old.items into.new.items result }
+        ensures down { Gets max (filling (lying_pipe self.old.place self.old.to self.old.down) into.old.items)
+            (filling (lying_pipe self.new.place self.new.to self.new.down) into.new.items) result }
         ensures count { IfOk result (λ n. n ≡ min max (length (waiting (pipe_of self.old.down)))) }
         ensures same { self.new ≡ record self.old { down = self.new.down } }
         ensures memory { OnErr result (result ≡ Err OutErr.Memory) }

@@ -2,7 +2,7 @@ ghost use Rattle.std.specs.Prelude.{◌≡◌, ◌≤◌, ◌<◌, ◌↔◌, []
 ghost use Rattle.std.specs.Io.{ReadsAtMost, WritesAtMost};
 ghost use Rattle.std.specs.Io.KnownBytes.{ReadConsumes, WriteAppends};
 ghost use Rattle.pipe_frames.specs.Fault.{HasCause, HasReadCause};
-ghost use Rattle.pipe_frames.specs.Pipe.{Puts, Gets, GivesAll};
+ghost use Rattle.pipe_frames.specs.Pipe.{Puts, Gets, GivesAll, filling};
 ghost use Rattle.pipe_frames.specs.Calls.{NextFails, no_calls, no_flow, counted, is_failed, pipe_of, gives_prefix};
 
 use crate::channel::Channel;
@@ -211,9 +211,9 @@ impl Link for MemLink {
     }
 
     fn get_up(&mut self, max: usize, into: &mut Vec<u8>) -> Result<usize, OutErr>
-        ensures up { Gets (pipe_of self.old.up) (pipe_of self.new.up) max into.old.items into.new.items result }
+        ensures up { Gets max (filling (pipe_of self.old.up) into.old.items) (filling (pipe_of self.new.up) into.new.items) result }
         ensures down { self.new.down ≡ self.old.down }
-        ensures all { GivesAll (pipe_of self.old.up) max into.old.items into.new.items result }
+        ensures all { GivesAll max (filling (pipe_of self.old.up) into.old.items) into.new.items result }
         ensures cause { HasCause self.old.calls.faults self.new.calls.faults result }
 
         ensures fails { (result ≡ Err OutErr.Failed) ↔ NextFails self.old.calls }
@@ -226,9 +226,9 @@ impl Link for MemLink {
     }
 
     fn get_down(&mut self, max: usize, into: &mut Vec<u8>) -> Result<usize, OutErr>
-        ensures down { Gets (pipe_of self.old.down) (pipe_of self.new.down) max into.old.items into.new.items result }
+        ensures down { Gets max (filling (pipe_of self.old.down) into.old.items) (filling (pipe_of self.new.down) into.new.items) result }
         ensures up { self.new.up ≡ self.old.up }
-        ensures all { GivesAll (pipe_of self.old.down) max into.old.items into.new.items result }
+        ensures all { GivesAll max (filling (pipe_of self.old.down) into.old.items) into.new.items result }
         ensures cause { HasCause self.old.calls.faults self.new.calls.faults result }
 
         ensures fails { (result ≡ Err OutErr.Failed) ↔ NextFails self.old.calls }

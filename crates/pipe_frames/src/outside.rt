@@ -1,7 +1,7 @@
 ghost use Rattle.std.specs.Prelude.{◌≡◌, ◌<◌, ℕ, List, Option, IfOk, length};
 ghost use Rattle.std.specs.Io.{ReadsAtMost, WritesAtMost};
 ghost use Rattle.std.specs.Io.KnownBytes.{ReadConsumes, WriteAppends};
-ghost use Rattle.pipe_frames.specs.Pipe.{Pipe, Puts, Gets, GivesPrefix, GivesAll};
+ghost use Rattle.pipe_frames.specs.Pipe.{Pipe, Puts, Gets, GivesPrefix, GivesAll, filling};
 
 use thiserror::Error;
 
@@ -90,18 +90,18 @@ pub trait Link {
 
     /// Appends at most `max` bytes that come up to `into`, and answers their number.
     fn get_up(&mut self, max: usize, into: &mut Vec<u8>) -> Result<usize, OutErr>
-        ensures up { Gets (up self.old) (up self.new) max into.old.items into.new.items result }
+        ensures up { Gets max (filling (up self.old) into.old.items) (filling (up self.new) into.new.items) result }
         ensures down { down self.new ≡ down self.old }
         ensures honest { honest self.old → honest self.new }
-        ensures all { honest self.old → GivesAll (up self.old) max into.old.items into.new.items result }
+        ensures all { honest self.old → GivesAll max (filling (up self.old) into.old.items) into.new.items result }
         ensures cause { HasCause (faults self.old) (faults self.new) result };
 
     /// Appends at most `max` bytes that come down to `into`, and answers their number.
     fn get_down(&mut self, max: usize, into: &mut Vec<u8>) -> Result<usize, OutErr>
-        ensures down { Gets (down self.old) (down self.new) max into.old.items into.new.items result }
+        ensures down { Gets max (filling (down self.old) into.old.items) (filling (down self.new) into.new.items) result }
         ensures up { up self.new ≡ up self.old }
         ensures honest { honest self.old → honest self.new }
-        ensures all { honest self.old → GivesAll (down self.old) max into.old.items into.new.items result }
+        ensures all { honest self.old → GivesAll max (filling (down self.old) into.old.items) into.new.items result }
         ensures cause { HasCause (faults self.old) (faults self.new) result };
 
     // An honest link has given a prefix of what was sent.

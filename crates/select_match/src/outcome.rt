@@ -4,7 +4,7 @@ ghost use Rattle.std.specs.Prelude.{◌≡◌};
 
 /// How a search to the left of an element ends. Where it fails, the outcome says of which other nodes it would fail too, so
 /// that the combinators further right need not try them, and the whole search is not exponential.
-#[derive(Clone, Copy, PartialEq, Eq, Debug)]
+#[derive(Clone, Copy)]
 pub enum Outcome {
     Found,
     /// Nothing is known of other nodes.

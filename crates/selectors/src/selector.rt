@@ -7,7 +7,7 @@ use css_tokens::Range;
 use std::alloc::AllocError;
 use thiserror::Error;
 
-#[derive(Clone, Copy, PartialEq, Eq, Debug, Error)]
+#[derive(Clone, Copy, Debug, Error)]
 pub enum SelErr {
     #[error("the text spells no selector list")]
     Invalid,
@@ -27,7 +27,7 @@ impl From<AllocError> for SelErr {
 }
 
 /// What ties a compound to the one on its left (Selectors 3, section 8).
-#[derive(Clone, Copy, PartialEq, Eq, Debug)]
+#[derive(Clone, Copy)]
 pub enum Joint {
     /// White space. The first compound of a selector has this joint too.
     Descendant,
@@ -40,7 +40,7 @@ pub enum Joint {
 }
 
 /// How an attribute selector compares (Selectors 3, section 6.3).
-#[derive(Clone, Copy, PartialEq, Eq, Debug)]
+#[derive(Clone, Copy, Debug)]
 pub enum AttrOp {
     /// No operator: the attribute is there.
     Exists,
@@ -59,7 +59,7 @@ pub enum AttrOp {
 }
 
 /// Which siblings are counted, and from where (Selectors 3, section 6.6.5).
-#[derive(Clone, Copy, PartialEq, Eq, Debug)]
+#[derive(Clone, Copy, Debug)]
 pub enum NthKind {
     Child,
     LastChild,

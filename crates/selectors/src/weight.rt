@@ -7,7 +7,7 @@ ghost use Rattle.selectors.specs.Weight.{ids, classes, types, test_of, in_tests,
 use crate::selector::{Compound, Selector, Simple, Test};
 
 /// Compared by `a`, then by `b`, then by `c`. Each count stops at 2^32-1.
-#[derive(Clone, Copy, PartialEq, Eq, Debug)]
+#[derive(Clone, Copy)]
 pub struct Spec {
     /// Ids.
     pub a: u32,

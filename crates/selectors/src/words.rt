@@ -11,7 +11,7 @@ use css_tokens::{Range, Token, TokenKind, Tokens};
 use std::alloc::{AllocError, Global};
 use std::marker::Model;
 
-#[derive(Clone, Copy, PartialEq, Eq, Debug)]
+#[derive(Clone, Copy)]
 pub enum WordKind {
     Ident,
     /// A name and its `(`.
@@ -34,7 +34,7 @@ pub enum WordKind {
 }
 
 /// A piece that is neither white space nor a comment: the bytes from `start` up to `end`.
-#[derive(Clone, Copy, PartialEq, Eq, Debug)]
+#[derive(Clone, Copy)]
 pub struct Word {
     pub kind: WordKind,
     pub start: usize,

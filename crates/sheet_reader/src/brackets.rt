@@ -9,7 +9,7 @@ use css_tokens::{Token, TokenKind};
 use std::alloc::{AllocError, Global};
 use std::marker::Model;
 
-#[derive(Clone, Copy, PartialEq, Eq, Debug)]
+#[derive(Clone, Copy)]
 pub(crate) enum Bracket {
     Round,
     Square,
@@ -17,7 +17,7 @@ pub(crate) enum Bracket {
 }
 
 /// At which pieces outside brackets component values stop.
-#[derive(Clone, Copy, PartialEq, Eq, Debug)]
+#[derive(Clone, Copy)]
 pub(crate) enum Stop {
     /// `{`
     Block,
@@ -30,7 +30,7 @@ pub(crate) enum Stop {
 }
 
 /// How the brackets of some pieces nest.
-#[derive(Clone, Copy, PartialEq, Eq, Debug)]
+#[derive(Clone, Copy)]
 pub(crate) enum Nesting {
     /// A closing bracket lacks its opening one.
     Stray,

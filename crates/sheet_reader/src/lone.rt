@@ -13,7 +13,7 @@ use css_tokens::{Token, TokenKind, all_tokens};
 use std::alloc::{AllocError, Global};
 
 /// What a text is, but for white space and comments around it.
-#[derive(Clone, Copy, PartialEq, Eq, Debug)]
+#[derive(Clone, Copy)]
 pub enum LoneRule {
     /// Not one closed qualified rule.
     Other,

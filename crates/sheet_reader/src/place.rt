@@ -1,5 +1,5 @@
 /// A position in a text.
-#[derive(Clone, Copy, PartialEq, Eq, Debug)]
+#[derive(Clone, Copy)]
 pub struct Position {
     /// From 0. A line ends at a line feed alone.
     pub line: u64,

@@ -2,7 +2,7 @@ use std::alloc::AllocError;
 use thiserror::Error;
 
 /// Why an edit of a sheet is refused, in the order in which the first one that applies is answered.
-#[derive(Clone, Copy, PartialEq, Eq, Debug, Error)]
+#[derive(Clone, Copy, Debug, Error)]
 pub enum SheetFault {
     /// No sheet has the id.
     #[error("no such sheet")]
@@ -27,7 +27,7 @@ pub enum SheetFault {
     TooBig,
 }
 
-#[derive(Clone, Copy, PartialEq, Eq, Debug, Error)]
+#[derive(Clone, Copy, Debug, Error)]
 pub enum SheetErr {
     #[error(transparent)]
     Fault(SheetFault),

@@ -14,7 +14,7 @@ use css_tokens::Range;
 use sheet_reader::{SheetEntry, StyleRule, byte_at};
 
 /// A part of a text: from one line and column up to another, all from 0. A column counts UTF-16 units.
-#[derive(Clone, Copy, PartialEq, Eq, Debug)]
+#[derive(Clone, Copy)]
 pub struct LineRange {
     pub start_line: u64,
     pub start_column: u64,

@@ -10,7 +10,7 @@ use crate::splice::Splice;
 use sheet_reader::{SheetBook, SheetEntry, StyleRule};
 
 /// A style rule of a book.
-#[derive(Clone, Copy, PartialEq, Eq, Debug)]
+#[derive(Clone, Copy)]
 pub struct RulePlace {
     /// The sheet's id.
     pub sheet: u64,

@@ -11,36 +11,40 @@ pub record HistoryEntry (P E : Type 0) : Type 0 where
   pub after : P
 
 module _ {P E : Type 0} where
-  -- the pages saved on the way through a group, from its start and from its end
+  -- the pages saved on the way through a group, from its start to its end
   abbrev pub saved_after : List (HistoryEntry P E) → List P
   saved_after g = map (λ e. e.after) g
 
+  -- the same backwards, from its end to its start
   abbrev pub saved_before : List (HistoryEntry P E) → List P
   saved_before g = reverse (map (λ e. e.before) g)
 
-  -- the page saved before the first entry of the newest group, and the one saved after its last entry; where there is no
-  -- group, the page as it is
+  -- the page saved before the first entry of a group; where there is none, the page as it is
   abbrev pub start_of : List (HistoryEntry P E) → P → P
   start_of [] page = page
   start_of (e ∷ es) page = e.before
 
+  -- the page saved after its last entry
   abbrev pub end_of : List (HistoryEntry P E) → P → P
   end_of [] page = page
   end_of (e ∷ es) page = end_of es e.after
 
+  -- the page that an undo leads to
   abbrev pub page_undone : List (List (HistoryEntry P E)) → P → P
   page_undone [] page = page
   page_undone (g ∷ gs) page = start_of g page
 
+  -- the page that a redo leads to
   abbrev pub page_redone : List (List (HistoryEntry P E)) → P → P
   page_redone [] page = page
   page_redone (g ∷ gs) page = end_of g page
 
-  -- the pages that an undo and a redo lead through
+  -- the pages that an undo leads through
   abbrev pub pages_undone : List (List (HistoryEntry P E)) → List P
   pages_undone [] = []
   pages_undone (g ∷ gs) = saved_before g
 
+  -- the pages that a redo leads through
   abbrev pub pages_redone : List (List (HistoryEntry P E)) → List P
   pages_redone [] = []
   pages_redone (g ∷ gs) = saved_after g
@@ -58,10 +62,11 @@ module _ {P E : Type 0} (after : E → P → P) where
   pages_on [] page = []
   pages_on (e ∷ es) page = after e page ∷ pages_on es (after e page)
 
-  -- the entry that an edit makes, and those that edits make one after the other
+  -- the entry that an edit makes
   abbrev pub change_on : E → P → HistoryEntry P E
   change_on e page = record { before = page; edit = e; after = after e page }
 
+  -- the entries of several edits, one after the other
   abbrev pub changes_on : List E → P → List (HistoryEntry P E)
   changes_on [] page = []
   changes_on (e ∷ es) page = change_on e page ∷ changes_on es (after e page)
@@ -109,14 +114,15 @@ module _ {P E : Type 0} (after : E → P → P) (Takes : E → P → Type 0) whe
 -- ---- what is kept in place of the pages
 
 module _ {P E : Type 0} (back : E → P → E) where
-  -- of a group of the past the inverses, in the order of its entries; of a group of the future the edits themselves, in the
-  -- order in which taking the group back made them
+  -- of a group of the past the inverses, in the order of its entries
   abbrev pub backs_of : List (HistoryEntry P E) → List E
   backs_of g = map (λ e. back e.edit e.before) g
 
+  -- the edits of a group of the future, in the order in which they are made again
   abbrev pub again_of : List (HistoryEntry P E) → List E
   again_of g = reverse (map (λ e. e.edit) g)
 
+  -- what is kept of the history that is promised
   abbrev pub kept_of : Marks (HistoryEntry P E) → Marks E
   kept_of m = record { past = map backs_of m.past; future = map again_of m.future; going = m.going; crossed = m.crossed }
 

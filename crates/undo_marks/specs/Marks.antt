@@ -15,6 +15,7 @@ pub record Marks (A : Type 0) : Type 0 where
   pub crossed : Bool
 
 module _ {A : Type 0} where
+  -- marks as numbers, by those of an entry
   abbrev pub coded_marks : Coded A → Coded (Marks A)
   coded_marks code =
       let groups = coded_list (coded_list code) in
@@ -30,6 +31,7 @@ module _ {A : Type 0} where
   entry_count [] = 0
   entry_count (g ∷ gs) = length g + entry_count gs
 
+  -- the newest group
   abbrev pub newest : List (List A) → Option (List A)
   newest [] = None
   newest (g ∷ gs) = Some g
@@ -79,6 +81,7 @@ module _ {A : Type 0} where
   abbrev pub marked : Marks A → Marks A
   marked m = record { past = m.past; future = m.future; going = false; crossed = m.crossed }
 
+  -- something can be taken back or done again
   abbrev pub has_entries : Marks A → Bool
   has_entries m = not (entry_count m.past + entry_count m.future == 0)
 
@@ -91,27 +94,33 @@ module _ {A : Type 0} where
   taken_back [] m = m
   taken_back (g ∷ gs) m = record { past = gs; future = g ∷ m.future; going = false; crossed = m.crossed }
 
+  -- and back
   abbrev pub done_again : List (List A) → Marks A → Marks A
   done_again [] m = m
   done_again (g ∷ gs) m = record { past = g ∷ m.past; future = gs; going = false; crossed = m.crossed }
 
-  -- after an undo, and after a redo
+  -- after an undo
   abbrev pub undone : Marks A → Marks A
   undone m = taken_back m.past m
 
+  -- after a redo
   abbrev pub redone : Marks A → Marks A
   redone m = done_again m.future m
 
   -- ---- the two halves of an undo, and of a redo; where nothing is handed out, nothing changes
 
+  -- the newest group of the past is handed out
   abbrev pub past_popped : Marks A → Marks A
   past_popped m = record { past = older m.past; future = m.future; going = m.going && is_none (newest m.past); crossed = m.crossed }
 
+  -- the newest group of the future is handed out
   abbrev pub future_popped : Marks A → Marks A
   future_popped m = record { past = m.past; future = older m.future; going = m.going && is_none (newest m.future); crossed = m.crossed }
 
+  -- a group is put on the past
   abbrev pub past_pushed : List A → Marks A → Marks A
   past_pushed g m = record { past = g ∷ m.past; future = m.future; going = false; crossed = m.crossed }
 
+  -- a group is put on the future
   abbrev pub future_pushed : List A → Marks A → Marks A
   future_pushed g m = record { past = m.past; future = g ∷ m.future; going = false; crossed = m.crossed }

@@ -20,16 +20,19 @@ pub record Saved : Type 0 where
 -- ---- edits of the two parts, given what an edit of each part is: an edit of the tree leaves the sheets, and a splice the tree
 
 module _ (tree : TreeEdit → Branch PageRow → Branch PageRow) (sheets : Splice → List SavedSheet → List SavedSheet) where
+  -- the page after an edit
   abbrev pub after_either : Inverse → Saved → Saved
   after_either (Tree e) page = record { tree = tree e page.tree; sheets = page.sheets }
   after_either (Sheet s) page = record { tree = page.tree; sheets = sheets s page.sheets }
 
 module _ (tree : TreeEdit → Branch PageRow → TreeEdit) (sheets : Splice → List SavedSheet → Splice) where
+  -- the edit that leads back from it
   abbrev pub back_either : Inverse → Saved → Inverse
   back_either (Tree e) page = Tree (tree e page.tree)
   back_either (Sheet s) page = Sheet (sheets s page.sheets)
 
 module _ (tree : TreeEdit → Branch PageRow → Type 0) (sheets : Splice → List SavedSheet → Type 0) where
+  -- the page takes the edit
   abbrev pub TakesEither : Inverse → Saved → Type 0
   TakesEither (Tree e) page = tree e page.tree
   TakesEither (Sheet s) page = sheets s page.sheets

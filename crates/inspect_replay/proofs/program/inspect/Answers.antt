@@ -1,17 +1,26 @@
 -- With other words, and for a client, nothing is sent over the link, and the fold of nothing meets no fault.
 use Rattle.inspect_replay.specs.Followed.{fold_since}
-use Rattle.inspect_replay.proofs.FollowLemmas.{start-good}
+use Rattle.inspect_replay.specs.Says.{says}
+use Rattle.inspect_replay.proofs.FollowLemmas.{start-good, less-at}
 use Rattle.inspect_replay.proofs.AnswerLemmas.{serve-honest}
 use Rattle.inspect_replay.proofs.ServeEnds.{serve-folds}
 use Rattle.inspect_replay.proofs.program.inspect.Goals as goal
 
 pub returns-clause-refused : goal.returns-clause-refused
-returns-clause-refused g c = start-good (g.L.Link.up c.args.link.now) (g.L.Link.down c.args.link.now)
+returns-clause-refused g c = (start-good (g.L.Link.up c.args.link.now) (g.L.Link.down c.args.link.now)).0
+
+pub returns-clause-less : goal.returns-clause-less
+returns-clause-less g c = (start-good (g.L.Link.up c.args.link.now) (g.L.Link.down c.args.link.now)).1
 
 pub returns-then-is_serve-clause-refused : goal.returns-then-is_serve-clause-refused
 returns-then-is_serve-clause-refused g c = serve-folds c.serve.result
     (fold_since (g.L.Link.up c.args.link.now) (g.L.Link.down c.args.link.now) (g.L.Link.up c.args.link.now)
-    (g.L.Link.down c.args.link.now)) c.serve.ensures.only (start-good (g.L.Link.up c.args.link.now) (g.L.Link.down c.args.link.now))
+    (g.L.Link.down c.args.link.now)) c.serve.ensures.only (start-good (g.L.Link.up c.args.link.now) (g.L.Link.down c.args.link.now)).0
+
+pub returns-then-is_serve-clause-less : goal.returns-then-is_serve-clause-less
+returns-then-is_serve-clause-less g c = less-at (says c.serve.result).phase
+    (fold_since (g.L.Link.up c.args.link.now) (g.L.Link.down c.args.link.now) (g.L.Link.up c.args.link.now)
+    (g.L.Link.down c.args.link.now)) (start-good (g.L.Link.up c.args.link.now) (g.L.Link.down c.args.link.now)).1
 
 pub returns-then-is_serve-clause-cause : goal.returns-then-is_serve-clause-cause
 returns-then-is_serve-clause-cause g c = c.serve.ensures.cause _ _

@@ -4,7 +4,7 @@ use Rattle.inspect_world.specs.Scripts.{report}
 use Rattle.inspect_replay.specs.Answers.{FitsLimits, Took, IsHonest}
 use Rattle.inspect_replay.proofs.AnswerLemmas.{stop-limits, stop-took, stop-honest}
 use Rattle.inspect_replay.specs.Followed.{fold_since}
-use Rattle.inspect_replay.proofs.FollowLemmas.{status-folds, input-folds, start-good, never-done}
+use Rattle.inspect_replay.proofs.FollowLemmas.{status-folds, status-less, input-folds, start-good, never-done}
 use Rattle.inspect_replay.proofs.program.replay.Goals as goal
 
 pub returns-in-Err-clause-limits : goal.returns-in-Err-clause-limits
@@ -31,7 +31,11 @@ returns-in-Err-clause-report g c = λ honest up_level down_level input left.
     (stop-took c.in-Err.stop input (g.K.Sink.taken c.args.out.now) (report input) (c.in-Err.ensures.tells input left))
 
 pub returns-in-Err-clause-less : goal.returns-in-Err-clause-less
-returns-in-Err-clause-less g c = λ done. absurd (never-done c.in-Err.stop c.status_of.result c.status_of.ensures done)
+returns-in-Err-clause-less g c =
+    let same = (fold_since (g.L.Link.up c.args.link.now) (g.L.Link.down c.args.link.now) (g.L.Link.up c.args.link.now)
+    (g.L.Link.down c.args.link.now)) in
+    status-less c.in-Err.stop c.status_of.result same c.status_of.ensures
+    (input-folds c.in-Err.stop _ _ same c.in-Err.ensures.rose (start-good (g.L.Link.up c.args.link.now) (g.L.Link.down c.args.link.now)))
 
 pub returns-in-Err-clause-sound : goal.returns-in-Err-clause-sound
 returns-in-Err-clause-sound g c = λ honest up_level down_level. subst IsHonest (sym c.status_of.ensures)

@@ -3,7 +3,7 @@ use Rattle.std.proofs.Common.{sym, subst}
 use Rattle.inspect_world.specs.Scripts.{report}
 use Rattle.inspect_replay.specs.Answers.{IsHonest}
 use Rattle.inspect_replay.proofs.AnswerLemmas.{run-honest}
-use Rattle.inspect_replay.proofs.FollowLemmas.{status-folds, never-done}
+use Rattle.inspect_replay.proofs.FollowLemmas.{status-folds, status-less, never-done}
 use Rattle.inspect_replay.proofs.program.run_input.Goals as goal
 
 pub returns-in-Err-clause-refused : goal.returns-in-Err-clause-refused
@@ -16,7 +16,7 @@ pub returns-in-Err-clause-replies : goal.returns-in-Err-clause-replies
 returns-in-Err-clause-replies g c = λ done. absurd (never-done c.in-Err.stop c.status_of.result c.status_of.ensures done)
 
 pub returns-in-Err-clause-less : goal.returns-in-Err-clause-less
-returns-in-Err-clause-less g c = λ done. absurd (never-done c.in-Err.stop c.status_of.result c.status_of.ensures done)
+returns-in-Err-clause-less g c = status-less c.in-Err.stop c.status_of.result _ c.status_of.ensures c.in-Err.ensures.refused
 
 pub returns-in-Err-clause-sound : goal.returns-in-Err-clause-sound
 returns-in-Err-clause-sound g c = λ honest up_level down_level.

@@ -9,7 +9,7 @@ use Rattle.inspect_replay.proofs.LinesRun.{closed-took, closed-tells, closed-cau
 use Rattle.inspect_replay.proofs.LinesTell.{closing-tells}
 use Rattle.back_end.specs.States.{loaded_state}
 use Rattle.inspect_world.specs.Links.{run_started}
-use Rattle.inspect_replay.proofs.FollowLemmas.{run-first, ends-shown, in-order, no-more}
+use Rattle.inspect_replay.proofs.FollowLemmas.{run-first, ends-shown, in-order}
 use Rattle.inspect_replay.proofs.run.run_loaded.Goals as goal
 
 pub returns-in-Ok-clause-took : goal.returns-in-Ok-clause-took
@@ -132,31 +132,6 @@ returns-in-Ok-clause-replies g c =
     let carried = (ran.follows (loaded_state page) up down start).0 in
     let shown = c.close.ensures.shown (run_started (loaded_state page) 0 carried.shown) up down carried.run in
     in-order c.close.result (g.K.Sink.taken c.run_lines.new.out) (g.K.Sink.taken c.close.new.out)
-    (g.L.Link.up c.args.link.now) (g.L.Link.down c.args.link.now) (g.L.Link.up c.close.new.link)
-    (g.L.Link.down c.close.new.link) carried.shown shown.0
-
-pub returns-in-Ok-clause-less : goal.returns-in-Ok-clause-less
-returns-in-Ok-clause-less g c =
-    let up = g.L.Link.up c.args.link.now in
-    let down = g.L.Link.down c.args.link.now in
-    let page = loaded_page c.args.form in
-    let first = c.in_ok-ends.ensures in
-    let start = run-first up down page (length c.args.lines) c.in_ok-ends.ends c.requires.can c.requires.texts c.requires.few
-    (record {
-      page_is = first.page;
-      sheets_are = first.sheets;
-      next_is = first.numbers;
-      off = first.off;
-      css = first.css;
-      agent_is = first.agent;
-      watches_are = first.watches;
-      history_is = first.history;
-    })
-    first.splitter first.front first.up first.down first.told first.told_pauses in
-    let ran = c.in-Ok.ensures {u = c.in-Ok.field-0} in
-    let carried = (ran.follows (loaded_state page) up down start).0 in
-    let shown = c.close.ensures.shown (run_started (loaded_state page) 0 carried.shown) up down carried.run in
-    no-more c.close.result (g.K.Sink.taken c.run_lines.new.out) (g.K.Sink.taken c.close.new.out)
     (g.L.Link.up c.args.link.now) (g.L.Link.down c.args.link.now) (g.L.Link.up c.close.new.link)
     (g.L.Link.down c.close.new.link) carried.shown shown.0
 

@@ -4,8 +4,8 @@ use Rattle.back_end.specs.declared.parts.SeatPart.TheVariants as part
 use Rattle.back_end.proofs.PartLemmas.{others-part}
 use Rattle.back_end.proofs.parts.SeatPart.of_command.Goals as goal
 
-pub returns-in_default : goal.returns-in_default
-returns-in_default c = ap (λ ask. part.Others ask) c.of_command.ensures ∙ others-part c.args.command (record {
+pub returns-in_default-clause-part : goal.returns-in_default-clause-part
+returns-in_default-clause-part c = ap (λ ask. part.Others ask) c.of_command.ensures.ask ∙ others-part c.args.command (record {
   not_dom_enable = c.in_default.not-DomEnable;
   not_dom_disable = c.in_default.not-DomDisable;
   not_set_attribute_value = c.in_default.not-SetAttributeValue;

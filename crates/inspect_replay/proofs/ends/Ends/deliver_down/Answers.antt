@@ -58,12 +58,13 @@ returns-in-Ok-take_owned-clause-follows g c = λ state0 up0 down0 run.
 pub returns-in-Err-Fault-clause-follows : goal.returns-in-Err-Fault-clause-follows
 returns-in-Err-Fault-clause-follows g c = λ state0 up0 down0 run.
     let is : ◌≡◌ {A = Result (Unit {0}) FrontErr} (Err c.in-Err-Fault.field-0) (Err (Fault c.in-Err-Fault.refused)) = ap
-    (λ fault. Err fault) c.in-Err-Fault.field-0-is in (
+    (λ fault. Err fault) c.in-Err-Fault.field-0-is in
+    let most : length c.in-Ok.piece.items ≤ c.min.result = c.in-Ok.ensures.down.2 in (
       tt,
       refused-folds state0 up0 down0 (g.L.Link.up c.args.link.now) (g.L.Link.down c.args.link.now) (g.L.Link.up c.receive_down.new.link)
           (g.L.Link.down c.receive_down.new.link)
           c.args.self.now.splitter.whole
           (ends_of c.args.self.now) c.in-Ok.piece.items c.in-Ok.piece.items c.take_owned.new.self c.in-Err-Fault.refused
-          run.so_far (c.in-Ok.ensures.down.0, c.in-Ok.ensures.down.1) c.receive_down.ensures.up refl
+          run.so_far (omega (arith, most, c.min.ensures)) (c.in-Ok.ensures.down.0, c.in-Ok.ensures.down.1) c.receive_down.ensures.up refl
           (c.in-Err-Fault.ensures.fault c.in-Err-Fault.refused is) (c.in-Err-Fault.ensures.kept c.in-Err-Fault.refused is),
     )
