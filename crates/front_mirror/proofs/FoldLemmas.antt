@@ -27,7 +27,8 @@ use Rattle.front_mirror.specs.Front.{FrontValue, first_value, plain_ask, fetch_a
 use Rattle.front_mirror.specs.Front.{unless_fetch, sheets_fetched, asks_without, root_fault, matched_told, with_matched, replied, refused}
 use Rattle.front_mirror.specs.Front.{told, halted, told_sheets, is_shown, ToldChange, told_change, change_fault, with_root, with_effect}
 use Rattle.front_mirror.specs.Front.{with_body, with_reply, with_fault, with_tree, at_spot, with_change, with_news, with_message}
-use Rattle.front_mirror.specs.Front.{take_frame, Folded, after_message, front_folded, outcome, fold_frames, fold, FrontState, first_state}
+use Rattle.front_mirror.specs.Front.{take_frame, Folded, after_message, front_folded, fold_result, fold_frames, fold, FrontState}
+use Rattle.front_mirror.specs.Front.{first_state}
 use Rattle.front_mirror.specs.Front.{after_bytes, unless_refused, after_take, after_ask, after_fetch}
 use Rattle.front_mirror.specs.declared.sheets.KnownSheet.{KnownSheet}
 use Rattle.front_mirror.specs.Sheets.{told_sheet, has_sheet, marked_old, without_sheet}
@@ -51,7 +52,7 @@ folded-append : (first more : List (List ℕ)) (v : FrontValue)
 folded-append [] more v = refl
 folded-append (frame ∷ first) more v = after_message-append v first more (take_frame v frame) (folded-append first more)
 
-outcome_ok : (v w : FrontValue) (f : Option FrontFault) → outcome v f ≡ Ok w → (v ≡ w) × (f ≡ None)
+outcome_ok : (v w : FrontValue) (f : Option FrontFault) → fold_result v f ≡ Ok w → (v ≡ w) × (f ≡ None)
 outcome_ok v w None e = (cc, refl)
 outcome_ok v w (Some f) e = absurd cc
 
@@ -60,7 +61,7 @@ pub fold_frames-append : (first more : List (List ℕ)) (v w : FrontValue) → f
     → fold_frames v (first ++ more) ≡ fold_frames w more
 fold_frames-append first more v w e =
     let p = outcome_ok (front_folded v first).value w (front_folded v first).fault e in
-    ap (λ (end : Folded). outcome end.value end.fault)
+    ap (λ (end : Folded). fold_result end.value end.fault)
     (folded-append first more v ∙ ap (gone_on more (front_folded v first).value) p.1 ∙ ap (λ (u : FrontValue). front_folded u more) p.0)
 
 pub frames_from-append : (first more : List ℕ)
@@ -273,10 +274,10 @@ take_frame-more v w ask frame e = with_message-more v w ask frame (down_of frame
 more_step : (v w : FrontValue) (ask : Ask) (frame : List ℕ) (frames : List (List ℕ)) (r : Result FrontValue FrontKind)
     → take_frame v frame ≡ r
     → ((u : FrontValue) → fold_frames u frames ≡ Ok w → fold_frames (ask_joined u ask) frames ≡ Ok (ask_joined w ask))
-    → outcome (after_message v (λ u. front_folded u frames) r).value (after_message v (λ u. front_folded u frames) r).fault ≡ Ok w
+    → fold_result (after_message v (λ u. front_folded u frames) r).value (after_message v (λ u. front_folded u frames) r).fault ≡ Ok w
     → fold_frames (ask_joined v ask) (frame ∷ frames) ≡ Ok (ask_joined w ask)
 more_step v w ask frame frames (Ok u) is rest e =
-    ap (λ (r : Result FrontValue FrontKind). outcome (after_message (ask_joined v ask) (λ u. front_folded u frames) r).value
+    ap (λ (r : Result FrontValue FrontKind). fold_result (after_message (ask_joined v ask) (λ u. front_folded u frames) r).value
     (after_message (ask_joined v ask) (λ u. front_folded u frames) r).fault)
     (take_frame-more v u ask frame is)
     ∙ rest u e
@@ -303,16 +304,16 @@ taken_on : (s : FrontState) (piece : List ℕ) → s.fault ≡ None → after_ta
 taken_on s piece well = ap (λ (f : Option FrontFault). unless_refused f s (after_bytes s piece)) well
 
 pub fold_takes : (waiting : List Ask) (down piece : List ℕ) (s : FrontState) → IsFold waiting down s
-    → fold waiting (down ++ piece) ≡ outcome (after_take s piece).value (after_take s piece).fault
+    → fold waiting (down ++ piece) ≡ fold_result (after_take s piece).value (after_take s piece).fault
 fold_takes waiting down piece s is =
     fold-append waiting down piece s.value is.value
     ∙ ap (λ (rest : List ℕ). fold_frames s.value (frames_from rest piece)) (sym is.rest)
-    ∙ ap (λ (after : FrontState). outcome after.value after.fault) (sym (taken_on s piece is.well))
+    ∙ ap (λ (after : FrontState). fold_result after.value after.fault) (sym (taken_on s piece is.well))
 
 pub fold_stays : (waiting : List Ask) (down piece : List ℕ) (s : FrontState) → IsFold waiting down s
     → (after_take s piece).fault ≡ None → IsFold waiting (down ++ piece) (after_take s piece)
 fold_stays waiting down piece s is well = record {
-  value = fold_takes waiting down piece s is ∙ ap (outcome (after_take s piece).value) well;
+  value = fold_takes waiting down piece s is ∙ ap (fold_result (after_take s piece).value) well;
   rest =
       ap (λ (after : FrontState). after.rest) (taken_on s piece is.well)
       ∙ ap (λ (rest : List ℕ). held_after rest piece) is.rest

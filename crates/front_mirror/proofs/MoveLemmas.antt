@@ -38,7 +38,7 @@ use Rattle.front_mirror.specs.declared.sheets.KnownSheet.{KnownSheet}
 use Rattle.front_mirror.specs.Sheets.{told_sheet, has_sheet, marked_old, without_sheet}
 use Rattle.front_mirror.specs.Front.{FrontValue, fetched_sheet, sheets_fetched, asks_without, matched_told, with_matched, replied, refused}
 use Rattle.front_mirror.specs.Front.{told, told_sheets, with_sheet, halted, is_shown, with_root, with_effect, with_body, with_reply}
-use Rattle.front_mirror.specs.Front.{with_fault, with_message, take_frame, after_message, front_folded, outcome}
+use Rattle.front_mirror.specs.Front.{with_fault, with_message, take_frame, after_message, front_folded, fold_result}
 use Rattle.front_mirror.specs.Laws.{KnowsSheets, Has, IsAskOf, is_quiet, IsReplyAlone, IsOfSheet, IsTextAsked, Waits, IsAwaited}
 use Rattle.front_mirror.specs.Laws.{without_all, asks_after, kept_fault, kept_after, kept_after_all, pauses_after, matched_after, IsTaken}
 use Rattle.front_mirror.specs.Laws.{MoveGives, AreAwaited, asks_after_all, AreTaken, CourseGives, IsAnswer, InTurn, rests, tells, meets}
@@ -399,7 +399,7 @@ more_taken : (m : Move) (ms : List Move) (u w : View) (v : FrontValue) → (one 
 more_taken m ms u w v one rest = record {
   after = rest.after;
   are_taken =
-      ap (λ (r : Result FrontValue FrontKind). outcome (after_message v (λ x. front_folded x (map move_text ms)) r).value
+      ap (λ (r : Result FrontValue FrontKind). fold_result (after_message v (λ x. front_folded x (map move_text ms)) r).value
       (after_message v (λ x. front_folded x (map move_text ms)) r).fault) one.is_taken
       ∙ rest.are_taken;
   has = rest.has;

@@ -334,13 +334,13 @@ front_folded v [] = record { value = v; fault = None }
 front_folded v (frame ∷ frames) = after_message v (λ w. front_folded w frames) (take_frame v frame)
 
 -- the front, or else the fault
-abbrev pub outcome : FrontValue → Option FrontFault → Result FrontValue FrontFault
-outcome v None = Ok v
-outcome v (Some f) = Err f
+abbrev pub fold_result : FrontValue → Option FrontFault → Result FrontValue FrontFault
+fold_result v None = Ok v
+fold_result v (Some f) = Err f
 
 -- frames folded one after the other, or the first fault
 abbrev pub fold_frames : FrontValue → List (List ℕ) → Result FrontValue FrontFault
-fold_frames v frames = let end = front_folded v frames in outcome end.value end.fault
+fold_frames v frames = let end = front_folded v frames in fold_result end.value end.fault
 
 -- The fold of the bytes that came down, begun with an empty mirror and the asks that were sent: the front after the frames
 -- that are whole, or the first fault.

@@ -16,7 +16,8 @@ use Rattle.front_mirror.specs.declared.replies.MatchedReply.{MatchedReply}
 use Rattle.front_mirror.specs.declared.pauses.SeenPause.{SeenPause}
 use Rattle.front_mirror.specs.declared.sheets.KnownSheet.{KnownSheet}
 use Rattle.front_mirror.specs.Front.{FrontValue, plain_ask, fetch_ask, method_waiting, fetched_sheet, asks_without, reply_kept, kept_reply}
-use Rattle.front_mirror.specs.Front.{matched_told, seen_pause, take_frame, outcome, fold_frames, fold, FrontState, first_state, after_take}
+use Rattle.front_mirror.specs.Front.{matched_told, seen_pause, take_frame, fold_result, fold_frames, fold, FrontState}
+use Rattle.front_mirror.specs.Front.{first_state, after_take}
 use Rattle.front_mirror.specs.Front.{after_ask, after_fetch}
 
 -- the front with one ask more that waits
@@ -51,7 +52,7 @@ FrontBegins = IsFold [] [] first_state
 abbrev pub TakesFold : Type 0
 TakesFold =
     (waiting : List Ask) (down piece : List ℕ) (s : FrontState) → IsFold waiting down s
-    → fold waiting (down ++ piece) ≡ outcome (after_take s piece).value (after_take s piece).fault
+    → fold waiting (down ++ piece) ≡ fold_result (after_take s piece).value (after_take s piece).fault
 
 -- and where there was no fault it is their fold
 abbrev pub StaysFold : Type 0

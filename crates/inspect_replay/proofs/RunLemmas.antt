@@ -61,7 +61,7 @@ use Rattle.inspect_world.specs.Scripts.{text_by_refusal, report, loaded_world}
 use Rattle.page_forms.specs.Texts.{PageHasTexts}
 use Rattle.inspect_world.specs.ScriptsFit.{IsLater}
 use Rattle.inspect_world.specs.Held.{Ends as HeldEnds, InWorld}
-use Rattle.inspect_world.specs.ShownReplies.{told_of, told_lines, replies_in}
+use Rattle.inspect_world.specs.ShownReplies.{reply_shown, told_lines, replies_in}
 use Rattle.inspect_replay.specs.declared.ends.Ends.{Ends}
 use Rattle.inspect_replay.specs.declared.stop.Stop.{Stop}
 use Rattle.inspect_replay.specs.Runs.{InRun, InPlay, Spends, Steps, Refreshes, ends_of}
@@ -393,14 +393,14 @@ untold-are f told told1 came kept all u same is =
     ∙ ap (drop told1) is
 
 abbrev pub replies_text : List Kept → List ℕ
-replies_text kept = codes "# replies" ++ 10 ∷ told_lines (map told_of kept)
+replies_text kept = codes "# replies" ++ 10 ∷ told_lines (map reply_shown kept)
 
 replies-same : (number : ℕ) (w : World RunState) (e1 : Ends) (kept : List Kept) → ShownThen w e1.front.value → e1.told ≡ w.told.replies
     → Untold e1.told e1.front.value.replies kept
     → replies_text kept ≡ line_text number show_replies w
 replies-same number w e1 kept shown told u =
     ap (λ ts. codes "# replies" ++ 10 ∷ told_lines ts)
-    (untold-are told_of e1.told w.told.replies e1.front.value.replies kept
+    (untold-are reply_shown e1.told w.told.replies e1.front.value.replies kept
     (replies_in (settled run_step w).down.given) u told shown.told)
 
 abbrev pub pauses_text : List SeenPause → List ℕ
@@ -495,7 +495,7 @@ replies-carried number honest honest1 up down up1 down1 taken taken1 e e1 e2 kep
     play in
     let count : ℕ = length e1.front.value.replies in
     let all : count ≡ length (replies_in (settled run_step w).down.given) = sym
-    (length-map e1.front.value.replies told_of) ∙ ap length before.shown.told in (
+    (length-map e1.front.value.replies reply_shown) ∙ ap length before.shown.told in (
       tt,
       told-play show_replies honest1 up0 down0 up1 down1 more w v e1 e2
           (record { replies = count; pauses = e1.told_pauses }) tt refl play.both before.after

@@ -10,7 +10,7 @@ ghost use Rattle.inspect_world.specs.StylesTexts.{styles_text};
 ghost use Rattle.replay_script.specs.Script.{numbered_or, styles_missing};
 ghost use Rattle.inspect_replay.specs.Answers.{RunTook, RunTells};
 ghost use Rattle.inspect_world.specs.Scripts.{page_line, styles_shown};
-ghost use Rattle.inspect_world.specs.ShownReplies.{told_of, told_line, told_lines};
+ghost use Rattle.inspect_world.specs.ShownReplies.{reply_shown, told_line, told_lines};
 ghost use Rattle.inspect_replay.specs.Stops.{StopRose, RunRose, GoesWell};
 ghost use Rattle.inspect_replay.specs.Followed.{PrintedSome};
 
@@ -60,7 +60,7 @@ fn outline_under(alloc: Global, heading: &str, mirror: &Mirror) -> Result<Vec<u8
 
 /// Appends `k TEXT` for a reply, or `- TEXT` where it has no id.
 fn write_reply_line(alloc: Global, reply: &Kept, text: &mut Vec<u8>) -> Result<(), AllocError>
-    ensures { OnOk result (text.new.items ≡ text.old.items ++ told_line (told_of reply.now)) }
+    ensures { OnOk result (text.new.items ≡ text.old.items ++ told_line (reply_shown reply.now)) }
 {
     match reply.id {
         Some(id) => text.extend_from_slice(id.to_string(alloc)?.as_bytes())?,
@@ -73,7 +73,7 @@ fn write_reply_line(alloc: Global, reply: &Kept, text: &mut Vec<u8>) -> Result<(
 }
 
 fn replies_under(alloc: Global, replies: &[Kept]) -> Result<Vec<u8>, AllocError>
-    ensures { IfOk result (λ text. text.items ≡ codes "# replies" ++ 10 ∷ told_lines (map told_of replies.now)) }
+    ensures { IfOk result (λ text. text.items ≡ codes "# replies" ++ 10 ∷ told_lines (map reply_shown replies.now)) }
 {
     let mut text = Vec::from_slice(alloc, b"# replies\n")?;
     for reply in replies {
@@ -89,9 +89,9 @@ pub(crate) fn print_replies<K: Sink>(
     out: &mut K,
 ) -> Result<(), Stop>
     ensures ok { OnOk result (Appends (K.taken out.old) (K.taken out.new)
-        (codes "# replies" ++ 10 ∷ told_lines (map told_of replies.now))) }
+        (codes "# replies" ++ 10 ∷ told_lines (map reply_shown replies.now))) }
     ensures err { OnErr result (WrotePart (K.taken out.old) (K.taken out.new)
-        (codes "# replies" ++ 10 ∷ told_lines (map told_of replies.now))) }
+        (codes "# replies" ++ 10 ∷ told_lines (map reply_shown replies.now))) }
     ensures never { GoesWell result }
     ensures cause { StopRose (two_counts (K.faults out.old) (K.faults out.new) 0 0) result }
 {

@@ -1,12 +1,12 @@
 -- Two runs go on alike as the same is sent, done and delivered in both.
 use Rattle.std.proofs.Common.{◌≡◌, ℕ, ◌+◌, List, [], ◌∷◌, ◌++◌, length, take, drop, sym, ◌∙◌, ap, subst, Result, Ok, Err}
 use Rattle.pipe_frames.specs.Frames.{IsText, framed, frames_of, frames_from, held_after}
-use Rattle.inspect_world.specs.Stream.{Stream, sent, put, passed, held, arriving, awaited}
+use Rattle.inspect_world.specs.Stream.{Stream, sent, put_last, passed, held, arriving, awaited}
 use Rattle.back_end.specs.Steps.{Stepped}
 use Rattle.inspect_world.specs.World.{World, Spent, one_ask, one_raw, one_turn, steps, sent_up, turned, given_up, delivered_up}
 use Rattle.inspect_world.specs.World.{delivered_down, settled}
 use Rattle.cdp_json.specs.Lookups.{then_ok}
-use Rattle.inspect_world.specs.Fold.{folded, joined, Machine, Laws, Fits}
+use Rattle.inspect_world.specs.Fold.{folded, asks_joined, Machine, Laws, Fits}
 use Rattle.inspect_world.specs.Fetches.{Fetcher, front_in, FetchLaws}
 use Rattle.inspect_world.specs.Agreement.{IsLike, RunsAgree}
 use Rattle.inspect_world.proofs.Frames.{sent-passed, awaited-passed, whole-sent, whole-given, rest-given}
@@ -15,7 +15,7 @@ use Rattle.inspect_world.proofs.Worlds.{whole-framed, fits-delivered_up}
 
 -- ---- streams
 
-pub like-put : (piece : List ℕ) (s t : Stream) → IsLike s t → IsLike (put piece s) (put piece t)
+pub like-put : (piece : List ℕ) (s t : Stream) → IsLike s t → IsLike (put_last piece s) (put_last piece t)
 like-put piece s t like = record { flying = ap (λ bytes. bytes ++ piece) like.flying; held = like.held }
 
 pub like-arriving : (n : ℕ) (s t : Stream) → IsLike s t → arriving n s ≡ arriving n t
@@ -66,11 +66,11 @@ module _ {S F E X A : Type 0} (machine : Machine S F E X) (IsNext : Spent → Li
       → Fits machine.take machine.join Fit start w
       → front_in machine start w ≡ Ok front → front_in machine start (sent_up text more w) ≡ Ok (machine.join front text)
   front-sent_up start text more w front letters fits is =
-      ap (λ asks. folded machine.take (joined machine.join start asks) (frames_of w.down.given).whole)
+      ap (λ asks. folded machine.take (asks_joined machine.join start asks) (frames_of w.down.given).whole)
       (whole-framed text w.up letters fits.up_whole)
       ∙ ap (λ first. folded machine.take first (frames_of w.down.given).whole)
       (joined-append machine.join start (frames_of (sent w.up)).whole (text ∷ []))
-      ∙ laws.later text (joined machine.join start (frames_of (sent w.up)).whole) front (frames_of w.down.given).whole is
+      ∙ laws.later text (asks_joined machine.join start (frames_of (sent w.up)).whole) front (frames_of w.down.given).whole is
 
   -- the front end after bytes came down
   record IsGiven (start : F) (n : ℕ) (w : World S) (front : F) : Type 0 where
@@ -82,7 +82,7 @@ module _ {S F E X A : Type 0} (machine : Machine S F E X) (IsNext : Spent → Li
       → front_in machine start w ≡ Ok front
       → IsGiven start n w front
   front-given start n w front fits is =
-      let first = joined machine.join start (frames_of (sent w.up)).whole in
+      let first = asks_joined machine.join start (frames_of (sent w.up)).whole in
       let given = (frames_of w.down.given).whole in
       let all : folded machine.take first (given ++ awaited w.down)
       ≡ Ok fits.front = ap (folded machine.take first) (sym (whole-sent w.down)) ∙ fits.is_fold in
@@ -137,15 +137,22 @@ module _ {S F E X A : Type 0} (machine : Machine S F E X) (IsNext : Spent → Li
   agrees-raw start text w v letters fits fits1 agrees =
       agrees-sent_up start text one_raw w v letters agrees.asks (ap (λ n. n + 1) agrees.raws) agrees.turns agrees.edits fits fits1 agrees
 
-  -- what a step sends is put down in both
+  -- what a step sends is put_last down in both
   agrees-put : (start : F) (stepped stepped1 : Stepped S) (n n1 : Spent) (w v : World S) → stepped ≡ stepped1
       → n.asks ≡ n1.asks → n.raws ≡ n1.raws → n.turns ≡ n1.turns → n.edits ≡ n1.edits → RunsAgree machine start seen w v
-      → RunsAgree machine start seen (record { state = stepped.state; up = w.up; down = put stepped.sent w.down; spent = n; told = w.told })
-      (record { state = stepped1.state; up = v.up; down = put stepped1.sent v.down; spent = n1; told = v.told })
+      → RunsAgree machine start seen (record {
+        state = stepped.state;
+        up = w.up;
+        down = put_last stepped.sent w.down;
+        spent =
+            n;
+        told = w.told;
+      })
+      (record { state = stepped1.state; up = v.up; down = put_last stepped1.sent v.down; spent = n1; told = v.told })
   agrees-put start stepped stepped1 n n1 w v is asks raws turns edits agrees = record {
     state = ap (λ (s : Stepped S). s.state) is;
     up = agrees.up;
-    down = subst (λ (s : Stepped S). IsLike (put stepped.sent w.down) (put s.sent v.down)) is
+    down = subst (λ (s : Stepped S). IsLike (put_last stepped.sent w.down) (put_last s.sent v.down)) is
         (like-put stepped.sent w.down v.down agrees.down);
     asks = asks;
     raws = raws;
@@ -179,9 +186,9 @@ module _ {S F E X A : Type 0} (machine : Machine S F E X) (IsNext : Spent → Li
     edits = agrees.edits;
     plain = agrees.plain;
     fresh = agrees.fresh;
-    plain_is = ap (λ bytes. folded machine.take (joined machine.join start (frames_of bytes).whole) (frames_of w.down.given).whole)
+    plain_is = ap (λ bytes. folded machine.take (asks_joined machine.join start (frames_of bytes).whole) (frames_of w.down.given).whole)
         (sent-passed n w.up) ∙ agrees.plain_is;
-    fresh_is = ap (λ bytes. folded machine.take (joined machine.join start (frames_of bytes).whole) (frames_of v.down.given).whole)
+    fresh_is = ap (λ bytes. folded machine.take (asks_joined machine.join start (frames_of bytes).whole) (frames_of v.down.given).whole)
         (sent-passed n v.up) ∙ agrees.fresh_is;
     same = agrees.same;
   }

@@ -12,11 +12,11 @@ use Rattle.front_mirror.specs.Front as front
 use Rattle.front_mirror.specs.Front.{FrontValue, FrontState, first_state, first_value, take_frame, Folded, after_message, fetch_ask}
 use Rattle.front_mirror.specs.Front.{after_ask, after_fetch, after_take}
 use Rattle.replay_script.specs.Forms.{AskForm, ask}
-use Rattle.inspect_world.specs.Stream.{Stream, sent, put, passed, held, arriving, awaited}
+use Rattle.inspect_world.specs.Stream.{Stream, sent, put_last, passed, held, arriving, awaited}
 use Rattle.inspect_world.specs.World.{World, AlreadyTold, nothing_told, Spent, one_ask, one_fetch, one_raw, steps, sent_up, raw, turned}
 use Rattle.inspect_world.specs.World.{answered, given_up, delivered_down}
 use Rattle.cdp_json.specs.Lookups.{then_ok}
-use Rattle.inspect_world.specs.Fold.{folded, joined}
+use Rattle.inspect_world.specs.Fold.{folded, asks_joined}
 use Rattle.back_end.specs.declared.seat.Seat.{Seat}
 use Rattle.back_end.specs.declared.side.PageSide.{PageSide}
 use Rattle.back_end.specs.States.{loaded_state}
@@ -71,13 +71,14 @@ left-passed n there there' piece s is front after =
 pub record Takes (front1 : FrontState) (w : World RunState) (n : ℕ) : Type 0 where
   pub value : FrontValue
   pub front_is : front1 ≡ good_front value (held (passed n w.down)) (w.spent.asks + 1) w.spent.fetches
-  pub is_fold : folded take_frame (joined join (first_value []) (frames_of (sent w.up)).whole) (frames_of (passed n w.down).given).whole
+  pub is_fold : folded take_frame (asks_joined join (first_value []) (frames_of (sent w.up)).whole) (frames_of (passed n
+      w.down).given).whole
       ≡ Ok value
 
 takes : (up0 down0 up down : Pipe) (w : World RunState) (frames : List (List ℕ)) (e : Ends) (n : ℕ) (piece : List ℕ)
     → InWorld up0 down0 up down w frames e → piece ≡ take n w.down.flying → Takes (after_take e.front piece) w n
 takes up0 down0 up down w frames e n piece in_world front_part =
-    let start = joined join (first_value []) (frames_of (sent w.up)).whole in
+    let start = asks_joined join (first_value []) (frames_of (sent w.up)).whole in
     let given = (frames_of w.down.given).whole in
     let all : folded take_frame start (given ++ awaited w.down) ≡ Ok in_world.fits.front =
     ap (folded take_frame start) (sym (whole-sent w.down)) ∙ in_world.fits.is_fold in
@@ -131,7 +132,7 @@ world-delivered_down up0 down0 up down down1 w frames e n there piece in_world f
       fits = record {
         front = in_world.fits.front;
         is_fold =
-            ap (λ bytes. folded take_frame (joined join (first_value []) (frames_of (sent w.up)).whole) (frames_of bytes).whole)
+            ap (λ bytes. folded take_frame (asks_joined join (first_value []) (frames_of (sent w.up)).whole) (frames_of bytes).whole)
             (sent-passed n w.down)
             ∙ in_world.fits.is_fold;
         fit = in_world.fits.fit;
@@ -156,7 +157,7 @@ pub world-sent_up : (up0 down0 up down up1 : Pipe) (w : World RunState) (e : End
     → up1.sent ≡ up.sent ++ framed text → up1.given ≡ up.given → there ≡ e.up_there + length (framed text)
     → InWorld up0 down0 up1 down (sent_up text more w) (awaited (sent_up text more w).up) (record e { front = front1; up_there = there })
 world-sent_up up0 down0 up down up1 w e text more front1 there in_world letters is_next front_is sent_is given_is left =
-    let start = joined join (first_value []) (frames_of (sent w.up)).whole in
+    let start = asks_joined join (first_value []) (frames_of (sent w.up)).whole in
     record {
       up_is = carries-put up0 up up1 (framed text) w.up in_world.up_is sent_is given_is;
       down_is = in_world.down_is;
@@ -165,7 +166,7 @@ world-sent_up up0 down0 up down up1 w e text more front1 there in_world letters 
       value = join in_world.value text;
       front_is = front_is;
       is_fold =
-          ap (λ frames. folded take_frame (joined join (first_value []) frames) (frames_of w.down.given).whole)
+          ap (λ frames. folded take_frame (asks_joined join (first_value []) frames) (frames_of w.down.given).whole)
           (ap (λ bytes. (frames_of bytes).whole) (sym (append_assoc w.up.given w.up.flying (framed text)))
           ∙ whole-after (sent w.up) (framed text) in_world.fits.up_whole
           ∙ ap (λ fs. (frames_of (sent w.up)).whole ++ fs.whole) (frames_of-one text letters))
@@ -245,7 +246,7 @@ world-given_up up0 down0 up down up1 w e n there piece rest in_world front_part 
   value = in_world.value;
   front_is = in_world.front_is;
   is_fold =
-      ap (λ bytes. folded take_frame (joined join (first_value []) (frames_of bytes).whole) (frames_of w.down.given).whole)
+      ap (λ bytes. folded take_frame (asks_joined join (first_value []) (frames_of bytes).whole) (frames_of w.down.given).whole)
       (sent-passed n w.up)
       ∙ in_world.is_fold;
   up_left = left-passed n e.up_there there piece w.up in_world.up_left front_part left;
@@ -254,11 +255,11 @@ world-given_up up0 down0 up down up1 w e n there piece rest in_world front_part 
   fits = fits-given_up replay IsNext IsNextTurn IsFit world_laws (first_value []) n w in_world.fits;
 }
 
--- what a step sends is put down
+-- what a step sends is put_last down
 down-put : (down0 down down1 : Pipe) (w : World RunState) (out bytes : List ℕ) → Carries down0 down w.down → out ≡ bytes
-    → down1.sent ≡ down.sent ++ out → down1.given ≡ down.given → Carries down0 down1 (put bytes w.down)
+    → down1.sent ≡ down.sent ++ out → down1.given ≡ down.given → Carries down0 down1 (put_last bytes w.down)
 down-put down0 down down1 w out bytes carries is sent_is given_is =
-    subst (λ piece. Carries down0 down1 (put piece w.down)) is (carries-put down0 down down1 out w.down carries sent_is given_is)
+    subst (λ piece. Carries down0 down1 (put_last piece w.down)) is (carries-put down0 down down1 out w.down carries sent_is given_is)
 
 left-put : (w : World RunState) (there left : ℕ) (out bytes : List ℕ) → left ≡ length w.down.flying → out ≡ bytes
     → there ≡ left + length out

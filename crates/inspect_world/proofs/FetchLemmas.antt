@@ -3,10 +3,10 @@ use Rattle.std.proofs.Common.{◌≡◌, ℕ, ◌+◌, ◌≤◌, true, cond, Li
 use Rattle.std.proofs.Math.Seq.{take-length}
 use Rattle.pipe_frames.specs.Frames.{IsText, framed, frames_of, frames_from}
 use Rattle.pipe_frames.proofs.FrameLemmas.{frames_of-one}
-use Rattle.inspect_world.specs.Stream.{Stream, sent, put, held, arriving, awaited}
+use Rattle.inspect_world.specs.Stream.{Stream, sent, put_last, held, arriving, awaited}
 use Rattle.back_end.specs.Steps.{Stepped}
 use Rattle.inspect_world.specs.World.{World, Spent, one_fetch, steps, sent_up, delivered_up, settled}
-use Rattle.inspect_world.specs.Fold.{folded, joined, Machine, Laws, Fits}
+use Rattle.inspect_world.specs.Fold.{folded, asks_joined, Machine, Laws, Fits}
 use Rattle.inspect_world.specs.Fetches.{Fetcher, front_in, fetched, fetched_if, all_fetched, stale_in, refreshed, IsDue, GivesText}
 use Rattle.inspect_world.specs.Fetches.{FetchLaws}
 use Rattle.inspect_world.specs.Agreement.{IsLike, IsStill, IsAtRest, RunsAgree}
@@ -25,7 +25,7 @@ still-like s t like still = record { flying = like.flying ∙ still.flying; held
 
 -- one frame arrives where the stream was still
 arriving-one : (text : List ℕ) (s : Stream) → IsText text → IsStill s
-    → arriving (length (put (framed text) s).flying) (put (framed text) s) ≡ text ∷ []
+    → arriving (length (put_last (framed text) s).flying) (put_last (framed text) s) ≡ text ∷ []
 arriving-one text s letters still =
     let bytes = s.flying ++ framed text in
     ap (frames_from (held s)) (take-length bytes)
@@ -52,7 +52,7 @@ module _ {S F E X A : Type 0} (machine : Machine S F E X) (IsNext : Spent → Li
   pub front-rests : (start : F) (w : World S) (fits : Fits machine.take machine.join Fit start w) → IsAtRest w
       → front_in machine start w ≡ Ok fits.front
   front-rests start w fits rests =
-      ap (λ bytes. folded machine.take (joined machine.join start (frames_of (sent w.up)).whole) (frames_of bytes).whole)
+      ap (λ bytes. folded machine.take (asks_joined machine.join start (frames_of (sent w.up)).whole) (frames_of bytes).whole)
       (sym (sent-all w.down rests.down.flying))
       ∙ fits.is_fold
 
@@ -99,17 +99,17 @@ module _ {S F E X A : Type 0} (machine : Machine S F E X) (IsNext : Spent → Li
       let out = (steps machine.step v.state (arriving (length v1.up.flying) v1.up)).sent in
       let out_is : out ≡ stepped.sent = ap (λ (s : Stepped S). s.sent) made ∙ append-nil stepped.sent in
       let asked : F = machine.join front text in
-      let start1 = joined machine.join start (frames_of (sent v1.up)).whole in
+      let start1 = asks_joined machine.join start (frames_of (sent v1.up)).whole in
       let given : folded machine.take start1 (frames_of v.down.given).whole ≡ Ok asked =
       front-sent_up machine IsNext IsTurn Fit laws fetcher seen sheets most fetching start text one_fetch v front letters fits
       agrees.fresh_is in
       let down : sent after.down ≡ v.down.given ++ stepped.sent =
-      sent-passed (length (put out v.down).flying) (put out v.down)
+      sent-passed (length (put_last out v.down).flying) (put_last out v.down)
       ∙ ap (λ flying. v.down.given ++ (flying ++ out)) rests.down.flying ∙ ap (λ bytes. v.down.given ++ bytes) out_is in
       let all : folded machine.take start1 ((frames_of v.down.given).whole ++ (frames_of stepped.sent).whole) ≡ Ok fits2.front =
       ap (folded machine.take start1) (sym (whole-after v.down.given stepped.sent rests.down.held))
       ∙ ap (λ bytes. folded machine.take start1 (frames_of bytes).whole) (sym down)
-      ∙ ap (λ bytes. folded machine.take (joined machine.join start (frames_of bytes).whole) (frames_of (sent after.down)).whole)
+      ∙ ap (λ bytes. folded machine.take (asks_joined machine.join start (frames_of bytes).whole) (frames_of (sent after.down)).whole)
       (sym (sent-passed (length v1.up.flying) v1.up))
       ∙ fits2.is_fold in
       let coming : folded machine.take asked (frames_of stepped.sent).whole ≡ Ok fits2.front =

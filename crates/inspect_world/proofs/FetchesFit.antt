@@ -44,7 +44,7 @@ use Rattle.inspect_world.specs.Costs.{line_cost}
 use Rattle.inspect_world.specs.Scripts.{after_line, loaded_world}
 use Rattle.inspect_world.specs.ScriptsFit.{IsLater}
 use Rattle.replay_script.specs.Sound.{CanSend}
-use Rattle.inspect_world.specs.ShownReplies.{told_of, replies_in}
+use Rattle.inspect_world.specs.ShownReplies.{reply_shown, replies_in}
 use Rattle.inspect_world.specs.FreshRuns.{front_fetcher, refreshes, fresh_line, Unstyled, unstyled, Together, FreshLinesFit, FreshInputsFit}
 use Rattle.inspect_world.specs.FreshRuns.{RefreshedShows}
 use Rattle.inspect_world.proofs.FitLemmas.{fit-room, world_laws}
@@ -232,7 +232,7 @@ plain-bare text bare = ap (option_and_then (λ (ask : Ask). ask.sheet)) bare.no_
 
 -- a front end that has sent no fetch has kept the replies that came down
 kept-all : (w : World RunState) (front : FrontValue) → All IsPlainFrame (frames_of (sent w.up)).whole
-    → front_in replay (first_value []) w ≡ Ok front → map told_of front.replies ≡ replies_in w.down.given
+    → front_in replay (first_value []) w ≡ Ok front → map reply_shown front.replies ≡ replies_in w.down.given
 kept-all w front all is = replies-of (frames_of (sent w.up)).whole (frames_of w.down.given).whole front all is
 
 -- ---- the law of the run with fetches
@@ -265,7 +265,7 @@ play-told = together-told front_fetcher IsPlainFrame fetch_laws plain-sent plain
 pub record ShownThen (w : World RunState) (front : FrontValue) : Type 0 where
   pub has : Has front (view_of (settled run_step w).state.back)
   pub fresh : stale_of front.sheets ≡ []
-  pub told : map told_of front.replies ≡ replies_in (settled run_step w).down.given
+  pub told : map reply_shown front.replies ≡ replies_in (settled run_step w).down.given
   pub pauses : front.pauses ≡ map seen_pause (pauses_in (settled run_step w).down.given)
   pub styles : map kept_styles front.matched ≡ (settled run_step w).state.styles
 
@@ -292,8 +292,8 @@ shown-then k w v front both is =
           (frames_of (settled run_step w).down.given).whole made.agrees.plain made.agrees.plain_is;
       fresh = ap (λ (f : FrontValue). stale_of f.sheets) (sym same) ∙ made.none;
       told =
-          ap (λ (f : FrontValue). map told_of f.replies) (sym same)
-          ∙ sym (ap (λ (u : Unstyled). map told_of u.replies) made.agrees.same)
+          ap (λ (f : FrontValue). map reply_shown f.replies) (sym same)
+          ∙ sym (ap (λ (u : Unstyled). map reply_shown u.replies) made.agrees.same)
           ∙ kept-all (settled run_step w) made.agrees.plain
           (settled-plain front_fetcher IsPlainFrame fetch_laws plain-sent plain-bare w both.runs.plain) made.agrees.plain_is;
     }

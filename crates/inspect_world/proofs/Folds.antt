@@ -1,7 +1,7 @@
 -- Folding over frames that come in parts.
 use Rattle.std.proofs.Common.{◌≡◌, ℕ, List, [], ◌∷◌, ◌++◌, refl, sym, ◌∙◌, ap, Result, Ok, Err}
 use Rattle.cdp_json.specs.Lookups.{then_ok}
-use Rattle.inspect_world.specs.Fold.{folded, joined}
+use Rattle.inspect_world.specs.Fold.{folded, asks_joined}
 
 then-then : {F E G H : Type 0} (result : Result F E) (first : F → Result G E) (second : G → Result H E)
     → then_ok result (λ value. then_ok (first value) second) ≡ then_ok (then_ok result first) second
@@ -25,7 +25,7 @@ folded-append take front (frame ∷ first) second =
 
 -- asks in two parts
 pub joined-append : {F : Type 0} (join : F → List ℕ → F) (front : F) (first second : List (List ℕ))
-    → joined join front (first ++ second) ≡ joined join (joined join front first) second
+    → asks_joined join front (first ++ second) ≡ asks_joined join (asks_joined join front first) second
 joined-append join front [] second = refl
 joined-append join front (frame ∷ first) second = joined-append join (join front frame) first second
 

@@ -18,7 +18,7 @@ use Rattle.inspect_world.proofs.Growing.{pauses-of}
 use Rattle.inspect_world.specs.Stream.{sent}
 use Rattle.inspect_world.specs.World.{World, AlreadyTold, one_ask, sent_up, turned, settled}
 use Rattle.inspect_world.specs.Costs.{ask_edits, least_line, line_cost, lines_cost}
-use Rattle.inspect_world.specs.Fold.{folded, joined}
+use Rattle.inspect_world.specs.Fold.{folded, asks_joined}
 use Rattle.inspect_world.specs.Fetches.{Fetcher, front_in, FetchLaws}
 use Rattle.inspect_world.specs.Agreement.{RunTogether}
 use Rattle.inspect_world.specs.Fits.{join, most_bytes, most_frames, most_sheets, most_fetches, HasLeft, IsBare, IsNext, next_raw}
@@ -26,7 +26,7 @@ use Rattle.inspect_world.specs.Fits.{IsNextTurn, IsFit, replay}
 use Rattle.inspect_world.specs.Scripts.{sends, telling, after_line, after_lines, loaded_world}
 use Rattle.inspect_world.specs.ScriptsFit.{IsLater, AreLater}
 use Rattle.replay_script.specs.Sound.{CanSend}
-use Rattle.inspect_world.specs.ShownReplies.{told_of, replies_in}
+use Rattle.inspect_world.specs.ShownReplies.{reply_shown, replies_in}
 use Rattle.inspect_world.specs.FreshRuns.{refreshes, fresh_line, fresh_lines, Unstyled, unstyled, Together, FreshLinesFit, FreshInputsFit}
 use Rattle.inspect_world.specs.FreshRuns.{RefreshedShows}
 use Rattle.inspect_world.proofs.Frames.{sent-all, sent-passed}
@@ -253,7 +253,7 @@ module _ (fetcher : Fetcher FrontValue) (IsPlain : List ℕ → Type 0)
 
   -- `kept`: a front end that has sent no fetch has kept the replies that came down
   pub refreshed-shows : ((w : World RunState) (front : FrontValue) → All IsPlain (frames_of (sent w.up)).whole
-      → front_in replay (first_value []) w ≡ Ok front → map told_of front.replies ≡ replies_in w.down.given)
+      → front_in replay (first_value []) w ≡ Ok front → map reply_shown front.replies ≡ replies_in w.down.given)
       → RefreshedShows fetcher IsPlain
   refreshed-shows kept w v both =
       let made : IsRefreshed replay IsNext IsNextTurn IsFit world_laws fetcher unstyled most_sheets most_fetches fetching
@@ -268,12 +268,12 @@ module _ (fetcher : Fetcher FrontValue) (IsPlain : List ℕ → Type 0)
       record {
         front = front;
         is_fold =
-            ap (λ bytes. folded take_frame (joined join (first_value []) (frames_of bytes).whole) (frames_of v1.down.given).whole)
+            ap (λ bytes. folded take_frame (asks_joined join (first_value []) (frames_of bytes).whole) (frames_of v1.down.given).whole)
             (sym (sent-all v1.up made.rests.up.flying))
             ∙ made.agrees.fresh_is;
         shows = subst (λ (s : RunState). Has front (view_of s.back)) (sym made.agrees.state) fit.has;
         fresh = made.none;
-        told = sym (ap (λ (u : Unstyled). map told_of u.replies) made.agrees.same) ∙ kept (settled run_step w) made.agrees.plain
+        told = sym (ap (λ (u : Unstyled). map reply_shown u.replies) made.agrees.same) ∙ kept (settled run_step w) made.agrees.plain
             (settled-plain w both.runs.plain) made.agrees.plain_is;
         pauses = sym (ap (λ (u : Unstyled). u.pauses) made.agrees.same)
             ∙ pauses-of (frames_of (sent (settled run_step w).up)).whole

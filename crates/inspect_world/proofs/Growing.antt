@@ -28,7 +28,7 @@ use Rattle.front_mirror.specs.Front.{FrontValue, first_value, take_frame, method
 use Rattle.front_mirror.specs.Front.{with_matched, with_effect, with_body, with_reply, with_fault, with_tree, ToldChange, told_change}
 use Rattle.front_mirror.specs.Front.{at_spot, change_fault, with_change, seen_pause, halted, is_shown, told_sheets, with_news, with_message}
 use Rattle.cdp_json.specs.Lookups.{then_ok}
-use Rattle.inspect_world.specs.Fold.{folded, joined}
+use Rattle.inspect_world.specs.Fold.{folded, asks_joined}
 use Rattle.inspect_world.specs.Fits.{join, with_ask, ask_of_frame}
 use Rattle.inspect_world.specs.Links.{knows_styles}
 use Rattle.inspect_world.specs.ShownPauses.{pause_told, pauses_of_message, pauses_in_frame}
@@ -168,7 +168,7 @@ grows-folded (frame ∷ frames) v w e =
 -- ---- from the start
 
 -- asks that are sent add nothing
-joined-pauses : (v : FrontValue) (frames : List (List ℕ)) → (joined join v frames).pauses ≡ v.pauses
+joined-pauses : (v : FrontValue) (frames : List (List ℕ)) → (asks_joined join v frames).pauses ≡ v.pauses
 joined-pauses v [] = refl
 joined-pauses v (frame ∷ frames) = joined-pauses (join v frame) frames ∙ with-ask v (ask_of_frame frame) where
   with-ask : (v : FrontValue) (o : Option Ask) → (with_ask v o).pauses ≡ v.pauses
@@ -176,10 +176,11 @@ joined-pauses v (frame ∷ frames) = joined-pauses (join v frame) frames ∙ wit
   with-ask v (Some ask) = refl
 
 -- the pauses that a front end has kept are those among the frames that it took
-pub pauses-of : (sent frames : List (List ℕ)) (front : FrontValue) → folded take_frame (joined join (first_value []) sent) frames ≡ Ok front
+pub pauses-of : (sent frames : List (List ℕ)) (front : FrontValue) → folded take_frame (asks_joined join (first_value [])
+    sent) frames ≡ Ok front
     → front.pauses ≡ map seen_pause (flat_map pauses_in_frame frames)
 pauses-of sent frames front e =
-    let start = joined join (first_value []) sent in
+    let start = asks_joined join (first_value []) sent in
     (grows-folded frames start front e).pauses ∙ ap (λ ps. ps ++ map seen_pause (flat_map pauses_in_frame frames))
     (joined-pauses (first_value []) sent)
 

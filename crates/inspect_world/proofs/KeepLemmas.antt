@@ -6,14 +6,14 @@ use Rattle.pipe_frames.specs.Frames.{frames_of}
 use Rattle.inspect_world.specs.Stream.{sent}
 use Rattle.inspect_world.specs.World.{World}
 use Rattle.cdp_json.specs.Lookups.{then_ok}
-use Rattle.inspect_world.specs.Fold.{folded, joined, Machine}
+use Rattle.inspect_world.specs.Fold.{folded, asks_joined, Machine}
 use Rattle.inspect_world.specs.Agreement.{RunsAgree}
 use Rattle.inspect_world.specs.Keeping.{all_told_by, KeepLaws}
 
 module _ {F E R : Type 0} (take : F → List ℕ → Result F E) (join : F → List ℕ → F) (kept : F → List R) (tells : List ℕ → List R)
     (WaitsPlainly : F → Type 0) (IsPlain : List ℕ → Type 0) (keeps : KeepLaws take join kept tells WaitsPlainly IsPlain) where
   kept-joined : (asks : List (List ℕ)) (v : F) → All IsPlain asks → WaitsPlainly v
-      → WaitsPlainly (joined join v asks) × (kept (joined join v asks) ≡ kept v)
+      → WaitsPlainly (asks_joined join v asks) × (kept (asks_joined join v asks) ≡ kept v)
   kept-joined [] v all waits = (waits, refl)
   kept-joined (ask ∷ asks) v all waits =
       let one = keeps.joins v ask waits (All-head IsPlain ask asks all) in
@@ -39,10 +39,10 @@ module _ {F E R : Type 0} (take : F → List ℕ → Result F E) (join : F → L
 
   -- from the start, where nothing is kept
   pub replies-kept : (start front : F) (asks frames : List (List ℕ)) → WaitsPlainly start → kept start ≡ [] → All IsPlain asks
-      → folded take (joined join start asks) frames ≡ Ok front → kept front ≡ all_told_by tells frames
+      → folded take (asks_joined join start asks) frames ≡ Ok front → kept front ≡ all_told_by tells frames
   replies-kept start front asks frames waits empty all is =
       let joins = kept-joined asks start all waits in
-      kept-folded frames (joined join start asks) front joins.0 is ∙ ap (λ ts. ts ++ all_told_by tells frames) (joins.1 ∙ empty)
+      kept-folded frames (asks_joined join start asks) front joins.0 is ∙ ap (λ ts. ts ++ all_told_by tells frames) (joins.1 ∙ empty)
 
 -- what the front end of the run with fetches keeps is what the frames tell that came down in the run without
 pub replies-agree : {S F E X A R : Type 0} (machine : Machine S F E X) (start : F) (seen : F → A) (shown : A → List R)

@@ -17,7 +17,7 @@ use Rattle.cdp_messages.specs.Moves.{failed}
 use Rattle.front_mirror.specs.declared.replies.Ask.{Ask}
 use Rattle.front_mirror.specs.declared.faults.FrontFault.{FrontFault}
 use Rattle.front_mirror.specs.Front as front
-use Rattle.front_mirror.specs.Front.{FrontValue, FrontState, Folded, first_value, first_state, take_frame, fold, fold_frames, outcome}
+use Rattle.front_mirror.specs.Front.{FrontValue, FrontState, Folded, first_value, first_state, take_frame, fold, fold_frames, fold_result}
 use Rattle.front_mirror.specs.Front.{fetch_ask, after_ask, after_fetch, after_take}
 use Rattle.front_mirror.specs.Laws as front_laws
 use Rattle.front_mirror.specs.Laws.{KnowsSheets, InTurn, rests, meets}
@@ -39,7 +39,7 @@ use Rattle.inspect_world.specs.Links.{Follows}
 use Rattle.replay_script.specs.Sound.{CanSend}
 use Rattle.inspect_world.specs.FreshRuns.{front_fetcher}
 use Rattle.inspect_world.proofs.FetchForms.{fetch-text, sent-fetch}
-use Rattle.inspect_world.specs.ShownReplies.{ShownReply, told_of, replies_among, replies_in, id_asked, reply_id}
+use Rattle.inspect_world.specs.ShownReplies.{ShownReply, reply_shown, replies_among, replies_in, id_asked, reply_id}
 use Rattle.front_mirror.proofs.FoldLemmas.{fold-append, fold-more}
 use Rattle.back_end.proofs.FrameLemmas.{frame-steps-well}
 use Rattle.back_end.proofs.StepLemmas.{turn-steps-well}
@@ -100,13 +100,13 @@ sends-moves : (state : State) (h : Happening) (done : Step) (asks rest : List As
 sends-moves state h done asks rest well is_step plain in_turn ids drew =
     let t : Taken done (waiting_front state asks) rest = taken state done (waiting_front state asks) rest well.course
     (record { tree = refl; sheets = knows-unread (view_of state).sheets }) in_turn in
-    let among : map told_of t.after.replies
+    let among : map reply_shown t.after.replies
     ≡ replies_among t.texts = replies-folded t.texts (waiting_front state asks) t.after plain t.is_fold in
     record {
       texts = t.texts;
       frames_are = ap (λ (d : Stepped State). frames_of d.sent) is_step ∙ t.frames_are;
       ids_are =
-          ap (map (λ (x : ShownReply). x.id)) (sym among ∙ ap (map told_of) t.replies)
+          ap (map (λ (x : ShownReply). x.id)) (sym among ∙ ap (map reply_shown) t.replies)
           ∙ ids-kept done.moves asks plain ∙ ids;
       drew = λ c m b before.
           subst (λ (d : Stepped State). Drew d.state (c + commands_among (h ∷ [])) (m + made_among (h ∷ []))
@@ -646,7 +646,7 @@ module _ (state0 : Started) (up0 down0 : Pipe) where
   -- the fold of what was given with these bytes more is what the front makes of them
   fold-down : (up down : Pipe) (waiting : List (List ℕ)) (e : Ends) (piece : List ℕ) (f : Follows state0 up0 down0 up down waiting e)
       → let end = front.front_folded f.value (frames_from (frames_of f.given_down).rest piece) in
-      fold_of f.sent_up (f.given_down ++ piece) ≡ outcome end.value end.fault
+      fold_of f.sent_up (f.given_down ++ piece) ≡ fold_result end.value end.fault
   fold-down up down waiting e piece f = fold-append (asks_among (frames_of f.sent_up).whole) f.given_down piece f.value f.is_fold
 
   -- what the front is after these bytes
@@ -697,9 +697,9 @@ module _ (state0 : Started) (up0 down0 : Pipe) where
             (sym fetches)
             ∙ ap (λ rest. good_front end.value rest (after_take e.front piece).next (after_take e.front piece).fetches)
             (sym (ap (λ (fs : Frames). fs.rest) (frames_of-append f.given_down piece)));
-        is_fold = fold-down up down waiting e piece f ∙ ap (outcome end.value) none;
+        is_fold = fold-down up down waiting e piece f ∙ ap (fold_result end.value) none;
         styled = stay-all f.value end.value (frames_from (frames_of f.given_down).rest piece) state0.shown
-            (ap (outcome end.value) none) f.styled;
+            (ap (fold_result end.value) none) f.styled;
         events = f.events;
         frames_are = f.frames_are;
         back_is = f.back_is;
@@ -735,7 +735,7 @@ module _ (state0 : Started) (up0 down0 : Pipe) where
       (f.given_down ++ piece) = goes-get down0 down down1 f.sent_down f.given_down piece f.down_is sent_is given_is in
       ap (λ bytes. fold_of bytes (given_since down0 down1)) (sent_since-is up0 up f.sent_up f.given_up f.up_is)
       ∙ ap (fold_of f.sent_up) (given_since-is down0 down1 f.sent_down (f.given_down ++ piece) down_is)
-      ∙ fold-down up down waiting e piece f ∙ ap (outcome end.value) some
+      ∙ fold-down up down waiting e piece f ∙ ap (fold_result end.value) some
 
   -- ---- what it says of the pipes
 

@@ -1,8 +1,8 @@
--- A pipe goes on carrying its stream as bytes are put and got.
+-- A pipe goes on carrying its stream as bytes are put_last and got.
 use Rattle.std.proofs.Common.{◌≡◌, ℕ, List, ◌++◌, length, take, drop, sym, ◌∙◌, ap, append_assoc, append-nil}
 use Rattle.std.proofs.Math.Seq.{drop-append_seam}
 use Rattle.pipe_frames.specs.Pipe.{Pipe, waiting}
-use Rattle.inspect_world.specs.Stream.{Stream, no_stream, sent, put, passed}
+use Rattle.inspect_world.specs.Stream.{Stream, no_stream, sent, put_last, passed}
 use Rattle.inspect_world.specs.Carried.{Carries}
 use Rattle.inspect_world.proofs.Frames.{sent-passed}
 
@@ -10,9 +10,9 @@ use Rattle.inspect_world.proofs.Frames.{sent-passed}
 pub carries-start : (start : Pipe) → start.given ≡ start.sent → Carries start start no_stream
 carries-start start level = record { level = level; sent_is = sym (append-nil start.sent); given_is = sym (append-nil start.given) }
 
--- after a put
+-- after a put_last
 pub carries-put : (start old new : Pipe) (piece : List ℕ) (s : Stream) → Carries start old s
-    → new.sent ≡ old.sent ++ piece → new.given ≡ old.given → Carries start new (put piece s)
+    → new.sent ≡ old.sent ++ piece → new.given ≡ old.given → Carries start new (put_last piece s)
 carries-put start old new piece s carries put_is given_is = record {
   level = carries.level;
   sent_is =

@@ -7,7 +7,7 @@ use Rattle.front_mirror.specs.declared.replies.Ask.{Ask}
 use Rattle.front_mirror.specs.Front.{FrontValue, ask_under, method_waiting, fetched_sheet, asks_without, reply_kept, unless_fetch}
 use Rattle.front_mirror.specs.Front.{kept_reply}
 use Rattle.front_mirror.specs.Laws.{without_all}
-use Rattle.inspect_world.specs.Fold.{joined}
+use Rattle.inspect_world.specs.Fold.{asks_joined}
 use Rattle.inspect_world.specs.Fits.{ask_of_frame, IsPlainFrame, with_ask, join}
 
 -- none of them is a fetch
@@ -55,7 +55,7 @@ with_ask-plain v (Some ask) one plain = last-plain v.asks ask plain one
 
 -- the asks of frames that are no fetches are none
 pub joined-plain : (v : FrontValue) (frames : List (List ℕ)) → All IsPlainFrame frames → ArePlain v.asks
-    → ArePlain (joined join v frames).asks
+    → ArePlain (asks_joined join v frames).asks
 joined-plain v [] all plain = plain
 joined-plain v (frame ∷ frames) all plain =
     joined-plain (join v frame) frames (All-tail IsPlainFrame frame frames all)

@@ -29,14 +29,14 @@ use Rattle.front_mirror.specs.Front.{refused, with_root, root_fault, matched_tol
 use Rattle.front_mirror.specs.Front.{with_fault, with_tree, ToldChange, told_change, at_spot, change_fault, with_change, halted, is_shown}
 use Rattle.front_mirror.specs.Front.{told_sheets, with_news, with_message}
 use Rattle.cdp_json.specs.Lookups.{then_ok}
-use Rattle.inspect_world.specs.Fold.{folded, joined}
+use Rattle.inspect_world.specs.Fold.{folded, asks_joined}
 use Rattle.inspect_world.specs.Fits.{join, with_ask, ask_of_frame, IsPlainFrame}
-use Rattle.inspect_world.specs.ShownReplies.{ShownReply, told_of, replies_in_frame, replies_among}
+use Rattle.inspect_world.specs.ShownReplies.{ShownReply, reply_shown, replies_in_frame, replies_among}
 use Rattle.inspect_world.proofs.PlainAsks.{ArePlain, kept-plain, without-plain, joined-plain}
 
 -- the front has kept these replies more, and still none of the asks that wait is a fetch
 record Keeps (v : FrontValue) (ts : List ShownReply) (w : FrontValue) : Type 0 where
-  replies : map told_of w.replies ≡ map told_of v.replies ++ ts
+  replies : map reply_shown w.replies ≡ map reply_shown v.replies ++ ts
   plain : ArePlain w.asks
 
 refuses : {P : Type 0} (kind : FrontKind) (w : FrontValue) → ◌≡◌ {A = Result FrontValue FrontKind} (Err kind) (Ok w) → P
@@ -50,9 +50,9 @@ keeps-like v id frame good x w same asks plain e =
     let is : x ≡ w = cc e in
     record {
       replies =
-          ap (λ (y : FrontValue). map told_of y.replies) (sym is) ∙ ap (map told_of) same ∙ map-append told_of v.replies
+          ap (λ (y : FrontValue). map reply_shown y.replies) (sym is) ∙ ap (map reply_shown) same ∙ map-append reply_shown v.replies
           (kept_reply id v.asks frame good)
-          ∙ ap (λ (ks : List Kept). map told_of v.replies ++ map told_of ks) (kept-plain id v.asks frame good plain);
+          ∙ ap (λ (ks : List Kept). map reply_shown v.replies ++ map reply_shown ks) (kept-plain id v.asks frame good plain);
       plain = subst ArePlain (sym asks ∙ ap (λ (y : FrontValue). y.asks) is) (without-plain id v.asks plain);
     }
 
@@ -67,7 +67,8 @@ keeps-none : (v x w : FrontValue) → x.replies ≡ v.replies → x.asks ≡ v.a
 keeps-none v x w same asks plain e =
     let is : x ≡ w = cc e in
     record {
-      replies = ap (λ (y : FrontValue). map told_of y.replies) (sym is) ∙ ap (map told_of) same ∙ sym (append-nil (map told_of v.replies));
+      replies = ap (λ (y : FrontValue). map reply_shown y.replies) (sym is) ∙ ap (map reply_shown) same ∙ sym (append-nil
+          (map reply_shown v.replies));
       plain = subst ArePlain (sym asks ∙ ap (λ (y : FrontValue). y.asks) is) plain;
     }
 
@@ -154,7 +155,7 @@ keeps-message v frame (Some (reply id result)) w plain e = keeps-reply v id fram
 keeps-message v frame (Some (fault None code text)) w plain e =
     let same : refused v frame ≡ w = cc e in
     record {
-      replies = ap (λ (x : FrontValue). map told_of x.replies) (sym same) ∙ map-append told_of v.replies
+      replies = ap (λ (x : FrontValue). map reply_shown x.replies) (sym same) ∙ map-append reply_shown v.replies
           (reply_kept None None frame false ∷ []);
       plain = subst ArePlain (ap (λ (x : FrontValue). x.asks) same) plain;
     }
@@ -174,14 +175,14 @@ keeps-folded (frame ∷ frames) v w plain e =
           record {
             replies =
                 later.replies ∙ ap (λ ts. ts ++ replies_among frames) one.replies
-                ∙ append_assoc (map told_of v.replies) (replies_in_frame frame (down_of frame)) (replies_among frames);
+                ∙ append_assoc (map reply_shown v.replies) (replies_in_frame frame (down_of frame)) (replies_among frames);
             plain = later.plain;
           }
       | Err kind ↦ λ is rest. refuses kind w rest
     ]) refl e
 
 pub replies-folded : (frames : List (List ℕ)) (v w : FrontValue) → ArePlain v.asks → folded take_frame v frames ≡ Ok w
-    → map told_of w.replies ≡ map told_of v.replies ++ replies_among frames
+    → map reply_shown w.replies ≡ map reply_shown v.replies ++ replies_among frames
 replies-folded frames v w plain e = (keeps-folded frames v w plain e).replies
 
 -- asks that wait are no replies
@@ -189,17 +190,17 @@ replies-with_ask : (v : FrontValue) (o : Option Ask) → (with_ask v o).replies 
 replies-with_ask v None = refl
 replies-with_ask v (Some ask) = refl
 
-pub replies-joined : (v : FrontValue) (frames : List (List ℕ)) → (joined join v frames).replies ≡ v.replies
+pub replies-joined : (v : FrontValue) (frames : List (List ℕ)) → (asks_joined join v frames).replies ≡ v.replies
 replies-joined v [] = refl
 replies-joined v (frame ∷ frames) = replies-joined (join v frame) frames ∙ replies-with_ask v (ask_of_frame frame)
 
 -- a front end that began with no reply, and sent no fetch, has those among the frames
 pub replies-of : (sent_frames frames : List (List ℕ)) (w : FrontValue) → All IsPlainFrame sent_frames
-    → folded take_frame (joined join (first_value []) sent_frames) frames ≡ Ok w
-    → map told_of w.replies ≡ replies_among frames
+    → folded take_frame (asks_joined join (first_value []) sent_frames) frames ≡ Ok w
+    → map reply_shown w.replies ≡ replies_among frames
 replies-of sent_frames frames w all e =
-    replies-folded frames (joined join (first_value []) sent_frames) w (joined-plain (first_value []) sent_frames all tt) e
-    ∙ ap (λ ks. map told_of ks ++ replies_among frames) (replies-joined (first_value []) sent_frames)
+    replies-folded frames (asks_joined join (first_value []) sent_frames) w (joined-plain (first_value []) sent_frames all tt) e
+    ∙ ap (λ ks. map reply_shown ks ++ replies_among frames) (replies-joined (first_value []) sent_frames)
 
 pub replies_among-append : (first second : List (List ℕ)) → replies_among (first ++ second) ≡ replies_among first ++ replies_among second
 replies_among-append [] second = refl

@@ -22,7 +22,7 @@ use Rattle.replay_script.specs.Forms.{AskForm, LineForm, load, ask, up, down, se
 use Rattle.replay_script.specs.Forms.{show_pauses, show_styles}
 use Rattle.pipe_frames.specs.Frames.{IsText, frames_of}
 use Rattle.inspect_world.specs.Stream.{sent, held, awaited}
-use Rattle.inspect_world.specs.Fold.{folded, joined}
+use Rattle.inspect_world.specs.Fold.{folded, asks_joined}
 use Rattle.inspect_world.specs.World.{World, AlreadyTold, Spent, nothing_spent, one_raw, raw, turned, delivered_up, settled}
 use Rattle.back_end.proofs.WatchedLemmas.{none-set}
 use Rattle.back_end.specs.States.{page_nodes, loaded_state, HoldsNow, IsState}
@@ -333,11 +333,11 @@ settled-shows w fits =
     let down_none : w'.down.flying ≡ [] = given-all (delivered_up run_step (length w.up.flying) w).down in
     let up_held : held w'.up ≡ [] = ap (λ bytes. (frames_of bytes).rest) (sym (sent-all w'.up up_none)) ∙ all.up_whole in
     let awaits : awaited w'.up ≡ [] = awaited-none w'.up up_none up_held in
-    let given_fold : folded take_frame (joined join (first_value []) (frames_of w'.up.given).whole) (frames_of w'.down.given).whole
+    let given_fold : folded take_frame (asks_joined join (first_value []) (frames_of w'.up.given).whole) (frames_of w'.down.given).whole
     ≡ Ok all.front =
-    ap (λ bytes. folded take_frame (joined join (first_value []) (frames_of bytes).whole) (frames_of w'.down.given).whole)
+    ap (λ bytes. folded take_frame (asks_joined join (first_value []) (frames_of bytes).whole) (frames_of w'.down.given).whole)
     (sym (sent-all w'.up up_none))
-    ∙ ap (λ bytes. folded take_frame (joined join (first_value []) (frames_of (sent w'.up)).whole) (frames_of bytes).whole)
+    ∙ ap (λ bytes. folded take_frame (asks_joined join (first_value []) (frames_of (sent w'.up)).whole) (frames_of bytes).whole)
     (sym (sent-all w'.down down_none))
     ∙ all.is_fold in
     record {

@@ -23,7 +23,7 @@ use Rattle.front_mirror.specs.declared.replies.Kept.{Kept}
 use Rattle.front_mirror.specs.declared.faults.FrontKind.{FrontKind}
 use Rattle.front_mirror.specs.declared.faults.FrontFault.{FrontFault}
 use Rattle.front_mirror.specs.Front as front
-use Rattle.front_mirror.specs.Front.{FrontValue, kept_reply, take_frame, after_message, outcome, fold_frames}
+use Rattle.front_mirror.specs.Front.{FrontValue, kept_reply, take_frame, after_message, fold_result, fold_frames}
 use Rattle.front_mirror.specs.Laws.{Has, AreAwaited, asks_after, asks_after_all, AreTaken, matched_after, kept_fault, kept_after}
 use Rattle.front_mirror.specs.Laws.{kept_after_all, is_quiet, InTurn, rests, tells, meets}
 use Rattle.back_end.specs.States.{State, view_of}
@@ -32,7 +32,7 @@ use Rattle.back_end.specs.Laws.{reply_ids, MayAnswerAll, IsAnswered}
 use Rattle.cdp_json.specs.Lookups.{then_ok}
 use Rattle.inspect_world.specs.Fold.{folded}
 use Rattle.inspect_world.specs.Fits.{ask_with}
-use Rattle.inspect_world.specs.ShownReplies.{ShownReply, told_of}
+use Rattle.inspect_world.specs.ShownReplies.{ShownReply, reply_shown}
 use Rattle.inspect_world.proofs.Messages.{AskedAs, commanded, refused_as}
 use Rattle.front_mirror.proofs.MoveLemmas.{course_gives, turns_are_awaited}
 use Rattle.inspect_world.proofs.MoveTexts.{move-is-text}
@@ -123,7 +123,8 @@ pub folded-fold : (frames : List (List ℕ)) (v w : FrontValue) → fold_frames 
 folded-fold [] v w e = let same : v ≡ w = cc in ap (λ (x : FrontValue). taken_well x) same
 folded-fold (frame ∷ frames) v w e =
     (elim (take_frame v frame) as (λ (r : Result FrontValue FrontKind).
-    outcome (after_message v (λ u. front.front_folded u frames) r).value (after_message v (λ u. front.front_folded u frames) r).fault ≡ Ok w
+    fold_result (after_message v (λ u. front.front_folded u frames) r).value (after_message v (λ u. front.front_folded u
+    frames) r).fault ≡ Ok w
     → then_ok r (λ next. folded take_frame next frames) ≡ Ok w) [
       | Ok next ↦ λ rest. folded-fold frames next w rest
       | Err kind ↦ λ rest. let no : ◌≡◌ {A = Result FrontValue FrontFault} (Err (record { place = v.taken + 1; kind = kind }))
@@ -252,16 +253,16 @@ taken before done v rest course has turn =
 
 -- the ids of the replies that are kept, where no ask is a fetch
 ids-one : (id : ℕ) (asks : List Ask) (frame : List ℕ) (good : Bool) → ArePlain asks
-    → map (λ (t : ShownReply). t.id) (map told_of (kept_reply id asks frame good)) ≡ Some id ∷ []
-ids-one id asks frame good plain = ap (λ (ks : List Kept). map (λ (t : ShownReply). t.id) (map told_of ks))
+    → map (λ (t : ShownReply). t.id) (map reply_shown (kept_reply id asks frame good)) ≡ Some id ∷ []
+ids-one id asks frame good plain = ap (λ (ks : List Kept). map (λ (t : ShownReply). t.id) (map reply_shown ks))
     (kept-plain id asks frame good plain)
 
 ids-fault : (o : Option ℕ) (asks : List Ask) (frame : List ℕ) → ArePlain asks
-    → map (λ (t : ShownReply). t.id) (map told_of (kept_fault o asks frame)) ≡ o ∷ []
+    → map (λ (t : ShownReply). t.id) (map reply_shown (kept_fault o asks frame)) ≡ o ∷ []
 ids-fault None asks frame plain = refl
 ids-fault (Some id) asks frame plain = ids-one id asks frame false plain
 
-ids-move : (m : Move) (asks : List Ask) → ArePlain asks → map (λ (t : ShownReply). t.id) (map told_of (kept_after m asks)) ≡ reply_ids m
+ids-move : (m : Move) (asks : List Ask) → ArePlain asks → map (λ (t : ShownReply). t.id) (map reply_shown (kept_after m asks)) ≡ reply_ids m
 ids-move (change id c) asks plain = refl
 ids-move clear asks plain = refl
 ids-move (met why) asks plain = refl
@@ -276,11 +277,11 @@ ids-move (sheets_off id) asks plain = ids-one id asks (move_text (sheets_off id)
 ids-move (failed r) asks plain = ids-fault r.id asks (move_text (failed r)) plain
 
 pub ids-kept : (ms : List Move) (asks : List Ask) → ArePlain asks
-    → map (λ (t : ShownReply). t.id) (map told_of (kept_after_all ms asks)) ≡ flat_map reply_ids ms
+    → map (λ (t : ShownReply). t.id) (map reply_shown (kept_after_all ms asks)) ≡ flat_map reply_ids ms
 ids-kept [] asks plain = refl
 ids-kept (m ∷ ms) asks plain =
     let later = kept_after_all ms (asks_after m asks) in
-    ap (map (λ (t : ShownReply). t.id)) (map-append told_of (kept_after m asks) later)
-    ∙ map-append (λ (t : ShownReply). t.id) (map told_of (kept_after m asks)) (map told_of later)
-    ∙ ap (λ ids. ids ++ map (λ (t : ShownReply). t.id) (map told_of later)) (ids-move m asks plain)
+    ap (map (λ (t : ShownReply). t.id)) (map-append reply_shown (kept_after m asks) later)
+    ∙ map-append (λ (t : ShownReply). t.id) (map reply_shown (kept_after m asks)) (map reply_shown later)
+    ∙ ap (λ ids. ids ++ map (λ (t : ShownReply). t.id) (map reply_shown later)) (ids-move m asks plain)
     ∙ ap (λ ids. reply_ids m ++ ids) (ids-kept ms (asks_after m asks) (without_all-plain (answered_by m) asks plain))

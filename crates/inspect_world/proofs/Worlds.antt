@@ -2,12 +2,12 @@
 use Rattle.std.proofs.Common.{◌≡◌, ℕ, List, [], ◌∷◌, ◌++◌, length, refl, sym, ◌∙◌, ap, subst, append_assoc, append-nil}
 use Rattle.pipe_frames.specs.Frames.{IsText, framed, frames_of, frames_from, held_after}
 use Rattle.pipe_frames.proofs.FrameLemmas.{frames_of-append, frames_of-one, frames_from-append}
-use Rattle.inspect_world.specs.Stream.{Stream, sent, put, passed, held, arriving, awaited}
+use Rattle.inspect_world.specs.Stream.{Stream, sent, put_last, passed, held, arriving, awaited}
 use Rattle.back_end.specs.Steps.{Stepped}
 use Rattle.inspect_world.specs.World.{World, Spent, nothing_spent, one_ask, one_turn, first_world, steps, sent_up, ask_sent, turned}
 use Rattle.inspect_world.specs.World.{answered, given_up, delivered_up, delivered_down, settled}
 use Rattle.cdp_json.specs.Lookups.{then_ok}
-use Rattle.inspect_world.specs.Fold.{folded, joined, Machine, Laws, Leads, FitsWith, Fits}
+use Rattle.inspect_world.specs.Fold.{folded, asks_joined, Machine, Laws, Leads, FitsWith, Fits}
 use Rattle.inspect_world.proofs.Frames.{rest-sent, sent-passed, awaited-passed}
 use Rattle.inspect_world.proofs.Folds.{folded-append, joined-append}
 
@@ -23,16 +23,16 @@ pub rest-after : (before more : List ℕ) → (frames_of before).rest ≡ []
 rest-after before more none =
     ap (λ fs. fs.rest) (frames_of-append before more) ∙ ap (λ rest. held_after rest more) none
 
--- the frames of a stream on which one frame more was put
+-- the frames of a stream on which one frame more was put_last
 pub whole-framed : (text : List ℕ) (s : Stream) → IsText text → (frames_of (sent s)).rest ≡ []
-    → (frames_of (sent (put (framed text) s))).whole ≡ (frames_of (sent s)).whole ++ text ∷ []
+    → (frames_of (sent (put_last (framed text) s))).whole ≡ (frames_of (sent s)).whole ++ text ∷ []
 whole-framed text s letters none =
     ap (λ bytes. (frames_of bytes).whole) (sym (append_assoc s.given s.flying (framed text)))
     ∙ whole-after (sent s) (framed text) none
     ∙ ap (λ fs. (frames_of (sent s)).whole ++ fs.whole) (frames_of-one text letters)
 
 -- nothing is sent
-pub put-nil : (s : Stream) → put [] s ≡ s
+pub put-nil : (s : Stream) → put_last [] s ≡ s
 put-nil s = ap (λ bytes. record { given = s.given; flying = bytes }) (append-nil s.flying)
 
 -- one frame is answered, and then the others
@@ -74,10 +74,10 @@ module _ {S F E X : Type 0} (machine : Machine S F E X) (IsNext : Spent → List
       record {
         front = machine.join fits.front ask;
         is_fold =
-            ap (λ asks. folded machine.take (joined machine.join start asks) (frames_of (sent w.down)).whole) all
+            ap (λ asks. folded machine.take (asks_joined machine.join start asks) (frames_of (sent w.down)).whole) all
             ∙ ap (λ front. folded machine.take front (frames_of (sent w.down)).whole)
             (joined-append machine.join start (frames_of (sent w.up)).whole (ask ∷ []))
-            ∙ laws.later ask (joined machine.join start (frames_of (sent w.up)).whole) fits.front
+            ∙ laws.later ask (asks_joined machine.join start (frames_of (sent w.up)).whole) fits.front
             (frames_of (sent w.down)).whole fits.is_fold;
         fit = subst (λ frames. Fit (more w.spent) (machine.join fits.front ask) w.state frames) (sym last)
             (laws.asks w.spent (more w.spent) ask fits.front w.state (awaited w.up) is_next fits.fit);
@@ -99,7 +99,7 @@ module _ {S F E X : Type 0} (machine : Machine S F E X) (IsNext : Spent → List
   fits-given_up start n w fits = record {
     front = fits.front;
     is_fold =
-        ap (λ bytes. folded machine.take (joined machine.join start (frames_of bytes).whole) (frames_of (sent w.down)).whole)
+        ap (λ bytes. folded machine.take (asks_joined machine.join start (frames_of bytes).whole) (frames_of (sent w.down)).whole)
         (sent-passed n w.up)
         ∙ fits.is_fold;
     fit = subst (λ frames. Fit w.spent fits.front w.state frames) (awaited-passed n w.up) fits.fit;
@@ -107,15 +107,15 @@ module _ {S F E X : Type 0} (machine : Machine S F E X) (IsNext : Spent → List
     down_whole = fits.down_whole;
   }
 
-  -- what a step sends is put down after all else
+  -- what a step sends is put_last down after all else
   fits-put : (start : F) (frames : List (List ℕ)) (w : World S) (fits : FitsWith machine.take machine.join Fit start w frames)
       (stepped : Stepped S) (n : Spent) (more : List (List ℕ)) → Leads machine.take (Fit n) fits.front stepped more
       → FitsWith machine.take machine.join Fit start
-      (record { state = stepped.state; up = w.up; down = put stepped.sent w.down; spent = n; told = w.told }) more
+      (record { state = stepped.state; up = w.up; down = put_last stepped.sent w.down; spent = n; told = w.told }) more
   fits-put start frames w fits stepped n more leads =
-      let front = joined machine.join start (frames_of (sent w.up)).whole in
+      let front = asks_joined machine.join start (frames_of (sent w.up)).whole in
       let out = stepped.sent in
-      let all : (frames_of (sent (put out w.down))).whole ≡ (frames_of (sent w.down)).whole ++ (frames_of out).whole =
+      let all : (frames_of (sent (put_last out w.down))).whole ≡ (frames_of (sent w.down)).whole ++ (frames_of out).whole =
       ap (λ bytes. (frames_of bytes).whole) (sym (append_assoc w.down.given w.down.flying out))
       ∙ whole-after (sent w.down) out fits.down_whole in
       record {
@@ -146,7 +146,14 @@ module _ {S F E X : Type 0} (machine : Machine S F E X) (IsNext : Spent → List
       → FitsWith machine.take machine.join Fit start (answered machine.step (frame ∷ []) w) frames
   fits-answered_one start frame frames w fits =
       subst (λ bytes. FitsWith machine.take machine.join Fit start
-      (record { state = (machine.step w.state frame).state; up = w.up; down = put bytes w.down; spent = w.spent; told = w.told }) frames)
+      (record {
+        state = (machine.step w.state frame).state;
+        up = w.up;
+        down = put_last bytes w.down;
+        spent = w.spent;
+        told =
+            w.told;
+      }) frames)
       (sym (append-nil (machine.step w.state frame).sent))
       (fits-put start (frame ∷ frames) w fits (machine.step w.state frame) w.spent frames
       (laws.answers w.spent frame fits.front w.state frames fits.fit))
@@ -172,7 +179,7 @@ module _ {S F E X : Type 0} (machine : Machine S F E X) (IsNext : Spent → List
   fits-delivered_down start n w fits = record {
     front = fits.front;
     is_fold =
-        ap (λ bytes. folded machine.take (joined machine.join start (frames_of (sent w.up)).whole) (frames_of bytes).whole)
+        ap (λ bytes. folded machine.take (asks_joined machine.join start (frames_of (sent w.up)).whole) (frames_of bytes).whole)
         (sent-passed n w.down)
         ∙ fits.is_fold;
     fit = fits.fit;

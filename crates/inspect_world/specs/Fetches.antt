@@ -4,7 +4,7 @@ use Rattle.std.specs.Prelude.{◌≡◌, ◌≤◌, ℕ, ◌+◌, Bool, true, co
 use Rattle.pipe_frames.specs.Frames.{IsText, frames_of}
 use Rattle.inspect_world.specs.Stream.{sent}
 use Rattle.inspect_world.specs.World.{World, Spent, one_fetch, sent_up, settled}
-use Rattle.inspect_world.specs.Fold.{folded, joined, Machine}
+use Rattle.inspect_world.specs.Fold.{folded, asks_joined, Machine}
 
 -- What a settle has to know of a front end: the numbers of the sheets without a fresh text, in their order; whether a sheet of
 -- that number is known; and the text of the fetch of a sheet, by how many fetches were made before and the sheet's number.
@@ -16,7 +16,7 @@ pub record Fetcher (F : Type 0) : Type 0 where
 -- What the front end has come to: it has sent the whole up stream, and has taken what was given of the down stream.
 abbrev pub front_in : {S F E X : Type 0} → Machine S F E X → F → World S → Result F E
 front_in machine start w =
-    folded machine.take (joined machine.join start (frames_of (sent w.up)).whole) (frames_of w.down.given).whole
+    folded machine.take (asks_joined machine.join start (frames_of (sent w.up)).whole) (frames_of w.down.given).whole
 
 -- a text is fetched: the fetch is sent, and all that is on its way is delivered
 abbrev pub fetched : {S F E X : Type 0} → Machine S F E X → Fetcher F → ℕ → World S → World S

@@ -12,9 +12,9 @@ folded take front [] = Ok front
 folded take front (frame ∷ frames) = then_ok (take front frame) (λ next. folded take next frames)
 
 -- the asks of frames join, one by one, those that wait
-abbrev pub joined : {F : Type 0} → (F → List ℕ → F) → F → List (List ℕ) → F
-joined join front [] = front
-joined join front (frame ∷ frames) = joined join (join front frame) frames
+abbrev pub asks_joined : {F : Type 0} → (F → List ℕ → F) → F → List (List ℕ) → F
+asks_joined join front [] = front
+asks_joined join front (frame ∷ frames) = asks_joined join (join front frame) frames
 
 -- the messages of a step are whole, meet no fault, and lead to a front that fits the state after the step
 pub record Leads {S F E : Type 0} (take : F → List ℕ → Result F E) (Fit : F → S → List (List ℕ) → Type 0)
@@ -55,7 +55,7 @@ pub record Laws {S F E X : Type 0} (machine : Machine S F E X) (IsNext : Spent �
 pub record FitsWith {S F E : Type 0} (take : F → List ℕ → Result F E) (join : F → List ℕ → F)
     (Fit : Spent → F → S → List (List ℕ) → Type 0) (start : F) (w : World S) (frames : List (List ℕ)) : Type 0 where
   pub front : F
-  pub is_fold : folded take (joined join start (frames_of (sent w.up)).whole) (frames_of (sent w.down)).whole ≡ Ok front
+  pub is_fold : folded take (asks_joined join start (frames_of (sent w.up)).whole) (frames_of (sent w.down)).whole ≡ Ok front
   pub fit : Fit w.spent front w.state frames
   pub up_whole : (frames_of (sent w.up)).rest ≡ []
   pub down_whole : (frames_of (sent w.down)).rest ≡ []

@@ -20,11 +20,11 @@ use Rattle.inspect_world.specs.RunStates.{RunState, run_step}
 use Rattle.inspect_world.specs.ShownPauses.{pauses_in}
 use Rattle.inspect_world.specs.Stream.{held}
 use Rattle.inspect_world.specs.World.{World, settled}
-use Rattle.inspect_world.specs.Fold.{folded, joined}
+use Rattle.inspect_world.specs.Fold.{folded, asks_joined}
 use Rattle.inspect_world.specs.Fetches.{Fetcher, refreshed}
 use Rattle.inspect_world.specs.Agreement.{RunTogether}
 use Rattle.inspect_world.specs.Fits.{join, most_bytes, HasLeft, kept_styles, IsFit, replay}
-use Rattle.inspect_world.specs.ShownReplies.{told_of, replies_in}
+use Rattle.inspect_world.specs.ShownReplies.{reply_shown, replies_in}
 use Rattle.inspect_world.specs.Costs.{lines_cost}
 use Rattle.inspect_world.specs.Scripts.{after_line_by, after_lines_by, after_lines, loaded_world}
 use Rattle.inspect_world.specs.ScriptsFit.{AreLater}
@@ -91,10 +91,10 @@ FreshInputsFit fetcher IsPlain =
 -- told; it waits for no reply, and holds no part of a frame.
 pub record ShowsFresh (fetcher : Fetcher FrontValue) (w v : World RunState) : Type 0 where
   pub front : FrontValue
-  pub is_fold : folded take_frame (joined join (first_value []) (frames_of v.up.given).whole) (frames_of v.down.given).whole ≡ Ok front
+  pub is_fold : folded take_frame (asks_joined join (first_value []) (frames_of v.up.given).whole) (frames_of v.down.given).whole ≡ Ok front
   pub shows : Has front (view_of w.state.back)
   pub fresh : fetcher.stale front ≡ []
-  pub told : map told_of front.replies ≡ replies_in w.down.given
+  pub told : map reply_shown front.replies ≡ replies_in w.down.given
   pub pauses : front.pauses ≡ map seen_pause (pauses_in w.down.given)
   pub styles : map kept_styles front.matched ≡ w.state.styles
   pub waits : front.asks ≡ []

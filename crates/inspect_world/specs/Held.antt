@@ -6,7 +6,7 @@ use Rattle.front_mirror.specs.Front.{FrontValue, FrontState, first_value, take_f
 use Rattle.inspect_world.specs.Stream.{sent, held}
 use Rattle.inspect_world.specs.World.{World, AlreadyTold}
 use Rattle.inspect_world.specs.RunStates.{RunState}
-use Rattle.inspect_world.specs.Fold.{folded, joined}
+use Rattle.inspect_world.specs.Fold.{folded, asks_joined}
 use Rattle.inspect_world.specs.Carried.{Carries}
 use Rattle.back_end.specs.declared.seat.Seat.{Seat}
 use Rattle.back_end.specs.declared.side.PageSide.{PageSide}
@@ -37,7 +37,8 @@ pub record InWorld (up0 down0 up down : Pipe) (w : World RunState) (frames : Lis
   pub back_is : e.back_rest ≡ held w.up
   pub value : FrontValue
   pub front_is : e.front ≡ good_front value (held w.down) (w.spent.asks + 1) w.spent.fetches
-  pub is_fold : folded take_frame (joined join (first_value []) (frames_of (sent w.up)).whole) (frames_of w.down.given).whole ≡ Ok value
+  pub is_fold : folded take_frame (asks_joined join (first_value []) (frames_of (sent w.up)).whole) (frames_of
+      w.down.given).whole ≡ Ok value
   pub up_left : e.up_there ≡ length w.up.flying
   pub down_left : e.down_there ≡ length w.down.flying
   pub told_is : e.told ≡ w.told

@@ -15,7 +15,7 @@ use Rattle.front_mirror.specs.Front.{FrontValue, first_value, take_frame}
 use Rattle.front_mirror.specs.Laws.{Has}
 use Rattle.inspect_world.specs.Stream.{held}
 use Rattle.inspect_world.specs.World.{World, raw, turned, delivered_up, delivered_down, settled}
-use Rattle.inspect_world.specs.Fold.{folded, joined}
+use Rattle.inspect_world.specs.Fold.{folded, asks_joined}
 use Rattle.page_forms.specs.Texts.{PageHasTexts}
 use Rattle.back_end.specs.States.{view_of}
 use Rattle.back_end.specs.Steps.{Turn, acts, loads}
@@ -24,7 +24,7 @@ use Rattle.inspect_world.specs.ShownPauses.{pauses_in}
 use Rattle.front_mirror.specs.Front.{seen_pause}
 use Rattle.back_end.specs.Laws.{IsTurn, Restores}
 use Rattle.inspect_world.specs.Fits.{join, most_bytes, most_frames, IsBare, IsPlainFrame, IsNextTurn, kept_styles, Fits}
-use Rattle.inspect_world.specs.ShownReplies.{told_of, replies_in}
+use Rattle.inspect_world.specs.ShownReplies.{reply_shown, replies_in}
 use Rattle.inspect_world.specs.Costs.{lines_cost}
 use Rattle.inspect_world.specs.Scripts.{loaded_world, after_lines}
 use Rattle.replay_script.specs.Sound.{CanSend}
@@ -89,9 +89,9 @@ DeliveriesFit = (w : World RunState) (n : ℕ) → Fits w → Fits (delivered_up
 -- replies to fetches are not kept.
 pub record ShowsAll (w : World RunState) : Type 0 where
   pub front : FrontValue
-  pub is_fold : folded take_frame (joined join (first_value []) (frames_of w.up.given).whole) (frames_of w.down.given).whole ≡ Ok front
+  pub is_fold : folded take_frame (asks_joined join (first_value []) (frames_of w.up.given).whole) (frames_of w.down.given).whole ≡ Ok front
   pub shows : Has front (view_of w.state.back)
-  pub told : All IsPlainFrame (frames_of w.up.given).whole → map told_of front.replies ≡ replies_in w.down.given
+  pub told : All IsPlainFrame (frames_of w.up.given).whole → map reply_shown front.replies ≡ replies_in w.down.given
   pub pauses : front.pauses ≡ map seen_pause (pauses_in w.down.given)
   pub styles : map kept_styles front.matched ≡ w.state.styles
   pub waits : front.asks ≡ []

@@ -26,8 +26,8 @@ replies_among [] = []
 replies_among (frame ∷ frames) = replies_in_frame frame (down_of frame) ++ replies_among frames
 
 -- a reply that a front end has kept
-abbrev pub told_of : Kept → ShownReply
-told_of k = record { id = k.id; text = k.text }
+abbrev pub reply_shown : Kept → ShownReply
+reply_shown k = record { id = k.id; text = k.text }
 
 -- the replies among the whole frames of these bytes
 abbrev pub replies_in : List ℕ → List ShownReply

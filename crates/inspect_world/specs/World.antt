@@ -3,7 +3,7 @@
 use Rattle.std.specs.Prelude.{ℕ, ◌+◌, List, [], ◌∷◌, ◌++◌, length}
 use Rattle.pipe_frames.specs.Frames.{framed}
 use Rattle.back_end.specs.Steps.{Stepped}
-use Rattle.inspect_world.specs.Stream.{Stream, no_stream, put, passed, arriving}
+use Rattle.inspect_world.specs.Stream.{Stream, no_stream, put_last, passed, arriving}
 
 -- What a run has spent: how many asks, how many fetches and how many other frames the front end has sent, how many steps the
 -- script itself has made, and how many edits the asks may have come to.
@@ -65,7 +65,7 @@ steps step state (frame ∷ frames) =
 
 -- the front end sends a frame, which is counted by `more`
 abbrev pub sent_up : {S : Type 0} → List ℕ → (Spent → Spent) → World S → World S
-sent_up text more w = record { state = w.state; up = put (framed text) w.up; down = w.down; spent = more w.spent; told = w.told }
+sent_up text more w = record { state = w.state; up = put_last (framed text) w.up; down = w.down; spent = more w.spent; told = w.told }
 
 -- the front end sends an ask, which may come to so many edits
 abbrev pub ask_sent : {S : Type 0} → ℕ → List ℕ → World S → World S
@@ -79,13 +79,13 @@ raw text w = sent_up text one_raw w
 abbrev pub turned : {S X : Type 0} → (X → S → Stepped S) → X → World S → World S
 turned act x w =
     let done = act x w.state in
-    record { state = done.state; up = w.up; down = put done.sent w.down; spent = one_turn w.spent; told = w.told }
+    record { state = done.state; up = w.up; down = put_last done.sent w.down; spent = one_turn w.spent; told = w.told }
 
 -- the state answers frames that have come up whole
 abbrev pub answered : {S : Type 0} → (S → List ℕ → Stepped S) → List (List ℕ) → World S → World S
 answered step frames w =
     let done = steps step w.state frames in
-    record { state = done.state; up = w.up; down = put done.sent w.down; spent = w.spent; told = w.told }
+    record { state = done.state; up = w.up; down = put_last done.sent w.down; spent = w.spent; told = w.told }
 
 -- n bytes are given up, or as many as are there; the frames that become whole are still to be answered
 abbrev pub given_up : {S : Type 0} → ℕ → World S → World S
