@@ -66,7 +66,7 @@ use Rattle.inspect_replay.specs.declared.ends.Ends.{Ends}
 use Rattle.inspect_replay.specs.declared.stop.Stop.{Stop}
 use Rattle.inspect_replay.specs.Runs.{InRun, InPlay, Spends, Steps, Refreshes, ends_of}
 use Rattle.inspect_replay.specs.Says.{Phase, untouched, reading, underway, ended, anywhen, Lie, Counts, PartRose, Says, says, status_of}
-use Rattle.inspect_replay.specs.Moments.{moment, scene}
+use Rattle.inspect_replay.specs.Moments.{moment, passage, scene}
 use Rattle.inspect_replay.specs.Stops.{AmidRun, two_counts, HasStopCause, GoesWell}
 use Rattle.inspect_replay.specs.Answers.{Absent, AtEnd, InRunOnly, TookAt, RunTells, RunTook, Prints}
 use Rattle.inspect_replay.specs.Prints.{CarriesOut, NumberedLine, numbered_line, Closes}
@@ -136,7 +136,7 @@ pub plays : {T : Type 0} (result : Result T Stop) (honest honest1 : Type 0) (up 
     → IsLater line → ((v : World RunState) → f v ≡ fresh_line front_fetcher line v)
     → ((v : World RunState) → (fresh_line front_fetcher line v).told ≡ v.told)
     → ((w : World RunState) → (after_line line w).told ≡ w.told)
-    → Spends (line_cost line) (moment honest up down e) (moment honest1 up1 down1 e1) result f
+    → Spends (line_cost line) (passage (moment honest up down e) (moment honest1 up1 down1 e1)) result f
     → (up0 down0 : Pipe) (more : ℕ) (w : World RunState) → InPlay honest up0 down0 up down (more + line_cost line) w e
     → GoesWell result × OnOk result (InPlay honest1 up0 down0 up1 down1 more (after_line line w) e1)
 plays result honest honest1 up down up1 down1 e e1 f line later goes told told1 spends = λ up0 down0 more w play.
@@ -159,7 +159,7 @@ pub spend-carries : (result : Result (Unit {0}) Stop) (honest honest1 : Type 0) 
     → ((v : World RunState) → (fresh_line front_fetcher move v).told ≡ v.told)
     → ((w : World RunState) → (after_line move w).told ≡ w.told)
     → ((w : World RunState) → [] ≡ line_text number move w) → form ≡ move
-    → Spends (line_cost move) (moment honest up down e) (moment honest1 up1 down1 e1) result f
+    → Spends (line_cost move) (passage (moment honest up down e) (moment honest1 up1 down1 e1)) result f
     → CarriesOut (scene (moment honest up down e) taken) (scene (moment honest1 up1 down1 e1) taken) (numbered_line number form) result
 spend-carries result honest honest1 up down up1 down1 taken e e1 f number move form later goes told told1 silent is spends =
     subst (λ line. CarriesOut (scene (moment honest up down e) taken) (scene (moment honest1 up1 down1 e1) taken)
@@ -188,17 +188,17 @@ move-carries result honest honest1 up down up1 down1 taken e e1 f number move fo
 -- a settle with its fetches may be a line's
 pub settles-spend : {T : Type 0} (result : Result T Stop) (honest honest1 : Type 0) (up down up1 down1 : Pipe) (e e1 : Ends)
     → Refreshes (moment honest up down e) (moment honest1 up1 down1 e1) result
-    → Spends least_line (moment honest up down e) (moment honest1 up1 down1 e1) result (refreshes front_fetcher)
+    → Spends least_line (passage (moment honest up down e) (moment honest1 up1 down1 e1)) result (refreshes front_fetcher)
 settles-spend result honest honest1 up down up1 down1 e e1 settles = λ up0 down0 w few run. settles up0 down0 w
     (left-none w.spent least_line few) run
 
 -- a text that is sent is the line's
 pub raw-spends : (result : Result (Unit {0}) Stop) (honest honest1 : Type 0) (up down up1 down1 : Pipe) (e e1 : Ends) (text text1 : List ℕ)
     → text1 ≡ text
-    → Spends least_line (moment honest up down e) (moment honest1 up1 down1 e1) result (λ w. raw text1 w)
-    → Spends least_line (moment honest up down e) (moment honest1 up1 down1 e1) result (λ w. raw text w)
+    → Spends least_line (passage (moment honest up down e) (moment honest1 up1 down1 e1)) result (λ w. raw text1 w)
+    → Spends least_line (passage (moment honest up down e) (moment honest1 up1 down1 e1)) result (λ w. raw text w)
 raw-spends result honest honest1 up down up1 down1 e e1 text text1 is spends =
-    subst (λ t. Spends least_line (moment honest up down e) (moment honest1 up1 down1 e1) result (λ w. raw t w)) is spends
+    subst (λ t. Spends least_line (passage (moment honest up down e) (moment honest1 up1 down1 e1)) result (λ w. raw t w)) is spends
 
 -- the same of equal lines
 pub same-carries : (result : Result (Unit {0}) Stop) (honest honest1 : Type 0) (up down up1 down1 : Pipe) (taken taken1 : Option (List ℕ))
@@ -246,7 +246,7 @@ sheets-are honest up0 down0 up down lines w e play =
 pub act-carries : (result : Result (Unit {0}) Stop) (fault : Option ActFault) (honest honest1 : Type 0) (up down up1 down1 : Pipe)
     (taken taken1 : Option (List ℕ)) (e e1 : Ends)
     (number : ℕ) (a : Act)
-    → Spends {T = Option ActFault} least_line (moment honest up down e) (moment honest1 up1 down1 e1) (Ok fault)
+    → Spends {T = Option ActFault} least_line (passage (moment honest up down e) (moment honest1 up1 down1 e1)) (Ok fault)
     (λ w. turned run_turn (acts a) w)
     → IsTurn (acts a) → fault ≡ act_fault a e.side.page e.side.sheets.entries → GoesWell result
     → OnOk result (Appends taken taken1 (act_text number fault)) → OnErr result (WrotePart taken taken1 (act_text number fault))
@@ -267,7 +267,7 @@ act-carries result fault honest honest1 up down up1 down1 taken taken1 e e1 numb
 -- or it was not made
 pub act-stops : (stop : Stop) (honest honest1 : Type 0) (up down up1 down1 : Pipe) (taken : Option (List ℕ)) (e e1 : Ends)
     (line : NumberedLine) (f : World RunState → World RunState)
-    → Spends {T = Option ActFault} least_line (moment honest up down e) (moment honest1 up1 down1 e1) (Err stop) f
+    → Spends {T = Option ActFault} least_line (passage (moment honest up down e) (moment honest1 up1 down1 e1)) (Err stop) f
     → CarriesOut {T = Unit {0}} (scene (moment honest up down e) taken) (scene (moment honest1 up1 down1 e1) taken) line (Err stop)
 act-stops stop honest honest1 up down up1 down1 taken e e1 line f spends = λ up0 down0 more w play.
     let cost : least_line ≤ line_cost line.form = cost-least line.form in

@@ -61,7 +61,7 @@ fn framed(alloc: Global, text: &str) -> Result<Vec<u8>, AllocError>
 }
 
 impl Ends {
-    ghost use Rattle.inspect_replay.specs.Stops.{StopRose};
+    ghost use Rattle.inspect_replay.specs.Stops.{StopRose, two_counts};
     ghost use Rattle.inspect_replay.specs.Runs.{Steps, Spends, TakesUp, AnswersAll, AnswersOne, SendsFetch, FetchesText, FetchesOne};
     ghost use Rattle.inspect_replay.specs.Runs.{FetchesAll, Refreshes};
     ghost use Rattle.inspect_replay.specs.Moments.{moment, passage};

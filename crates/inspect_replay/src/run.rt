@@ -17,7 +17,7 @@ ghost use Rattle.inspect_world.specs.World as world;
 ghost use Rattle.inspect_world.specs.Costs.{ask_cost, least_line, line_bytes};
 ghost use Rattle.inspect_world.specs.Scripts.{report, report_refused, rest_text, rest_refused, loaded_world, sends};
 ghost use Rattle.inspect_replay.specs.Runs.{Spends};
-ghost use Rattle.inspect_replay.specs.Stops.{StopRose, RunRose};
+ghost use Rattle.inspect_replay.specs.Stops.{StopRose, RunRose, two_counts};
 ghost use Rattle.inspect_replay.specs.Answers.{RunTells, RunTook};
 ghost use Rattle.inspect_replay.specs.Moments.{moment, scene, passage};
 ghost use Rattle.inspect_replay.specs.Followed.{KeepsFollowing, LineFollows, LineTells, LinesFollow, PrintedSome, ClosesShown, StopFolds};

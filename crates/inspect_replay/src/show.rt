@@ -11,7 +11,7 @@ ghost use Rattle.replay_script.specs.Script.{numbered_or, styles_missing};
 ghost use Rattle.inspect_replay.specs.Answers.{RunTook, RunTells};
 ghost use Rattle.inspect_world.specs.Scripts.{page_line, styles_shown};
 ghost use Rattle.inspect_world.specs.ShownReplies.{reply_shown, told_line, told_lines};
-ghost use Rattle.inspect_replay.specs.Stops.{StopRose, RunRose, GoesWell};
+ghost use Rattle.inspect_replay.specs.Stops.{StopRose, RunRose, two_counts, GoesWell};
 ghost use Rattle.inspect_replay.specs.Followed.{PrintedSome};
 
 use crate::page_lines::page_text;
