@@ -37,7 +37,7 @@ use Rattle.css_agent.specs.declared.edits.CssEdit.TheVariants as style
 use Rattle.css_agent.specs.EditLaws.{HasEditTexts, css_edit_name}
 use Rattle.dom_agent.specs.Laws.{session_outcome, CanTell, session_view as seen_by}
 use Rattle.dom_agent.specs.Keepers.{session_keeper}
-use Rattle.dom_agent.specs.Requests.{Outcome, shows_root, served, refused, named_node, state_after, moves_of}
+use Rattle.dom_agent.specs.Requests.{Outcome, shows_root, served, refused, known_node, named_serial, state_after, moves_of}
 use Rattle.dom_agent.proofs.RepliedLemmas.{description-keeps}
 use Rattle.dom_agent.proofs.OutcomeLemmas.{OutcomeGoes, either_ask, root-opened, asks-go, stays_session, draws_few}
 use Rattle.dom_agent.proofs.MoveLemmas.{steps_are_moves, replies_answer}
@@ -104,7 +104,8 @@ off-after (ask.DescribeNode id serial depth pierce) state is h k =
     let w : Session = state.client.session in
     ap (λ (z : Session). z.opened)
     (description-keeps (session_keeper (page_nodes state)) state.side.page.tree depth
-    (named_node (session_keeper (page_nodes state)) state.side.page.tree w id serial) w)
+    (known_node (session_keeper (page_nodes state)) state.side.page.tree w
+    (named_serial (session_keeper (page_nodes state)) w id serial)) w)
     ∙ is.off (still-off state.client.dom_on k)
 
 -- where an ask that was carried out leaves DOM off, it was off

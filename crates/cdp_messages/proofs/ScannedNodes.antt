@@ -14,13 +14,13 @@ use Rattle.node_tree.proofs.NodeLemmas.{width-nodes_of}
 use Rattle.cdp_messages.specs.declared.node_read.NodeParts.{NodeParts}
 use Rattle.cdp_messages.specs.declared.node_rules.Manner.TheVariants.{Pushed}
 use Rattle.cdp_messages.specs.declared.down.ReplyBody.TheVariants.{Root}
-use Rattle.cdp_messages.specs.Told.{Told, shown_children, told_tree}
-use Rattle.cdp_messages.specs.NodeObject.{NodeObject, node_fields, node_data, label_in, told_in, children_shown, fits_told, is_counted_row}
+use Rattle.cdp_messages.specs.Told.{Told, shown_children}
+use Rattle.cdp_messages.specs.NodeObject.{NodeObject, node_fields, node_data, told_in, children_shown, fits_told, is_counted_row}
 use Rattle.cdp_messages.specs.NodeObject.{agrees, tells}
 use Rattle.cdp_messages.specs.NodeData.{tree_items, tree_data, fits_nodes, fits_tree}
 use Rattle.cdp_messages.specs.Replies.{reply, message_data, message_in, body_data, down_of}
 use Rattle.cdp_messages.specs.Tokens.{data_tokens}
-use Rattle.cdp_messages.specs.Raw.{object_over, told_over, items_shown}
+use Rattle.cdp_messages.specs.Raw.{object_over, told_over, tree_over, items_shown}
 use Rattle.cdp_messages.proofs.Options.{both, both_parts}
 use Rattle.cdp_messages.proofs.Depths.{replies_are_shallow}
 use Rattle.cdp_messages.proofs.FrameBytes.{json_is}
@@ -67,13 +67,13 @@ told_true parts top o told shown e s holding =
     sym (e ∙ ap (λ w. agrees (object_over parts None) && fits_told Pushed top (unwrap_or w 0) (told_over parts (is_some w))) s) ∙ holding
 
 tree_is : (parts : NodeParts) (o : Option (Vec (Branch Told) Global)) (tree : Branch Told)
-    → tree ≡ told_tree (unwrap_or parts.parent 0) (unwrap_or parts.count 0) parts.id parts.serial (label_in (object_over parts None)) o
+    → tree ≡ tree_over parts o
     → tree ≡ record { row = told_in (over_trees parts o); children = shown_children o }
 tree_is parts o tree e = e ∙ finished_is (over_trees parts o) o (shown_there o)
 
 pub node_written : (parts : NodeParts) (top : Bool) (o : Option (Vec (Branch Told) Global)) (tree : Branch Told)
     → told_here parts top o ≡ true
-    → tree ≡ told_tree (unwrap_or parts.parent 0) (unwrap_or parts.count 0) parts.id parts.serial (label_in (object_over parts None)) o
+    → tree ≡ tree_over parts o
     → tree_data tree ≡ node_fields.spell (object_over parts (items_shown o))
 node_written parts top o tree t e =
     let x = over_trees parts o in
@@ -94,7 +94,7 @@ pub node_fits : (parts : NodeParts) (top : Bool) (o : Option (Vec (Branch Told) 
     → (is_counted parts.serial && is_counted parts.id && holds_of_some is_counted parts.count && holds_of_some is_counted parts.parent)
     ≡ true → told_here parts top o ≡ true
     → fits_nodes (shown_children o) ≡ true
-    → tree ≡ told_tree (unwrap_or parts.parent 0) (unwrap_or parts.count 0) parts.id parts.serial (label_in (object_over parts None)) o
+    → tree ≡ tree_over parts o
     → fits_tree top tree ≡ true
 node_fits parts top o tree counted t below e =
     let x = over_trees parts o in

@@ -18,7 +18,7 @@ use Rattle.node_tree.specs.Labels.{Pair, Label, is_element, holds}
 use Rattle.node_tree.specs.Nodes.{Branch, nodes_of}
 use Rattle.node_tree.specs.Seen.{is_opened}
 use Rattle.pipe_frames.specs.Frames.{framed}
-use Rattle.cdp_messages.specs.Told.{Told, told_tree}
+use Rattle.cdp_messages.specs.Told.{Told}
 use Rattle.cdp_messages.specs.NodeObject.{flat, attribute_list, type_number, node_name, local_name, only_if, node_data, node_members}
 use Rattle.cdp_messages.specs.NodeObject.{node_fields, node_object_with}
 use Rattle.cdp_messages.specs.NodeData.{tree_items, tree_data}
@@ -29,7 +29,7 @@ use Rattle.cdp_messages.specs.NodeWrites.{closing_tokens}
 use Rattle.cdp_messages.specs.declared.event_names.EventName.TheVariants.{ChildNodeInserted, SetChildNodes}
 use Rattle.cdp_messages.specs.declared.node_writer.NodeMessage.{NodeMessage}
 use Rattle.cdp_messages.specs.declared.node_writer.NodeMessage.TheVariants.{Root, Node, Children, Inserted}
-use Rattle.cdp_messages.proofs.Written.{written_items, tree_written}
+use Rattle.cdp_messages.proofs.Written.{told_tree, written_items, tree_written}
 
 -- ---- one call after another
 

@@ -15,7 +15,7 @@ use Rattle.node_tree.specs.Labels.{holds}
 use Rattle.node_tree.specs.Nodes.{Nodes, none, node, Branch, nodes_of, beside}
 use Rattle.node_tree.proofs.NodeLemmas.{nodes_of-append, beside_assoc}
 use Rattle.cdp_messages.specs.declared.node_rules.Manner.{Manner}
-use Rattle.cdp_messages.specs.Told.{Told, hold_of, shown_children, told_tree}
+use Rattle.cdp_messages.specs.Told.{Told, hold_of, shown_children}
 use Rattle.cdp_messages.specs.declared.down.DownErr.{DownErr}
 use Rattle.cdp_messages.specs.declared.down.DownErr.TheVariants.{NotMessage, Memory}
 use Rattle.cdp_messages.specs.Answers.{GivesMessage}
@@ -24,6 +24,7 @@ use Rattle.cdp_messages.specs.NodeObject.{told_in, tells}
 use Rattle.cdp_messages.specs.NodeData.{over, tree_before, tree_told, children_told, trees_of}
 use Rattle.cdp_messages.proofs.NodeObjects.{fields_lawful}
 use Rattle.cdp_messages.proofs.NodeTrees.{trees_of_some, children_of-members, object_inside}
+use Rattle.cdp_messages.proofs.Written.{told_tree}
 
 -- a node by its fields and its children
 pub tree_of-read : (m : Manner) (top : Bool) (d : Data) (o : NodeObject) → node_fields.reads d ≡ Some o

@@ -4,9 +4,21 @@ use Rattle.serde_json.specs.Data.{Items}
 use Rattle.node_tree.specs.Labels.{Label, holds}
 use Rattle.node_tree.specs.Nodes.{Branch, nodes_of}
 use Rattle.node_tree.specs.Seen.{is_opened}
-use Rattle.cdp_messages.specs.Told.{Told, hold_of, told_tree}
+use Rattle.cdp_messages.specs.Told.{Told, hold_of, shown_children}
 use Rattle.cdp_messages.specs.NodeObject.{node_fields, only_if, node_object_with}
 use Rattle.cdp_messages.specs.NodeData.{tree_items, tree_data}
+
+-- a tree by its fields
+abbrev pub told_tree : ℕ → ℕ → ℕ → ℕ → Label → Option (Vec (Branch Told) Global) → Branch Told
+told_tree parent count id serial label o =
+    record {
+      row = record {
+        parent = parent;
+        count = count;
+        seen = record { id = id; serial = serial; label = label; hold = hold_of (is_some o) (holds label.kind) count };
+      };
+      children = shown_children o;
+    }
 
 hidden : {A : Type 0} (container : Bool) (count : ℕ) (x : A) → None ≡ only_if (is_opened (hold_of false container count)) x
 hidden true count x = refl

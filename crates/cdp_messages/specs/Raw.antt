@@ -1,5 +1,5 @@
 -- The fields of a node's object as code holds them.
-use Rattle.std.specs.Prelude.{ℕ, List, [], ◌∷◌, ◌++◌, codes, Bool, cond, Option, Some, None, option_map, unwrap_or, Vec}
+use Rattle.std.specs.Prelude.{ℕ, List, [], ◌∷◌, ◌++◌, codes, Bool, cond, Option, Some, None, option_map, is_some, unwrap_or, Vec}
 use Rattle.std.specs.declared.alloc.Global.{Global}
 use Rattle.json.specs.Token.{Token, end_object}
 use Rattle.serde_json.specs.Data.{Items}
@@ -10,7 +10,7 @@ use Rattle.node_tree.specs.Nodes.{Branch, nodes_of}
 use Rattle.cdp_messages.specs.declared.node_read.NodeParts.{NodeParts}
 use Rattle.cdp_messages.specs.declared.node_read.RawNode.{RawNode}
 use Rattle.cdp_messages.specs.declared.node_read.Behind.{Behind}
-use Rattle.cdp_messages.specs.Told.{Told, hold_of}
+use Rattle.cdp_messages.specs.Told.{Told, hold_of, shown_children}
 use Rattle.cdp_messages.specs.NodeObject.{NodeObject, LastFields, node_type, label_in}
 use Rattle.cdp_messages.specs.NodeData.{tree_items}
 use Rattle.cdp_messages.specs.Tokens.{field_tokens}
@@ -42,6 +42,10 @@ told_over r shown = record {
     hold = hold_of shown (holds r.kind) (unwrap_or r.count 0);
   };
 }
+
+-- the tree that the fields tell with these children, which are shown where there are some
+abbrev pub tree_over : NodeParts → Option (Vec (Branch Told) Global) → Branch Told
+tree_over r children = record { row = told_over r (is_some children); children = shown_children children }
 
 -- the fields of a node whose last ones were read together
 abbrev pub object_behind : Option (List Pair) → ℕ → Option ℕ → Behind → NodeObject

@@ -1,9 +1,8 @@
 -- A node as a message tells it: what is shown of it, beside the id of its parent.
-use Rattle.std.specs.Prelude.{◌≡◌, ℕ, Bool, cond, Option, Some, None, is_some, Vec, refl}
+use Rattle.std.specs.Prelude.{◌≡◌, ℕ, Bool, cond, Option, Some, None, Vec, refl}
 use Rattle.std.specs.declared.alloc.Global.{Global}
 use Rattle.std.specs.Coded.{Coded, code_by, coded×, coded_ℕ}
 use Rattle.node_tree.specs.Nodes.{Nodes, none, node, Branch, nodes_of, width}
-use Rattle.node_tree.specs.Labels.{Label, holds}
 use Rattle.node_tree.specs.Seen.{Hold, leaf, counted, opened, Seen, coded_seen}
 
 -- `parent` is 0 where the node has none in the message; `count` is the number of children, 0 for a leaf.
@@ -25,18 +24,6 @@ hold_of shown container count = cond shown opened (cond container (counted count
 abbrev pub shown_children : Option (Vec (Branch Told) Global) → Nodes Told
 shown_children None = none
 shown_children (Some trees) = nodes_of trees.items
-
--- a tree by its fields
-abbrev pub told_tree : ℕ → ℕ → ℕ → ℕ → Label → Option (Vec (Branch Told) Global) → Branch Told
-told_tree parent count id serial label o =
-    record {
-      row = record {
-        parent = parent;
-        count = count;
-        seen = record { id = id; serial = serial; label = label; hold = hold_of (is_some o) (holds label.kind) count };
-      };
-      children = shown_children o;
-    }
 
 -- ---- from told to shown, and back
 

@@ -178,10 +178,9 @@ impl<'a> RawNode<'a> {
 
 impl<'a> NodeParts<'a> {
     ghost use Rattle.std.specs.Prelude.{◌&&◌, is_some, None};
-    ghost use Rattle.node_tree.specs.Labels.{is_element, holds};
-    ghost use Rattle.cdp_messages.specs.Told.{told_tree};
+    ghost use Rattle.node_tree.specs.Labels.{is_element};
     ghost use Rattle.cdp_messages.specs.NodeObject.{name_in, label_in, agrees, fits_place, fits_described, fits_told};
-    ghost use Rattle.cdp_messages.specs.Raw.{object_over, told_over};
+    ghost use Rattle.cdp_messages.specs.Raw.{object_over, told_over, tree_over};
 
     // The name of the node that is told.
     fn label_name(&self) -> &'a str
@@ -286,9 +285,7 @@ impl<'a> NodeParts<'a> {
         alloc: Global,
         children: Option<Vec<NodeTree>>,
     ) -> Result<NodeTree, AllocError>
-        ensures { IfOk result (λ tree. tree ≡ told_tree (unwrap_or self.entry.parent 0)
-            (unwrap_or self.entry.count 0) self.entry.id self.entry.serial
-            (label_in (object_over self.entry None)) children) }
+        ensures { IfOk result (λ tree. tree ≡ tree_over self.entry children) }
     {
         let name = Text::copied(alloc, self.label_name())?;
         let value = Text::copied(alloc, self.value)?;
@@ -307,9 +304,8 @@ impl<'a> NodeParts<'a> {
 }
 
 impl<'a> RawNode<'a> {
-    ghost use Rattle.cdp_messages.specs.Told.{told_tree};
-    ghost use Rattle.cdp_messages.specs.NodeObject.{label_in, tells};
-    ghost use Rattle.cdp_messages.specs.Raw.{object_in};
+    ghost use Rattle.cdp_messages.specs.NodeObject.{tells};
+    ghost use Rattle.cdp_messages.specs.Raw.{object_in, tree_over};
 
     fn tells(&self, alloc: Global, manner: Manner, top: bool) -> Result<bool, AllocError>
         ensures { IfOk result (λ b. b ≡ tells manner top (object_in self.now)) }
@@ -324,9 +320,7 @@ impl<'a> RawNode<'a> {
         alloc: Global,
         children: Option<Vec<NodeTree>>,
     ) -> Result<NodeTree, AllocError>
-        ensures { IfOk result (λ tree. tree ≡ told_tree (unwrap_or self.entry.parts.parent 0)
-            (unwrap_or self.entry.parts.count 0) self.entry.parts.id self.entry.parts.serial
-            (label_in (object_in self.entry)) children) }
+        ensures { IfOk result (λ tree. tree ≡ tree_over self.entry.parts children) }
     {
         self.parts.finished(alloc, children)
     }

@@ -22,7 +22,7 @@ use Rattle.sheet_reader.specs.Forms.{range, RuleForm}
 use Rattle.sheet_reader.specs.Parts.{PartForm, passed as passed_part, at_rule, qualified, text_end, semicolon, block, part_pieces, parts}
 use Rattle.sheet_reader.specs.Declarations as body
 use Rattle.sheet_reader.specs.Declarations.{ItemForm, items_after, item_pieces, is_custom, is_important, plain_value, name_by, property}
-use Rattle.sheet_reader.specs.Declarations.{property_by, declared_by, declared_in, declaration_of, holds_bad, item_property, properties_in}
+use Rattle.sheet_reader.specs.Declarations.{unless_empty, declared_by, declared_in, declaration_of, holds_bad, item_property, properties_in}
 use Rattle.sheet_reader.specs.Declarations.{declarations, style_of}
 use Rattle.sheet_reader.specs.Sheets.{body_end, style_rule, rule_of, rules_in, sheet_of}
 use Rattle.sheet_reader.specs.Grammar.{AreParts, AreItems}
@@ -122,7 +122,7 @@ words-named text (name ∷ colon ∷ value) whole p utf8 cut e =
     let important = is_important text value in
     let plain = plain_value important value in
     let own = name_by (word_value text name) in
-    let a = passed_test (is_mark 58 colon.kind) (property_by own colon important plain whole) p e in
+    let a = passed_test (is_mark 58 colon.kind) (unless_empty plain (property own colon important plain whole)) p e in
     let b = failed_test (is_over plain && not (is_custom own)) (Some (property own colon important plain whole)) p a.1 in
     let same = some_is {A = Property} (property own colon important plain whole) p b.1 in
     subst PropertyNamed same (name-utf8 (word_value text name) (value-utf8 text name utf8 cut.0))

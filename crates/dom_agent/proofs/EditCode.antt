@@ -25,7 +25,7 @@ use Rattle.node_binding.specs.Bindings.{BindingValue, opened_in, id_in, with_bou
 use Rattle.pipe_frames.specs.Frames.{framed}
 use Rattle.cdp_messages.specs.Moves.{inserts, removes, counts, Move, change, frames_of_moves}
 use Rattle.dom_agent.specs.Keepers.{Keeper, binding_keeper}
-use Rattle.dom_agent.specs.Edits.{Edited, id_before, unopened, told_count, insertion, child_came, edited, event_frames}
+use Rattle.dom_agent.specs.Edits.{Edited, id_before, unopened, told_count, family, insertion, child_came, edited, event_frames}
 use Rattle.dom_agent.specs.EditLaws.{binding_edited}
 use Rattle.dom_agent.proofs.EditsShown as seen
 
@@ -71,7 +71,7 @@ pub came_sent : {E : Type 0} (r : Result (Unit {0}) E) (b : BindingValue) (paren
     (kids : Nodes PageRow) (out out2 : List ℕ) → above ≡ id_in b parent → id ≡ id_in b x.row.serial
     → previous ≡ id_before (id_in b) 0 x.row.serial kids
     → OnOk r (out2 ≡ out ++ frames_of_moves (change above (inserts previous (unopened id x)) ∷ []))
-    → (n : Nodes PageRow) → OnOk r (out2 ≡ out ++ frames_of_moves (insertion (binding_keeper n) parent x kids b ∷ []))
+    → (n : Nodes PageRow) → OnOk r (out2 ≡ out ++ frames_of_moves (insertion (binding_keeper n) (family parent x kids) b ∷ []))
 came_sent r b parent above id previous x kids out out2 above_is id_is previous_is sent n =
     subst (λ (m : Move). OnOk r (out2 ≡ out ++ frames_of_moves (m ∷ [])))
     (λ k. change (above_is k) (inserts (previous_is k) (unopened (id_is k) x))) sent
@@ -122,28 +122,28 @@ module _ (n : Nodes PageRow) (b : BindingValue) (parent : ℕ) (x : Branch PageR
   of_binding = binding_keeper n
 
   pub came_shut : opened_in b parent ≡ false
-      → child_came of_binding parent x kids b ≡ record { state = b; moves = told_count of_binding parent kids b }
+      → child_came of_binding (family parent x kids) b ≡ record { state = b; moves = told_count of_binding parent kids b }
   came_shut shut = ap (λ v. cond v
-      (record { state = with_bound x.row.serial b; moves = insertion of_binding parent x kids (with_bound x.row.serial b) ∷ [] })
+      (record { state = with_bound x.row.serial b; moves = insertion of_binding (family parent x kids) (with_bound x.row.serial b) ∷ [] })
       (record { state = b; moves = told_count of_binding parent kids b })) shut
 
   pub came_open : opened_in b parent ≡ true
-      → child_came of_binding parent x kids b
-      ≡ record { state = with_bound x.row.serial b; moves = insertion of_binding parent x kids (with_bound x.row.serial b) ∷ [] }
+      → child_came of_binding (family parent x kids) b
+      ≡ record { state = with_bound x.row.serial b; moves = insertion of_binding (family parent x kids) (with_bound x.row.serial b) ∷ [] }
   came_open is = ap (λ v. cond v
-      (record { state = with_bound x.row.serial b; moves = insertion of_binding parent x kids (with_bound x.row.serial b) ∷ [] })
+      (record { state = with_bound x.row.serial b; moves = insertion of_binding (family parent x kids) (with_bound x.row.serial b) ∷ [] })
       (record { state = b; moves = told_count of_binding parent kids b })) is
 
 pub inserted_sent : (n : Nodes PageRow) (b b2 : BindingValue) (parent serial : ℕ) (x y : Branch PageRow) (kids kids2 : Nodes PageRow)
     (out out2 : List ℕ) → y ≡ x → kids2 ≡ kids → serial ≡ y.row.serial → b2 ≡ with_bound serial b → opened_in b parent ≡ true
-    → out2 ≡ out ++ frames_of_moves (insertion (binding_keeper n) parent y kids2 b2 ∷ [])
-    → out2 ≡ out ++ frames_of_moves (child_came (binding_keeper n) parent x kids b).moves
+    → out2 ≡ out ++ frames_of_moves (insertion (binding_keeper n) (family parent y kids2) b2 ∷ [])
+    → out2 ≡ out ++ frames_of_moves (child_came (binding_keeper n) (family parent x kids) b).moves
 inserted_sent n b b2 parent serial x y kids kids2 out out2 node_is kids_are serial_is bound is sent =
     let after_is : b2 ≡ with_bound x.row.serial b = bound ∙ ap (λ (s : ℕ). with_bound s b) serial_is ∙ ap
     (λ (t : Branch PageRow). with_bound t.row.serial b) node_is in
-    let moves : ◌≡◌ {A = List Move} (insertion (binding_keeper n) parent y kids2 b2 ∷ [])
-    (child_came (binding_keeper n) parent x kids b).moves =
-    (λ k. insertion (binding_keeper n) parent (node_is k) (kids_are k) (after_is k) ∷ []) ∙ sym
+    let moves : ◌≡◌ {A = List Move} (insertion (binding_keeper n) (family parent y kids2) b2 ∷ [])
+    (child_came (binding_keeper n) (family parent x kids) b).moves =
+    (λ k. insertion (binding_keeper n) (family parent (node_is k) (kids_are k)) (after_is k) ∷ []) ∙ sym
     (ap (λ (d : Edited BindingValue). d.moves) (came_open n b parent x kids is)) in
     sent ∙ ap (λ ms. out ++ frames_of_moves ms) moves
 
@@ -180,10 +180,10 @@ module _ (page : PageValue) (valid : IsValid page) (parent before : ℕ) (x : Br
       (subst (λ (s : ℕ). is_some (find_in s there.tree) ≡ true) (sym is) (ap (λ (o : Option (Branch PageRow)). is_some o) found_child))
 
   pub came_same : (n : Nodes PageRow) (b : BindingValue) (serial : ℕ) → serial ≡ x.row.serial
-      → child_came (binding_keeper n) parent (node_at serial page2.tree) (children_at parent page2.tree) b
+      → child_came (binding_keeper n) (family parent (node_at serial page2.tree) (children_at parent page2.tree)) b
       ≡ edited (binding_keeper n) (Attach parent before x) page.tree b
   came_same n b serial is =
-      ap (λ (y : PageValue). child_came (binding_keeper n) parent (node_at serial y.tree) (children_at parent y.tree) b) after_is
-      ∙ ap (λ (s : ℕ). child_came (binding_keeper n) parent (node_at s there.tree) (children_at parent there.tree) b) is
-      ∙ ap (λ (o : Option (Branch PageRow)). child_came (binding_keeper n) parent (unwrap_or o there.tree)
-      (children_at parent there.tree) b) found_child
+      ap (λ (y : PageValue). child_came (binding_keeper n) (family parent (node_at serial y.tree) (children_at parent y.tree)) b) after_is
+      ∙ ap (λ (s : ℕ). child_came (binding_keeper n) (family parent (node_at s there.tree) (children_at parent there.tree)) b) is
+      ∙ ap (λ (o : Option (Branch PageRow)). child_came (binding_keeper n) (family parent (unwrap_or o there.tree)
+      (children_at parent there.tree)) b) found_child

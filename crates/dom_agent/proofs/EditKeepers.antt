@@ -29,7 +29,7 @@ use Rattle.node_binding.proofs.ChangedLemmas.{IsAlike, containers-live}
 use Rattle.node_binding.proofs.ChangesLemmas.{binds_child, passes_attach, forgets, passes_label}
 use Rattle.cdp_messages.specs.Moves.{Change, inserts, removes, Move, change}
 use Rattle.dom_agent.specs.Keepers.{session_keeper, binding_keeper}
-use Rattle.dom_agent.specs.Edits.{Edited, id_before, unopened, insertion}
+use Rattle.dom_agent.specs.Edits.{Edited, id_before, unopened, family, insertion}
 use Rattle.dom_agent.specs.EditLaws.{session_edited, binding_edited, EditKeepsBound, SameEditMoves}
 use Rattle.dom_agent.proofs.ShownLemmas.{is_root, seen-at}
 use Rattle.dom_agent.proofs.EditsShown as seen
@@ -179,8 +179,8 @@ module _ (page : PageValue) (valid : IsValid page) (parent before : ℕ) (x : Br
       let z : Session = attached x.row.serial w in
       let y : BindingValue = with_bound x.row.serial b in
       let kids : Nodes PageRow = children_at parent page2.tree in
-      Alike page2 (record { state = z; moves = insertion (session_keeper (alone page.tree)) parent x kids z ∷ [] })
-      (record { state = y; moves = insertion (binding_keeper (alone page.tree)) parent x kids y ∷ [] }))
+      Alike page2 (record { state = z; moves = insertion (session_keeper (alone page.tree)) (family parent x kids) z ∷ [] })
+      (record { state = y; moves = insertion (binding_keeper (alone page.tree)) (family parent x kids) y ∷ [] }))
   inserted_alike o pushed since b is for =
       let w : Session = session_of o pushed since in
       let z : Session = attached x.row.serial w in
@@ -215,8 +215,8 @@ module _ (page : PageValue) (valid : IsValid page) (parent before : ℕ) (x : Br
           → (let z : Session = attached x.row.serial (record { opened = opened; pushed = pushed; since = since }) in
           let y : BindingValue = with_bound x.row.serial b in
           let kids : Nodes PageRow = children_at parent page2.tree in
-          Alike page2 (record { state = z; moves = insertion (session_keeper (alone page.tree)) parent x kids z ∷ [] })
-          (record { state = y; moves = insertion (binding_keeper (alone page.tree)) parent x kids y ∷ [] }))
+          Alike page2 (record { state = z; moves = insertion (session_keeper (alone page.tree)) (family parent x kids) z ∷ [] })
+          (record { state = y; moves = insertion (binding_keeper (alone page.tree)) (family parent x kids) y ∷ [] }))
       inserted None for is = cc
       inserted (Some o) for is = inserted_alike o pushed since b is for
 

@@ -31,7 +31,8 @@ use Rattle.cdp_messages.specs.Moves.{root, replied, failed}
 use Rattle.dom_agent.specs.Keepers.{Keeper, session_keeper, binding_keeper}
 use Rattle.dom_agent.specs.Paths.{node_at_path}
 use Rattle.dom_agent.specs.Requests.{Opening, Showing, Progress, Pushes, Outcome, shows_root, served, refused, requested, pushing}
-use Rattle.dom_agent.specs.Requests.{all_opened, pushed as push_of, all_pushed, known_node, named_node, of_children, of_path, of_attributes}
+use Rattle.dom_agent.specs.Requests.{all_opened, pushed as push_of, all_pushed, known_node, named_serial, of_children, of_path}
+use Rattle.dom_agent.specs.Requests.{of_attributes}
 use Rattle.dom_agent.specs.Requests.{of_description, with_first, first_asked, all_asked, of_query, with_id, with_ids, state_after}
 use Rattle.dom_agent.specs.Requests.{opening_moves, moves_of}
 use Rattle.dom_agent.specs.Laws.{session_outcome, binding_outcome, StaysBound, SameMoves}
@@ -40,7 +41,6 @@ use Rattle.dom_agent.proofs.StepLemmas.{Goes, goes-pushed}
 use Rattle.dom_agent.proofs.OutcomeLemmas.{containers-page, known-found, root-opened}
 use Rattle.dom_agent.proofs.QueryLemmas.{known_query, first-there}
 use Rattle.dom_agent.specs.Queries.{Query, query_of, first_matching, all_matching}
-use Rattle.selectors.specs.Forms.{SelectorForm}
 use Rattle.select_match.specs.Matches.{list_matches}
 use Rattle.cdp_messages.specs.declared.command.Why.{Why}
 use Rattle.dom_agent.proofs.KnownLemmas.{opened_after, pushed-known, path-there}
@@ -337,7 +337,7 @@ module _ (page : PageValue) (valid : IsValid page) where
   description_alike depth w b stands (Some x) = (stands, refl, refl)
 
   same_named : (w : Session) (b : BindingValue) → Stands m w b → (id serial : Option ℕ)
-      → named_node binder page.tree b id serial ≡ named_node keeper page.tree w id serial
+      → known_node binder page.tree b (named_serial binder b id serial) ≡ known_node keeper page.tree w (named_serial keeper w id serial)
   same_named w b stands None serial = same_node w b serial
   same_named w b stands (Some id) serial = same_known w b stands id
 
@@ -350,9 +350,9 @@ module _ (page : PageValue) (valid : IsValid page) where
   first_alike None o pushed since b session stands there = (stands, refl, refl)
   first_alike (Some s) o pushed since b session stands there = push_alike s o pushed since b session stands (there s refl)
 
-  query_alike : (w : Session) (b : BindingValue) (asks : ℕ → List SelectorForm → Session → Outcome Session)
-      (others : ℕ → List SelectorForm → BindingValue → Outcome BindingValue) (q : Result Query Why)
-      → ((r : Query) → q ≡ Ok r → AlikeOutcomes m (asks r.root r.selectors w) (others r.root r.selectors b))
+  query_alike : (w : Session) (b : BindingValue) (asks : Query → Session → Outcome Session)
+      (others : Query → BindingValue → Outcome BindingValue) (q : Result Query Why)
+      → ((r : Query) → q ≡ Ok r → AlikeOutcomes m (asks r w) (others r b))
       → AlikeOutcomes m (of_query keeper page.tree asks q w) (of_query binder page.tree others q b)
   query_alike w b asks others (Err why) alike = refl
   query_alike w b asks others (Ok q) alike = alike q refl
@@ -417,7 +417,7 @@ module _ (page : PageValue) (valid : IsValid page) where
   outcomes_alike (DescribeNode id serial depth pierce) w b session stands =
       subst (λ (f : Option (Branch PageRow)). AlikeOutcomes m (session_outcome page (DescribeNode id serial depth pierce) w)
       (of_description binder page.tree depth f b)) (sym (same_named w b stands id serial))
-      (description_alike depth w b stands (named_node keeper page.tree w id serial))
+      (description_alike depth w b stands (known_node keeper page.tree w (named_serial keeper w id serial)))
 
 -- ---- laws
 

@@ -29,12 +29,12 @@ use Rattle.cdp_messages.specs.Laws.{answers, BodyHasUtf8, body_height}
 use Rattle.cdp_messages.specs.Replies.{fits_body}
 use Rattle.dom_agent.specs.Keepers.{Keeper, session_keeper}
 use Rattle.dom_agent.specs.Paths.{node_at_path}
-use Rattle.dom_agent.specs.Requests.{Outcome, shows_root, served, refused, Progress, Pushes, requested, known_node, named_node, of_children}
+use Rattle.dom_agent.specs.Requests.{Outcome, shows_root, served, refused, Progress, Pushes, requested, known_node, named_serial}
+use Rattle.dom_agent.specs.Requests.{of_children}
 use Rattle.dom_agent.specs.Requests.{of_path, of_attributes, of_description, only_replied, with_first, first_asked, all_asked, of_query}
 use Rattle.dom_agent.specs.Requests.{with_id, with_ids, all_pushed, pushed as push_of, state_after}
 use Rattle.dom_agent.specs.Described.{described}
 use Rattle.dom_agent.specs.Queries.{Query, query_of, first_matching, all_matching}
-use Rattle.selectors.specs.Forms.{SelectorForm}
 use Rattle.cdp_messages.specs.declared.command.Why.{Why}
 use Rattle.dom_agent.specs.Laws.{session_outcome, CanTell, StaysSession, DrawsFew}
 use Rattle.dom_agent.proofs.OpeningsLemmas.{AreContainers, requested-are}
@@ -235,7 +235,8 @@ module _ (page : PageValue) (valid : IsValid page) where
   named-found w None x e = cc
   named-found w (Some s) x e = (s, e)
 
-  named-there : (w : Session) (id serial : Option ℕ) (x : Branch PageRow) → named_node keeper page.tree w id serial ≡ Some x
+  named-there : (w : Session) (id serial : Option ℕ) (x : Branch PageRow)
+      → known_node keeper page.tree w (named_serial keeper w id serial) ≡ Some x
       → (s : ℕ) × (find row_serial s n ≡ Some x)
   named-there w None serial x e = named-found w serial x e
   named-there w (Some id) serial x e = named-found w (serial_at w n id) x e
@@ -273,11 +274,11 @@ module _ (page : PageValue) (valid : IsValid page) where
       (λ can. number_spells (NodeId 0) refl tt refl) (one 0)
   first-goes c one (Some s) o pushed since session = push-goes c one s o pushed since session
 
-  query-goes : (c : DomAsk) (w : Session) (asks : ℕ → List SelectorForm → Session → Outcome Session)
-      → ((s : ℕ) (l : List SelectorForm) → OutcomeGoes page c w (asks s l w)) → (q : Result Query Why)
+  query-goes : (c : DomAsk) (w : Session) (asks : Query → Session → Outcome Session)
+      → ((q : Query) → OutcomeGoes page c w (asks q w)) → (q : Result Query Why)
       → OutcomeGoes page c w (of_query keeper page.tree asks q w)
   query-goes c w asks go (Err why) = tt
-  query-goes c w asks go (Ok q) = go q.root q.selectors
+  query-goes c w asks go (Ok q) = go q
 
   first-queried : (id : ℕ) (text : List ℕ) (o : Option (ℕ → Bool)) (pushed : List ℕ) (since : ℕ)
       → IsSession n (record { opened = o; pushed = pushed; since = since })
@@ -286,7 +287,7 @@ module _ (page : PageValue) (valid : IsValid page) where
   first-queried id text (Some o) pushed since session =
       let w : Session = session_of o pushed since in
       query-goes (QuerySelector id text) w (first_asked keeper page.tree)
-      (λ s l. first-goes (QuerySelector id text) (λ k. refl) (first_matching l s page.tree) o pushed since session)
+      (λ q. first-goes (QuerySelector id text) (λ k. refl) (first_matching q.selectors q.root page.tree) o pushed since session)
       (query_of (known_node keeper page.tree w (serial_at w n id)) text)
 
   all-queried : (id : ℕ) (text : List ℕ) (o : Option (ℕ → Bool)) (pushed : List ℕ) (since : ℕ)
@@ -296,7 +297,7 @@ module _ (page : PageValue) (valid : IsValid page) where
   all-queried id text (Some o) pushed since session =
       let w : Session = session_of o pushed since in
       query-goes (QuerySelectorAll id text) w (all_asked keeper page.tree)
-      (λ s l. serials-go (QuerySelectorAll id text) (λ ids. refl) (all_matching l s page.tree) o pushed since session
+      (λ q. serials-go (QuerySelectorAll id text) (λ ids. refl) (all_matching q.selectors q.root page.tree) o pushed since session
       (root-opened o pushed since session)) (query_of (known_node keeper page.tree w (serial_at w n id)) text)
 
   -- each ask but that for the document
@@ -310,7 +311,8 @@ module _ (page : PageValue) (valid : IsValid page) where
   asks-go (GetAttributes id) other w session = attributes-go id w session (known_node keeper page.tree w (serial_at w n id))
       (named-found w (serial_at w n id))
   asks-go (DescribeNode id serial depth pierce) other w session =
-      description-goes id serial depth pierce w session (named_node keeper page.tree w id serial) (named-there w id serial)
+      description-goes id serial depth pierce w session (known_node keeper page.tree w (named_serial keeper w id serial))
+      (named-there w id serial)
 
 -- ---- laws
 

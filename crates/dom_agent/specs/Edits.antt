@@ -40,6 +40,16 @@ unopened id x = record {
   children = none;
 }
 
+-- a node that comes below a parent or goes from there, and the children that the parent has then
+pub record Family : Type 0 where
+  pub parent : ℕ
+  pub child : Branch PageRow
+  pub children : Nodes PageRow
+
+-- this child of the parent of that serial, which has these children
+abbrev pub family : ℕ → Branch PageRow → Nodes PageRow → Family
+family parent child children = record { parent = parent; child = child; children = children }
+
 module _ {S : Type 0} (k : Keeper S) where
   -- a change of a node, where it is known
   abbrev pub told_where_known : ℕ → Change → S → List Move
@@ -49,22 +59,24 @@ module _ {S : Type 0} (k : Keeper S) where
   abbrev pub told_count : ℕ → Nodes PageRow → S → List Move
   told_count serial children w = told_where_known serial (counts (width children)) w
 
-  -- that the opened node `parent` with these children has got x, unopened, behind the sibling before it
-  abbrev pub insertion : ℕ → Branch PageRow → Nodes PageRow → S → Move
-  insertion parent x children w =
-      change (k.id_of w parent) (inserts (id_before (k.id_of w) 0 x.row.serial children) (unopened (k.id_of w x.row.serial) x))
+  -- that the opened parent has got the child, unopened, behind the sibling before it
+  abbrev pub insertion : Family → S → Move
+  insertion f w =
+      let serial = f.child.row.serial in
+      change (k.id_of w f.parent) (inserts (id_before (k.id_of w) 0 serial f.children) (unopened (k.id_of w serial) f.child))
 
-  -- x was attached below the node `parent`, which has these children now: below an opened one it becomes known
-  abbrev pub child_came : ℕ → Branch PageRow → Nodes PageRow → S → Edited S
-  child_came parent x children w =
-      cond (k.is_open w parent) (let z = k.bound x.row.serial w in record { state = z; moves = insertion parent x children z ∷ [] })
-      (record { state = w; moves = told_count parent children w })
+  -- the child was attached: below an opened parent it becomes known
+  abbrev pub child_came : Family → S → Edited S
+  child_came f w =
+      cond (k.is_open w f.parent) (let z = k.bound f.child.row.serial w in record { state = z; moves = insertion f z ∷ [] })
+      (record { state = w; moves = told_count f.parent f.children w })
 
-  -- x was detached from the node `parent`, which has these children now: below an opened one it is known
-  abbrev pub child_gone : ℕ → Branch PageRow → Nodes PageRow → S → Edited S
-  child_gone parent x children w = record {
-    state = k.forgot x w;
-    moves = cond (k.is_open w parent) (change (k.id_of w parent) (removes (k.id_of w x.row.serial)) ∷ []) (told_count parent children w);
+  -- the child was detached: below an opened parent it was known
+  abbrev pub child_gone : Family → S → Edited S
+  child_gone f w = record {
+    state = k.forgot f.child w;
+    moves = cond (k.is_open w f.parent) (change (k.id_of w f.parent) (removes (k.id_of w f.child.row.serial)) ∷ [])
+        (told_count f.parent f.children w);
   }
 
   -- what an edit of that tree comes to
@@ -72,10 +84,10 @@ module _ {S : Type 0} (k : Keeper S) where
   edited (SetAttr serial name value) tree w = record { state = w; moves = told_where_known serial (sets name value) w }
   edited (DropAttr serial name) tree w = record { state = w; moves = told_where_known serial (drops name) w }
   edited (SetText serial value) tree w = record { state = w; moves = told_where_known serial (says value) w }
-  edited (Attach parent before x) tree w = child_came parent x (children_at parent (after_tree (Attach parent before x) tree)) w
+  edited (Attach parent before x) tree w = child_came (family parent x (children_at parent (after_tree (Attach parent before x) tree))) w
   edited (Detach serial) tree w =
       let parent = parent_at serial tree in
-      child_gone parent (node_at serial tree) (children_at parent (after_tree (Detach serial) tree)) w
+      child_gone (family parent (node_at serial tree) (children_at parent (after_tree (Detach serial) tree))) w
 
 -- ---- in code
 

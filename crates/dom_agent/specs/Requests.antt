@@ -16,7 +16,6 @@ use Rattle.cdp_messages.specs.declared.command.Why.TheVariants.{UnknownNode, Not
 use Rattle.cdp_messages.specs.declared.down.ReplyBody.{ReplyBody}
 use Rattle.cdp_messages.specs.declared.down.ReplyBody.TheVariants.{Nothing, Node, NodeId, NodeIds, Attributes}
 use Rattle.cdp_messages.specs.Moves.{Move, change, root, replied, failed, shows, frames_of_moves}
-use Rattle.selectors.specs.Forms.{SelectorForm}
 use Rattle.dom_agent.specs.Keepers.{Keeper}
 use Rattle.dom_agent.specs.Paths.{node_at_path}
 use Rattle.dom_agent.specs.Described.{described}
@@ -79,6 +78,11 @@ pub data Outcome (S : Type 0) : Type 0 where
 -- then further ones
 abbrev pub followed : {S : Type 0} → List Showing → Progress S → Progress S
 followed before later = record { state = later.state; shown = before ++ later.shown }
+
+-- the serial of the node that an id names, or else this serial
+abbrev pub named_serial : {S : Type 0} → Keeper S → S → Option ℕ → Option ℕ → Option ℕ
+named_serial k w (Some id) serial = k.serial_of w id
+named_serial k w None serial = serial
 
 module _ {S : Type 0} (k : Keeper S) (document : Branch PageRow) where
   -- of a container that was opened
@@ -149,27 +153,22 @@ module _ {S : Type 0} (k : Keeper S) (document : Branch PageRow) where
   with_first (Some s) w = with_id s (pushed s w)
 
   -- a query for one node
-  abbrev pub first_asked : ℕ → List SelectorForm → S → Outcome S
-  first_asked s selectors w = with_first (first_matching selectors s document) w
+  abbrev pub first_asked : Query → S → Outcome S
+  first_asked q w = with_first (first_matching q.selectors q.root document) w
 
   -- all that match, pushed in document order
-  abbrev pub all_asked : ℕ → List SelectorForm → S → Outcome S
-  all_asked s selectors w = with_ids (all_pushed (all_matching selectors s document) w)
+  abbrev pub all_asked : Query → S → Outcome S
+  all_asked q w = with_ids (all_pushed (all_matching q.selectors q.root document) w)
 
   -- a query that is not refused asks for some of what matches
-  abbrev pub of_query : (ℕ → List SelectorForm → S → Outcome S) → Result Query Why → S → Outcome S
+  abbrev pub of_query : (Query → S → Outcome S) → Result Query Why → S → Outcome S
   of_query asks (Err why) w = refused why
-  of_query asks (Ok q) w = asks q.root q.selectors w
+  of_query asks (Ok q) w = asks q w
 
   -- the attributes of the node x are asked for
   abbrev pub of_attributes : Option (Branch PageRow) → S → Outcome S
   of_attributes None w = refused UnknownNode
   of_attributes (Some x) w = cond (is_element x.row.label.kind) (only_replied (Attributes x.row.label.attributes) w) (refused NotElement)
-
-  -- the node that an id names, or else a serial
-  abbrev pub named_node : S → Option ℕ → Option ℕ → Option (Branch PageRow)
-  named_node w (Some id) serial = known_node w (k.serial_of w id)
-  named_node w None serial = known_node w serial
 
   -- the node x is to be described
   abbrev pub of_description : Option ℤ → Option (Branch PageRow) → S → Outcome S
@@ -185,7 +184,7 @@ module _ {S : Type 0} (k : Keeper S) (document : Branch PageRow) where
   outcome (QuerySelector id text) w = of_query first_asked (query_of (known_node w (k.serial_of w id)) text) w
   outcome (QuerySelectorAll id text) w = of_query all_asked (query_of (known_node w (k.serial_of w id)) text) w
   outcome (GetAttributes id) w = of_attributes (known_node w (k.serial_of w id)) w
-  outcome (DescribeNode id serial depth pierce) w = of_description depth (named_node w id serial) w
+  outcome (DescribeNode id serial depth pierce) w = of_description depth (known_node w (named_serial k w id serial)) w
 
 -- ---- what is kept, and what is sent
 

@@ -6,15 +6,15 @@ ghost use Rattle.page_tree.specs.Pages.{find_in};
 ghost use Rattle.page_tree.specs.Edits.{after, back_tree};
 ghost use Rattle.page_tree.specs.EditFaults.{first_fault, IsReady, RefusesEdit};
 ghost use Rattle.node_binding.specs.Openings.{IsDepth, levels_of};
-ghost use Rattle.node_binding.specs.Bindings.{empty_from, cleared, opened_in, id_in};
+ghost use Rattle.node_binding.specs.Bindings.{empty_from, cleared, id_in};
 ghost use Rattle.cdp_messages.specs.DomAsks.{fits_ask};
 ghost use Rattle.cdp_messages.specs.declared.dom_ask.DomAsk.TheVariants.{GetDocument, RequestChildNodes, PushByPath, PushBySerials};
 ghost use Rattle.cdp_messages.specs.declared.dom_ask.DomAsk.TheVariants.{QuerySelector, QuerySelectorAll, GetAttributes, DescribeNode};
 ghost use Rattle.cdp_messages.specs.Moves.{replied, failed, frames_of_moves};
 ghost use Rattle.dom_agent.specs.Keepers.{binding_keeper};
-ghost use Rattle.selectors.specs.Lists.{list_seen};
+ghost use Rattle.dom_agent.specs.Queries.{query_seen};
 ghost use Rattle.dom_agent.specs.Requests.{state_after, answer, pushed, all_pushed, with_id, with_ids, first_asked, all_asked, frames_told};
-ghost use Rattle.dom_agent.specs.Requests.{known_node, named_node};
+ghost use Rattle.dom_agent.specs.Requests.{known_node, named_serial};
 ghost use Rattle.dom_agent.specs.Laws.{binding_outcome};
 ghost use Rattle.dom_agent.specs.Edits.{OnFault};
 ghost use Rattle.dom_agent.specs.EditLaws.{binding_edited};
@@ -278,9 +278,9 @@ impl DomAgent {
         requires live { IsSome (find_in query.now.root page.now.tree) }
         requires room { self.old.next < 2 ^ 52 }
         ensures known { OnOk result (self.new ≡ state_after self.old
-            (first_asked (binding_keeper (alone page.now.tree)) page.now.tree query.now.root (list_seen query.now.selectors) self.old)) }
+            (first_asked (binding_keeper (alone page.now.tree)) page.now.tree (query_seen query.now) self.old)) }
         ensures sent { OnOk result (out.new.items ≡ out.old.items ++ answer id
-            (first_asked (binding_keeper (alone page.now.tree)) page.now.tree query.now.root (list_seen query.now.selectors) self.old)) }
+            (first_asked (binding_keeper (alone page.now.tree)) page.now.tree (query_seen query.now) self.old)) }
     {
         match first_match(&query.selectors, page, query.root) {
             Some(serial) => self.answer_pushed(page, id, serial, out),
@@ -319,9 +319,9 @@ impl DomAgent {
     ) -> Result<(), AllocError>
         requires live { IsSome (find_in query.now.root page.now.tree) }
         ensures known { OnOk result (self.new ≡ state_after self.old
-            (all_asked (binding_keeper (alone page.now.tree)) page.now.tree query.now.root (list_seen query.now.selectors) self.old)) }
+            (all_asked (binding_keeper (alone page.now.tree)) page.now.tree (query_seen query.now) self.old)) }
         ensures sent { OnOk result (out.new.items ≡ out.old.items ++ answer id
-            (all_asked (binding_keeper (alone page.now.tree)) page.now.tree query.now.root (list_seen query.now.selectors) self.old)) }
+            (all_asked (binding_keeper (alone page.now.tree)) page.now.tree (query_seen query.now) self.old)) }
     {
         let serials = all_matches(self.alloc, &query.selectors, page, query.root)?;
         self.answer_all_pushed(page, id, serials.as_slice(), out)
@@ -355,8 +355,8 @@ impl DomAgent {
         id: Option<u64>,
         serial: Option<u64>,
     ) -> Option<Node<'a>>
-        ensures { result
-            ≡ named_node (binding_keeper (alone page.now.tree)) page.now.tree self.now id serial }
+        ensures { result ≡ known_node (binding_keeper (alone page.now.tree)) page.now.tree self.now
+            (named_serial (binding_keeper (alone page.now.tree)) self.now id serial) }
     {
         match id {
             Some(id) => self.node_of(page, id),

@@ -1,14 +1,14 @@
 ghost use Rattle.std.specs.Prelude.{◌≡◌, ◌<◌, ◌^◌, ◌++◌, [], ◌∷◌, None, IsSome, IsOkAnd, IfOk, OnOk};
-ghost use Rattle.node_tree.specs.Nodes.{Nodes, alone};
+ghost use Rattle.node_tree.specs.Nodes.{Nodes};
 ghost use Rattle.node_tree.specs.Labels.{is_document};
-ghost use Rattle.page_tree.specs.Pages.{PageRow, find_in, node_at, parent_at};
-ghost use Rattle.page_tree.specs.Edits.{after, after_tree, back_tree, children_at};
+ghost use Rattle.page_tree.specs.Pages.{PageRow, find_in, node_at};
+ghost use Rattle.page_tree.specs.Edits.{after, back_tree, children_at};
 ghost use Rattle.page_tree.specs.EditFaults.{first_fault, CanAttach, IsReady, RefusesEdit};
-ghost use Rattle.page_tree.specs.declared.edits.TreeEdit.TheVariants.{SetAttr, DropAttr, SetText, Attach, Detach};
+ghost use Rattle.page_tree.specs.declared.edits.TreeEdit.TheVariants.{Attach, Detach};
 ghost use Rattle.node_binding.specs.Bindings.{id_in};
 ghost use Rattle.cdp_messages.specs.Moves.{sets, drops, says, frames_of_moves};
 ghost use Rattle.dom_agent.specs.Keepers.{binding_keeper};
-ghost use Rattle.dom_agent.specs.Edits.{id_before, told_where_known, told_count, insertion, child_came, child_gone, edited, event_frames};
+ghost use Rattle.dom_agent.specs.Edits.{id_before, told_where_known, told_count, family, insertion, child_came, edited, event_frames};
 ghost use Rattle.dom_agent.specs.Edits.{OnFault};
 
 use crate::told::tell_inserted;
@@ -145,7 +145,7 @@ fn tell_came(
     out: &mut Vec<u8>,
 ) -> Result<(), AllocError>
     ensures { (n : Nodes PageRow) → OnOk result (out.new.items ≡ out.old.items
-        ++ frames_of_moves (insertion (binding_keeper n) parent node.now children.now binding.now ∷ [])) }
+        ++ frames_of_moves (insertion (binding_keeper n) (family parent node.now children.now) binding.now ∷ [])) }
 {
     let above = binding.id_of(parent).unwrap_or(0);
     let id = binding.id_of(node.serial()).unwrap_or(0);
@@ -166,10 +166,11 @@ fn tell_child(
     requires child { IsSome (find_in serial page.now.tree) }
     requires room { binding.old.next < 2 ^ 52 }
     ensures known { (n : Nodes PageRow) → OnOk result (binding.new
-        ≡ (child_came (binding_keeper n) parent (node_at serial page.now.tree) (children_at parent page.now.tree) binding.old).state) }
+        ≡ (child_came (binding_keeper n) (family parent (node_at serial page.now.tree) (children_at parent page.now.tree))
+        binding.old).state) }
     ensures sent { (n : Nodes PageRow) → OnOk result (out.new.items ≡ out.old.items
-        ++ frames_of_moves (child_came (binding_keeper n) parent (node_at serial page.now.tree)
-        (children_at parent page.now.tree) binding.old).moves) }
+        ++ frames_of_moves (child_came (binding_keeper n)
+        (family parent (node_at serial page.now.tree) (children_at parent page.now.tree)) binding.old).moves) }
 {
     if !binding.is_opened(parent) {
         let event = count_of_known(binding, page, parent);

@@ -23,7 +23,8 @@ use Rattle.front_mirror.specs.declared.replies.Kept.{Kept}
 use Rattle.front_mirror.specs.declared.faults.FrontKind.TheVariants.{UnknownNode, IdTaken, UnknownSheet}
 use Rattle.front_mirror.specs.declared.faults.FrontKind.{FrontKind}
 use Rattle.front_mirror.specs.declared.faults.FrontFault.{FrontFault}
-use Rattle.front_mirror.specs.Front.{FrontValue, first_value, plain_ask, fetch_ask, ask_under, method_waiting, fetched_sheet, reply_kept}
+use Rattle.front_mirror.specs.Front.{FrontValue, reply_frame, first_value, plain_ask, fetch_ask, ask_under, method_waiting, fetched_sheet}
+use Rattle.front_mirror.specs.Front.{reply_kept}
 use Rattle.front_mirror.specs.Front.{unless_fetch, sheets_fetched, asks_without, root_fault, matched_told, with_matched, replied, refused}
 use Rattle.front_mirror.specs.Front.{told, halted, told_sheets, is_shown, ToldChange, told_change, change_fault, with_root, with_effect}
 use Rattle.front_mirror.specs.Front.{with_body, with_reply, with_fault, with_tree, at_spot, with_change, with_news, with_message}
@@ -123,23 +124,26 @@ kept_to id o frame good = unless_fetch (option_and_then (λ (x : Ask). x.sheet) 
 
 replied-joined : (v : FrontValue) (ask : Ask) (id : ℕ) (frame : List ℕ) (good : Bool) (tree : Nodes Seen) (m : List ℕ)
     → method_waiting id v.asks ≡ Some m
-    → replied (ask_joined v ask) id frame good tree ≡ ask_joined (replied v id frame good tree) ask
+    → replied (ask_joined v ask) (reply_frame id frame) good tree ≡ ask_joined (replied v (reply_frame id frame) good tree) ask
 replied-joined v ask id frame good tree m waits =
-    ap (λ (o : Option Ask). record (replied (ask_joined v ask) id frame good tree) { replies = v.replies ++ kept_to id o frame good })
+    ap (λ (o : Option Ask).
+    record (replied (ask_joined v ask) (reply_frame id frame) good tree) { replies = v.replies ++ kept_to id o frame good })
     (ask_under-more id v.asks ask m waits)
-    ∙ ap (λ (asks : List Ask). record (replied v id frame good tree) { asks = asks }) (without-more id v.asks ask m waits)
+    ∙ ap (λ (asks : List Ask). record (replied v (reply_frame id frame) good tree) { asks = asks }) (without-more id v.asks ask m waits)
 
 replied-more : (v w : FrontValue) (ask : Ask) (id : ℕ) (frame : List ℕ) (good : Bool) (tree : Nodes Seen) (m : List ℕ)
     → method_waiting id v.asks ≡ Some m
-    → taken_well (replied v id frame good tree) ≡ Ok w → taken_well (replied (ask_joined v ask) id frame good tree) ≡ Ok (ask_joined w ask)
+    → taken_well (replied v (reply_frame id frame) good tree) ≡ Ok w
+    → taken_well (replied (ask_joined v ask) (reply_frame id frame) good tree) ≡ Ok (ask_joined w ask)
 replied-more v w ask id frame good tree m waits e =
-    let same : replied v id frame good tree ≡ w = cc in
+    let same : replied v (reply_frame id frame) good tree ≡ w = cc in
     ap (λ (u : FrontValue). taken_well u) (replied-joined v ask id frame good tree m waits)
     ∙ ap (λ (u : FrontValue). taken_well (ask_joined u ask)) same
 
 with_root-more : (v w : FrontValue) (ask : Ask) (id : ℕ) (frame : List ℕ) (root : Branch Told) (m : List ℕ) (wrong : Option FrontKind)
     → method_waiting id v.asks ≡ Some m
-    → with_root v id frame root wrong ≡ Ok w → with_root (ask_joined v ask) id frame root wrong ≡ Ok (ask_joined w ask)
+    → with_root v (reply_frame id frame) root wrong ≡ Ok w
+    → with_root (ask_joined v ask) (reply_frame id frame) root wrong ≡ Ok (ask_joined w ask)
 with_root-more v w ask id frame root m None waits e = replied-more v w ask id frame true (seen_nodes (alone root)) m waits e
 with_root-more v w ask id frame root m (Some kind) waits e = cc
 
@@ -147,10 +151,10 @@ abbrev sheetless : FrontValue → FrontValue
 sheetless v = record v { sheets = [] }
 
 bare-more : (v w : FrontValue) (ask : Ask) (id : ℕ) (frame : List ℕ) (tree : Nodes Seen) (m : List ℕ) → method_waiting id v.asks ≡ Some m
-    → taken_well (sheetless (replied v id frame true tree)) ≡ Ok w
-    → taken_well (sheetless (replied (ask_joined v ask) id frame true tree)) ≡ Ok (ask_joined w ask)
+    → taken_well (sheetless (replied v (reply_frame id frame) true tree)) ≡ Ok w
+    → taken_well (sheetless (replied (ask_joined v ask) (reply_frame id frame) true tree)) ≡ Ok (ask_joined w ask)
 bare-more v w ask id frame tree m waits e =
-    let same : sheetless (replied v id frame true tree) ≡ w = cc in
+    let same : sheetless (replied v (reply_frame id frame) true tree) ≡ w = cc in
     ap (λ (u : FrontValue). taken_well (sheetless u)) (replied-joined v ask id frame true tree m waits)
     ∙ ap (λ (u : FrontValue). taken_well (ask_joined u ask)) same
 
@@ -159,19 +163,19 @@ abbrev freshened : FrontValue → Option ℕ → List ℕ → FrontValue
 freshened v o text = record v { sheets = sheets_fetched o text v.sheets }
 
 text-more : (v w : FrontValue) (ask : Ask) (id : ℕ) (frame text : List ℕ) (m : List ℕ) → method_waiting id v.asks ≡ Some m
-    → taken_well (freshened (replied v id frame true v.tree) (fetched_sheet id v.asks) text) ≡ Ok w
-    → taken_well (freshened (replied (ask_joined v ask) id frame true v.tree) (fetched_sheet id (v.asks ++ ask ∷ [])) text)
+    → taken_well (freshened (replied v (reply_frame id frame) true v.tree) (fetched_sheet id v.asks) text) ≡ Ok w
+    → taken_well (freshened (replied (ask_joined v ask) (reply_frame id frame) true v.tree) (fetched_sheet id (v.asks ++ ask ∷ [])) text)
     ≡ Ok (ask_joined w ask)
 text-more v w ask id frame text m waits e =
-    let same : freshened (replied v id frame true v.tree) (fetched_sheet id v.asks) text ≡ w = cc in
+    let same : freshened (replied v (reply_frame id frame) true v.tree) (fetched_sheet id v.asks) text ≡ w = cc in
     ap (λ (o : Option Ask). taken_well
-    (freshened (replied (ask_joined v ask) id frame true v.tree) (option_and_then (λ (x : Ask). x.sheet) o) text))
+    (freshened (replied (ask_joined v ask) (reply_frame id frame) true v.tree) (option_and_then (λ (x : Ask). x.sheet) o) text))
     (ask_under-more id v.asks ask m waits)
     ∙ ap (λ (u : FrontValue). taken_well (freshened u (fetched_sheet id v.asks) text)) (replied-joined v ask id frame true v.tree m waits)
     ∙ ap (λ (u : FrontValue). taken_well (ask_joined u ask)) same
 
 with_effect-more : (v w : FrontValue) (ask : Ask) (id : ℕ) (frame : List ℕ) (m : List ℕ) (x : Effect) → method_waiting id v.asks ≡ Some m
-    → with_effect v id frame x ≡ Ok w → with_effect (ask_joined v ask) id frame x ≡ Ok (ask_joined w ask)
+    → with_effect v (reply_frame id frame) x ≡ Ok w → with_effect (ask_joined v ask) (reply_frame id frame) x ≡ Ok (ask_joined w ask)
 with_effect-more v w ask id frame m (effect.Document tree) waits e = with_root-more v w ask id frame tree m (root_fault tree) waits e
 with_effect-more v w ask id frame m (effect.SheetText text) waits e = text-more v w ask id frame text m waits e
 with_effect-more v w ask id frame m effect.AllOff waits e = bare-more v w ask id frame none m waits e
@@ -180,26 +184,26 @@ with_effect-more v w ask id frame m effect.NothingElse waits e = replied-more v 
 
 with_body-more : (v w : FrontValue) (ask : Ask) (id : ℕ) (frame : List ℕ) (m : List ℕ) (body : Option ReplyBody)
     → method_waiting id v.asks ≡ Some m
-    → with_body v id frame m body ≡ Ok w → with_body (ask_joined v ask) id frame m body ≡ Ok (ask_joined w ask)
+    → with_body v (reply_frame id frame) m body ≡ Ok w → with_body (ask_joined v ask) (reply_frame id frame) m body ≡ Ok (ask_joined w ask)
 with_body-more v w ask id frame m None waits e = cc
 with_body-more v w ask id frame m (Some body) waits e = with_effect-more (with_matched v (matched_told id body)) w ask id frame m
     (effect_of m body) waits e
 
 with_reply-more : (v w : FrontValue) (ask : Ask) (id : ℕ) (frame : List ℕ) (result : Data) (o : Option (List ℕ))
     → method_waiting id v.asks ≡ o
-    → with_reply v id frame result o ≡ Ok w
-    → with_reply (ask_joined v ask) id frame result (method_waiting id (v.asks ++ ask ∷ [])) ≡ Ok (ask_joined w ask)
+    → with_reply v (reply_frame id frame) result o ≡ Ok w
+    → with_reply (ask_joined v ask) (reply_frame id frame) result (method_waiting id (v.asks ++ ask ∷ [])) ≡ Ok (ask_joined w ask)
 with_reply-more v w ask id frame result None waits e = cc
 with_reply-more v w ask id frame result (Some m) waits e =
-    ap (with_reply (ask_joined v ask) id frame result) (method_of-more id v.asks ask m waits)
+    ap (with_reply (ask_joined v ask) (reply_frame id frame) result) (method_of-more id v.asks ask m waits)
     ∙ with_body-more v w ask id frame m (result_of m result) waits e
 
 with_fault-more : (v w : FrontValue) (ask : Ask) (id : ℕ) (frame : List ℕ) (o : Option (List ℕ)) → method_waiting id v.asks ≡ o
-    → with_fault v id frame o ≡ Ok w
-    → with_fault (ask_joined v ask) id frame (method_waiting id (v.asks ++ ask ∷ [])) ≡ Ok (ask_joined w ask)
+    → with_fault v (reply_frame id frame) o ≡ Ok w
+    → with_fault (ask_joined v ask) (reply_frame id frame) (method_waiting id (v.asks ++ ask ∷ [])) ≡ Ok (ask_joined w ask)
 with_fault-more v w ask id frame None waits e = cc
 with_fault-more v w ask id frame (Some m) waits e =
-    ap (with_fault (ask_joined v ask) id frame) (method_of-more id v.asks ask m waits)
+    ap (with_fault (ask_joined v ask) (reply_frame id frame)) (method_of-more id v.asks ask m waits)
     ∙ replied-more v w ask id frame false v.tree m waits e
 
 told-more : (v w : FrontValue) (ask : Ask) (tree : Nodes Seen) → taken_well (told v tree) ≡ Ok w

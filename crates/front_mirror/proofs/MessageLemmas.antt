@@ -29,7 +29,8 @@ use Rattle.css_objects.specs.declared.rules.Matched.{Matched}
 use Rattle.front_mirror.specs.declared.replies.MatchedReply.{MatchedReply}
 use Rattle.front_mirror.specs.declared.edits.NodeEdit.TheVariants as edit
 use Rattle.front_mirror.specs.Edits.{fits_edit, fits_effect}
-use Rattle.front_mirror.specs.Front.{FrontValue, method_waiting, root_fault, matched_told, with_matched, replied, with_root, with_effect}
+use Rattle.front_mirror.specs.Front.{FrontValue, reply_frame, method_waiting, root_fault, matched_told, with_matched, replied, with_root}
+use Rattle.front_mirror.specs.Front.{with_effect}
 use Rattle.front_mirror.specs.Front.{with_body, with_reply, with_message, take_frame}
 use Rattle.front_mirror.proofs.BoolLemmas.{and_left, both}
 
@@ -135,36 +136,39 @@ pub record IsRead (v : FrontValue) (id : ℕ) (d : Data) (method : List ℕ) (b 
   pub result : result_of method d ≡ Some b
 
 reply_read : (v : FrontValue) (id : ℕ) (frame : List ℕ) (d : Data) (method : List ℕ) (b : ReplyBody) → IsRead v id d method b
-    → with_reply v id frame d (method_waiting id v.asks) ≡ with_effect (with_matched v (matched_told id b)) id frame (effect_of method b)
-reply_read v id frame d method b has = ap (with_reply v id frame d) has.waits ∙ ap (with_body v id frame method) has.result
+    → with_reply v (reply_frame id frame) d (method_waiting id v.asks)
+    ≡ with_effect (with_matched v (matched_told id b)) (reply_frame id frame) (effect_of method b)
+reply_read v id frame d method b has =
+    ap (with_reply v (reply_frame id frame) d) has.waits ∙ ap (with_body v (reply_frame id frame) method) has.result
 
 -- a result of matched styles is kept
 pub matched_taken : (v w : FrontValue) (id : ℕ) (frame : List ℕ) (d : Data) (method : List ℕ) (b : ReplyBody) (m : Matched)
     → IsRead v id d method b → b ≡ body.Matched m
-    → w ≡ replied (with_matched v (record { ask = id; matched = m } ∷ [])) id frame true v.tree
-    → with_reply v id frame d (method_waiting id v.asks) ≡ Ok w
+    → w ≡ replied (with_matched v (record { ask = id; matched = m } ∷ [])) (reply_frame id frame) true v.tree
+    → with_reply v (reply_frame id frame) d (method_waiting id v.asks) ≡ Ok w
 matched_taken v w id frame d method b m has is kept =
     reply_read v id frame d method b has
-    ∙ ap (λ (x : ReplyBody). with_effect (with_matched v (matched_told id x)) id frame (effect_of method x)) is
+    ∙ ap (λ (x : ReplyBody). with_effect (with_matched v (matched_told id x)) (reply_frame id frame) (effect_of method x)) is
     ∙ ap Ok (sym kept)
 
 -- any other result has its effect alone
 pub other_taken : (v : FrontValue) (id : ℕ) (frame : List ℕ) (d : Data) (method : List ℕ) (b : ReplyBody) (x : Effect)
     → IsRead v id d method b
     → ((m : Matched) → b ≡ body.Matched m → ⊥) → x ≡ effect_of method b
-    → with_reply v id frame d (method_waiting id v.asks) ≡ with_effect v id frame x
+    → with_reply v (reply_frame id frame) d (method_waiting id v.asks) ≡ with_effect v (reply_frame id frame) x
 other_taken v id frame d method b x has other is =
     reply_read v id frame d method b has
-    ∙ ap (λ (rs : List MatchedReply). with_effect (with_matched v rs) id frame (effect_of method b)) (untold id b other)
-    ∙ ap (λ (u : FrontValue). with_effect u id frame (effect_of method b)) (none_matched v)
-    ∙ ap (with_effect v id frame) (sym is)
+    ∙ ap (λ (rs : List MatchedReply). with_effect (with_matched v rs) (reply_frame id frame) (effect_of method b)) (untold id b other)
+    ∙ ap (λ (u : FrontValue). with_effect u (reply_frame id frame) (effect_of method b)) (none_matched v)
+    ∙ ap (with_effect v (reply_frame id frame)) (sym is)
 
 -- a document that an ask waits for
 pub document_taken : (v : FrontValue) (frame : List ℕ) (id : ℕ) (tree : Branch Told) (method : List ℕ)
     → down_of frame ≡ Some (reply id (body_data (body.Root tree))) → fits_tree true tree ≡ true
     → method_waiting id v.asks ≡ Some method → method ≡ codes "DOM.getDocument"
-    → take_frame v frame ≡ with_root v id frame tree (root_fault tree)
+    → take_frame v frame ≡ with_root v (reply_frame id frame) tree (root_fault tree)
 document_taken v frame id tree method told fits waits is =
-    ap (with_message v frame) told ∙ ap (with_reply v id frame (body_data (body.Root tree))) (waits ∙ ap Some is)
-    ∙ ap (with_body v id frame (codes "DOM.getDocument")) (results_are_read (codes "DOM.getDocument") (body.Root tree) refl fits)
-    ∙ ap (λ (u : FrontValue). with_root u id frame tree (root_fault tree)) (none_matched v)
+    ap (with_message v frame) told ∙ ap (with_reply v (reply_frame id frame) (body_data (body.Root tree))) (waits ∙ ap Some is)
+    ∙ ap (with_body v (reply_frame id frame) (codes "DOM.getDocument"))
+    (results_are_read (codes "DOM.getDocument") (body.Root tree) refl fits)
+    ∙ ap (λ (u : FrontValue). with_root u (reply_frame id frame) tree (root_fault tree)) (none_matched v)

@@ -36,7 +36,8 @@ use Rattle.front_mirror.specs.declared.faults.FrontKind.{FrontKind}
 use Rattle.front_mirror.specs.declared.faults.FrontKind.TheVariants.{UnknownNode, IdTaken, UnknownSheet}
 use Rattle.front_mirror.specs.declared.sheets.KnownSheet.{KnownSheet}
 use Rattle.front_mirror.specs.Sheets.{told_sheet, has_sheet, marked_old, without_sheet}
-use Rattle.front_mirror.specs.Front.{FrontValue, fetched_sheet, sheets_fetched, asks_without, matched_told, with_matched, replied, refused}
+use Rattle.front_mirror.specs.Front.{FrontValue, reply_frame, fetched_sheet, sheets_fetched, asks_without, matched_told, with_matched}
+use Rattle.front_mirror.specs.Front.{replied, refused}
 use Rattle.front_mirror.specs.Front.{told, told_sheets, with_sheet, halted, is_shown, with_root, with_effect, with_body, with_reply}
 use Rattle.front_mirror.specs.Front.{with_fault, with_message, take_frame, after_message, front_folded, fold_result}
 use Rattle.front_mirror.specs.Laws.{KnowsSheets, Has, IsAskOf, is_quiet, IsReplyAlone, IsOfSheet, IsTextAsked, Waits, IsAwaited}
@@ -136,12 +137,12 @@ reply_taken : (v : FrontValue) (id : ℕ) (body : ReplyBody) (method : List ℕ)
     → BodyHasUtf8 body → body_height body ≤ 61
     → IsAskOf id method v.asks → answers method body ≡ true
     → take_frame v (reply_text id body)
-    ≡ with_effect (with_matched v (matched_told id body)) id (reply_text id body) (effect_of method body)
+    ≡ with_effect (with_matched v (matched_told id body)) (reply_frame id (reply_text id body)) (effect_of method body)
 reply_taken v id body method counted fits texts levels waits is =
     ap (with_message v (reply_text id body))
     (replies_are_read id body counted fits (replies_are_shallow id body levels) (replies_are_utf8 id body counted fits texts))
-    ∙ ap (with_reply v id (reply_text id body) (body_data body)) waits
-    ∙ ap (with_body v id (reply_text id body) method) (results_are_read method body is fits)
+    ∙ ap (with_reply v (reply_frame id (reply_text id body)) (body_data body)) waits
+    ∙ ap (with_body v (reply_frame id (reply_text id body)) method) (results_are_read method body is fits)
 
 gives_root : (id : ℕ) (b : Branch Seen) (w : View) (v : FrontValue) → CanBeTold w → alone b ≡ w.tree → KnowsSheets v.sheets w.sheets
     → is_counted id ≡ true
@@ -153,11 +154,11 @@ gives_root id b w v after is knows counted waits =
     let levels : body_height body ≤ 61 = rw (height-told 0 (alone b)) can.view.levels in
     let same = with_matched v [] in
     record {
-      after = replied same id (reply_text id body) true (alone b);
+      after = replied same (reply_frame id (reply_text id body)) true (alone b);
       is_taken =
           reply_taken v id body (codes "DOM.getDocument") counted fits (texts-told 0 (alone b) can.texts) levels waits refl
-          ∙ ap (with_root same id (reply_text id body) (told_branch 0 b)) (root_fault-told b can.view)
-          ∙ ap (λ (tree : Nodes Seen). taken_well (replied same id (reply_text id body) true tree)) (seen-told 0 (alone b));
+          ∙ ap (with_root same (reply_frame id (reply_text id body)) (told_branch 0 b)) (root_fault-told b can.view)
+          ∙ ap (λ (tree : Nodes Seen). taken_well (replied same (reply_frame id (reply_text id body)) true tree)) (seen-told 0 (alone b));
       has = record { tree = is; sheets = knows };
       asks = refl;
       replies = refl;
@@ -167,7 +168,7 @@ gives_root id b w v after is knows counted waits =
     }
 
 quiet_stays : (v : FrontValue) (id : ℕ) (frame : List ℕ) (x : Effect) → is_quiet x ≡ true
-    → with_effect v id frame x ≡ Ok (replied v id frame true v.tree)
+    → with_effect v (reply_frame id frame) x ≡ Ok (replied v (reply_frame id frame) true v.tree)
 quiet_stays v id frame (effect.Document tree) e = absurd cc
 quiet_stays v id frame (effect.SheetText text) e = absurd cc
 quiet_stays v id frame effect.AllOff e = absurd cc
@@ -177,7 +178,7 @@ quiet_stays v id frame effect.NothingElse e = refl
 gives_reply : (id : ℕ) (body : ReplyBody) (w : View) (v : FrontValue) → IsPlainReply id body → IsReplyAlone id body v.asks → Has v w
     → IsTaken (move.replied id body) v w
 gives_reply id body w v plain is has = record {
-  after = replied (with_matched v (matched_told id body)) id (reply_text id body) true v.tree;
+  after = replied (with_matched v (matched_told id body)) (reply_frame id (reply_text id body)) true v.tree;
   is_taken =
       reply_taken v id body is.method plain.id_fits plain.fits plain.texts plain.levels is.waits is.answers
       ∙ quiet_stays (with_matched v (matched_told id body)) id (reply_text id body) (effect_of is.method body) is.quiet;
@@ -195,7 +196,7 @@ nothing_levels = omega arith
 gives_end : (id : ℕ) (w : View) (v : FrontValue) → none ≡ w.tree → w.sheets ≡ [] → is_counted id ≡ true
     → IsAskOf id (codes "DOM.disable") v.asks → IsTaken (move.all_off id) v w
 gives_end id w v is bare counted waits = record {
-  after = record (replied (with_matched v []) id (reply_text id Nothing) true none) { sheets = [] };
+  after = record (replied (with_matched v []) (reply_frame id (reply_text id Nothing)) true none) { sheets = [] };
   is_taken = reply_taken v id Nothing (codes "DOM.disable") counted refl tt nothing_levels waits refl;
   has = record { tree = is; sheets = subst (KnowsSheets []) (sym bare) tt };
   asks = refl;
@@ -208,7 +209,7 @@ gives_end id w v is bare counted waits = record {
 gives_sheets_end : (id : ℕ) (w : View) (v : FrontValue) → v.tree ≡ w.tree → w.sheets ≡ [] → is_counted id ≡ true
     → IsAskOf id (codes "CSS.disable") v.asks → IsTaken (move.sheets_off id) v w
 gives_sheets_end id w v is bare counted waits = record {
-  after = record (replied (with_matched v []) id (reply_text id Nothing) true v.tree) { sheets = [] };
+  after = record (replied (with_matched v []) (reply_frame id (reply_text id Nothing)) true v.tree) { sheets = [] };
   is_taken = reply_taken v id Nothing (codes "CSS.disable") counted refl tt nothing_levels waits refl;
   has = record { tree = is; sheets = subst (KnowsSheets []) (sym bare) tt };
   asks = refl;
@@ -234,11 +235,11 @@ gives_refusal r w v None no_id has fits waits = record {
   taken = refl;
 }
 gives_refusal r w v (Some id) has_id has fits waits = record {
-  after = replied v id (refused_text r) false v.tree;
+  after = replied v (reply_frame id (refused_text r)) false v.tree;
   is_taken =
       ap (with_message v (refused_text r)) (refusals_are_read r fits)
       ∙ ap (λ (o : Option ℕ). with_message v (refused_text r) (Some (fault o (code_of r.why) (refusal_words r.why)))) has_id
-      ∙ ap (with_fault v id (refused_text r)) waits.1;
+      ∙ ap (with_fault v (reply_frame id (refused_text r))) waits.1;
   has = record { tree = has.tree; sheets = has.sheets };
   asks = sym (ap (λ (o : Option ℕ). without_all (option_to_list o) v.asks) has_id);
   replies = sym (ap (λ (o : Option ℕ). v.replies ++ kept_fault o v.asks (refused_text r)) has_id);
@@ -341,7 +342,10 @@ gives_text : (id n : ℕ) (text : List ℕ) (u : View) (v : FrontValue) → CanB
     → IsTextAsked id n v.asks → Has v u → IsTaken (move.texted id n text) v u
 gives_text id n text u v can shown counted asked has =
     let frame = reply_text id (SheetText text) in record {
-      after = record (replied (with_matched v []) id frame true v.tree) { sheets = sheets_fetched (fetched_sheet id v.asks) text v.sheets };
+      after =
+          record (replied (with_matched v []) (reply_frame id frame) true v.tree) {
+            sheets = sheets_fetched (fetched_sheet id v.asks) text v.sheets;
+          };
       is_taken =
           reply_taken v id (SheetText text) (codes "CSS.getStyleSheetText") counted refl (shown_utf8 n text u.sheets can.sheets shown)
           (text_levels text) asked.waits refl;

@@ -188,10 +188,23 @@ abbrev pub sheets_fetched : Option ℕ → List ℕ → List KnownSheet → List
 sheets_fetched None text sheets = sheets
 sheets_fetched (Some n) text sheets = with_fetched n text sheets
 
--- the front after a reply to the ask of that id
-abbrev pub replied : FrontValue → ℕ → List ℕ → Bool → Nodes Seen → FrontValue
-replied v id frame good tree =
-    record v { tree = tree; asks = asks_without id v.asks; replies = v.replies ++ kept_reply id v.asks frame good; taken = v.taken + 1 }
+-- a frame that replies to the ask of that id
+pub record ReplyFrame : Type 0 where
+  pub id : ℕ
+  pub frame : List ℕ
+
+-- this frame, as a reply to the ask of that id
+abbrev pub reply_frame : ℕ → List ℕ → ReplyFrame
+reply_frame id frame = record { id = id; frame = frame }
+
+-- the front after a reply, which leads to this tree
+abbrev pub replied : FrontValue → ReplyFrame → Bool → Nodes Seen → FrontValue
+replied v r good tree = record v {
+  tree = tree;
+  asks = asks_without r.id v.asks;
+  replies = v.replies ++ kept_reply r.id v.asks r.frame good;
+  taken = v.taken + 1;
+}
 
 -- the front after an error reply that names no ask
 abbrev pub refused : FrontValue → List ℕ → FrontValue
@@ -202,18 +215,18 @@ abbrev pub told : FrontValue → Nodes Seen → FrontValue
 told v tree = record v { tree = tree; taken = v.taken + 1 }
 
 -- a document comes in place of the tree, unless something is wrong with it
-abbrev pub with_root : FrontValue → ℕ → List ℕ → Branch Told → Option FrontKind → Result FrontValue FrontKind
-with_root v id frame root None = Ok (replied v id frame true (seen_nodes (alone root)))
-with_root v id frame root (Some kind) = Err kind
+abbrev pub with_root : FrontValue → ReplyFrame → Branch Told → Option FrontKind → Result FrontValue FrontKind
+with_root v r root None = Ok (replied v r true (seen_nodes (alone root)))
+with_root v r root (Some kind) = Err kind
 
 -- after an Ok reply with this effect
-abbrev pub with_effect : FrontValue → ℕ → List ℕ → Effect → Result FrontValue FrontKind
-with_effect v id frame (effect.Document tree) = with_root v id frame tree (root_fault tree)
-with_effect v id frame (effect.SheetText text) = Ok
-    (record (replied v id frame true v.tree) { sheets = sheets_fetched (fetched_sheet id v.asks) text v.sheets })
-with_effect v id frame effect.AllOff = Ok (record (replied v id frame true none) { sheets = [] })
-with_effect v id frame effect.SheetsOff = Ok (record (replied v id frame true v.tree) { sheets = [] })
-with_effect v id frame effect.NothingElse = Ok (replied v id frame true v.tree)
+abbrev pub with_effect : FrontValue → ReplyFrame → Effect → Result FrontValue FrontKind
+with_effect v r (effect.Document tree) = with_root v r tree (root_fault tree)
+with_effect v r (effect.SheetText text) = Ok
+    (record (replied v r true v.tree) { sheets = sheets_fetched (fetched_sheet r.id v.asks) text v.sheets })
+with_effect v r effect.AllOff = Ok (record (replied v r true none) { sheets = [] })
+with_effect v r effect.SheetsOff = Ok (record (replied v r true v.tree) { sheets = [] })
+with_effect v r effect.NothingElse = Ok (replied v r true v.tree)
 
 -- the matched styles that a result tells, if it tells some, with the id of the ask that it answers
 abbrev pub matched_told : ℕ → ReplyBody → List MatchedReply
@@ -235,19 +248,19 @@ abbrev pub with_matched : FrontValue → List MatchedReply → FrontValue
 with_matched v more = record v { matched = v.matched ++ more }
 
 -- after an Ok reply with this result, whose matched styles are kept; none is of the method that was asked
-abbrev pub with_body : FrontValue → ℕ → List ℕ → List ℕ → Option ReplyBody → Result FrontValue FrontKind
-with_body v id frame method None = Err NotMessage
-with_body v id frame method (Some body) = with_effect (with_matched v (matched_told id body)) id frame (effect_of method body)
+abbrev pub with_body : FrontValue → ReplyFrame → List ℕ → Option ReplyBody → Result FrontValue FrontKind
+with_body v r method None = Err NotMessage
+with_body v r method (Some body) = with_effect (with_matched v (matched_told r.id body)) r (effect_of method body)
 
 -- a reply to an ask of that method, if one waits
-abbrev pub with_reply : FrontValue → ℕ → List ℕ → Data → Option (List ℕ) → Result FrontValue FrontKind
-with_reply v id frame result None = Err NotMessage
-with_reply v id frame result (Some method) = with_body v id frame method (result_of method result)
+abbrev pub with_reply : FrontValue → ReplyFrame → Data → Option (List ℕ) → Result FrontValue FrontKind
+with_reply v r result None = Err NotMessage
+with_reply v r result (Some method) = with_body v r method (result_of method result)
 
 -- an error reply to an ask of that method, if one waits
-abbrev pub with_fault : FrontValue → ℕ → List ℕ → Option (List ℕ) → Result FrontValue FrontKind
-with_fault v id frame None = Err NotMessage
-with_fault v id frame (Some method) = Ok (replied v id frame false v.tree)
+abbrev pub with_fault : FrontValue → ReplyFrame → Option (List ℕ) → Result FrontValue FrontKind
+with_fault v r None = Err NotMessage
+with_fault v r (Some method) = Ok (replied v r false v.tree)
 
 -- after an event that leads to this tree, or is refused
 abbrev pub with_tree : FrontValue → Nodes Seen → Option FrontKind → Result FrontValue FrontKind
@@ -308,9 +321,9 @@ with_news v (sheet_removed number) = with_sheet v number (without_sheet number v
 abbrev pub with_message : FrontValue → List ℕ → Option Message → Result FrontValue FrontKind
 with_message v frame None = Err NotMessage
 with_message v frame (Some (event n)) = with_news v n
-with_message v frame (Some (reply id result)) = with_reply v id frame result (method_waiting id v.asks)
+with_message v frame (Some (reply id result)) = with_reply v (reply_frame id frame) result (method_waiting id v.asks)
 with_message v frame (Some (fault None code text)) = Ok (refused v frame)
-with_message v frame (Some (fault (Some id) code text)) = with_fault v id frame (method_waiting id v.asks)
+with_message v frame (Some (fault (Some id) code text)) = with_fault v (reply_frame id frame) (method_waiting id v.asks)
 
 -- the front after one frame, or why it refuses the frame
 abbrev pub take_frame : FrontValue → List ℕ → Result FrontValue FrontKind

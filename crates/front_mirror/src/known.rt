@@ -1,4 +1,4 @@
-ghost use Rattle.std.specs.Prelude.{◌≡◌, ◌+◌, [], ◌∷◌, ◌++◌, option_map, Some, None, Ok, true, false, IfOk, IfSome, OnOk};
+ghost use Rattle.std.specs.Prelude.{◌≡◌, ◌+◌, [], ◌∷◌, ◌++◌, Some, None, Ok, true, false, IfSome, OnOk};
 ghost use Rattle.serde_json.specs.View.{view};
 ghost use Rattle.std.specs.List.{list_all};
 ghost use Rattle.node_tree.specs.Nodes.{none};
@@ -6,7 +6,7 @@ ghost use Rattle.cdp_messages.specs.NodeData.{fits_tree};
 ghost use Rattle.cdp_messages.specs.Moves.{paused_nodes};
 ghost use Rattle.cdp_messages.specs.Events.{news_of, fits_news};
 ghost use Rattle.front_mirror.specs.Known.{known_value, Takes};
-ghost use Rattle.front_mirror.specs.Front.{FrontValue, first_value, reply_kept, method_waiting, fetched_sheet, sheets_fetched, replied};
+ghost use Rattle.front_mirror.specs.Front.{first_value, reply_frame, reply_kept, method_waiting, fetched_sheet, sheets_fetched, replied};
 ghost use Rattle.front_mirror.specs.Front.{refused, told, with_root, with_effect, with_reply, with_fault, with_change, with_pause};
 ghost use Rattle.front_mirror.specs.Front.{with_matched, with_added, with_sheet, told_sheets, with_news, take_frame, is_shown, halted};
 ghost use Rattle.front_mirror.specs.Front.{root_fault};
@@ -109,7 +109,7 @@ impl Known {
     /// The document that a text brings, and the id of the ask that waits for it.
     fn document_in(&self, text: &str) -> Option<(u64, NodeTree)>
         ensures taken { IfSome result (λ p. take_frame (known_value self.now) text.now
-            ≡ with_root (known_value self.now) p.0 text.now p.1 (root_fault p.1)) }
+            ≡ with_root (known_value self.now) (reply_frame p.0 text.now) p.1 (root_fault p.1)) }
         ensures fits { IfSome result (λ p. fits_tree true p.1 ≡ true) }
     {
         if !begins_document(text) {
@@ -139,7 +139,7 @@ impl Known {
 
     fn take_reply(&mut self, id: u64, value: &Value, frame: Text) -> Result<(), FrameErr>
         ensures { Takes (known_value self.old) (known_value self.new) result
-            (with_reply (known_value self.old) id frame (view value.now) (method_waiting id (known_value self.old).asks)) }
+            (with_reply (known_value self.old) (reply_frame id frame) (view value.now) (method_waiting id (known_value self.old).asks)) }
     {
         let Some(method) = method_of(&self.asks, id) else {
             return Err(FrameErr::Refused(FrontKind::NotMessage));
@@ -163,7 +163,8 @@ impl Known {
     /// Keeps a reply to the ask of that id, which then waits no longer, and the matched styles that it tells.
     fn keep_matched(&mut self, id: u64, matched: Matched, frame: Text) -> Result<(), AllocError>
         ensures { OnOk result (known_value self.new ≡ replied
-            (with_matched (known_value self.old) (record { ask = id; matched = matched } ∷ [])) id frame true (known_value self.old).tree) }
+            (with_matched (known_value self.old) (record { ask = id; matched = matched } ∷ []))
+            (reply_frame id frame) true (known_value self.old).tree) }
     {
         self.matched.push(MatchedReply { ask: id, matched })?;
         self.keep_reply(id, frame, true)
@@ -172,7 +173,7 @@ impl Known {
     fn take_effect(&mut self, id: u64, effect: Effect, frame: Text) -> Result<(), FrameErr>
         requires { fits_effect effect ≡ true }
         ensures { Takes (known_value self.old) (known_value self.new) result
-            (with_effect (known_value self.old) id frame effect) }
+            (with_effect (known_value self.old) (reply_frame id frame) effect) }
     {
         match effect {
             Effect::Document(root) => self.take_root(id, root, frame),
@@ -189,7 +190,7 @@ impl Known {
     /// The text of a sheet, which stays known where it was fetched.
     fn take_sheet_text(&mut self, id: u64, text: Text, frame: Text) -> Result<(), FrameErr>
         ensures { Takes (known_value self.old) (known_value self.new) result
-            (Ok (record (replied (known_value self.old) id frame true (known_value self.old).tree) {
+            (Ok (record (replied (known_value self.old) (reply_frame id frame) true (known_value self.old).tree) {
               sheets = sheets_fetched (fetched_sheet id (known_value self.old).asks) text (known_value self.old).sheets;
             })) }
     {
@@ -204,7 +205,7 @@ impl Known {
     /// Neither nodes nor sheets are told any more.
     fn take_end(&mut self, id: u64, frame: Text) -> Result<(), FrameErr>
         ensures { Takes (known_value self.old) (known_value self.new) result
-            (Ok (record (replied (known_value self.old) id frame true none) { sheets = [] })) }
+            (Ok (record (replied (known_value self.old) (reply_frame id frame) true none) { sheets = [] })) }
     {
         self.keep_reply(id, frame, true)?;
         self.mirror = Mirror::new(self.alloc);
@@ -215,7 +216,7 @@ impl Known {
     /// No sheets are told any more.
     fn take_sheets_end(&mut self, id: u64, frame: Text) -> Result<(), FrameErr>
         ensures { Takes (known_value self.old) (known_value self.new) result
-            (Ok (record (replied (known_value self.old) id frame true (known_value self.old).tree) { sheets = [] })) }
+            (Ok (record (replied (known_value self.old) (reply_frame id frame) true (known_value self.old).tree) { sheets = [] })) }
     {
         self.keep_reply(id, frame, true)?;
         self.sheets = KnownSheets::new(self.alloc);
@@ -271,7 +272,7 @@ impl Known {
     fn take_root(&mut self, id: u64, root: NodeTree, frame: Text) -> Result<(), FrameErr>
         requires { fits_tree true root ≡ true }
         ensures { Takes (known_value self.old) (known_value self.new) result
-            (with_root (known_value self.old) id frame root (root_fault root)) }
+            (with_root (known_value self.old) (reply_frame id frame) root (root_fault root)) }
     {
         if let Some(kind) = root_fault(self.alloc, &root)? {
             return Err(FrameErr::Refused(kind));
@@ -284,7 +285,7 @@ impl Known {
 
     fn take_fault(&mut self, id: u64, frame: Text) -> Result<(), FrameErr>
         ensures { Takes (known_value self.old) (known_value self.new) result
-            (with_fault (known_value self.old) id frame (method_waiting id (known_value self.old).asks)) }
+            (with_fault (known_value self.old) (reply_frame id frame) (method_waiting id (known_value self.old).asks)) }
     {
         if method_of(&self.asks, id).is_none() {
             return Err(FrameErr::Refused(FrontKind::NotMessage));
@@ -389,7 +390,8 @@ impl Known {
 
     /// Keeps a reply to the ask of that id, which then waits no longer. A reply to a fetch is not kept.
     fn keep_reply(&mut self, id: u64, frame: Text, good: bool) -> Result<(), AllocError>
-        ensures { OnOk result (known_value self.new ≡ replied (known_value self.old) id frame good (known_value self.old).tree) }
+        ensures { OnOk result (known_value self.new
+            ≡ replied (known_value self.old) (reply_frame id frame) good (known_value self.old).tree) }
     {
         match take_ask(&mut self.asks, id) {
             Some(Ask { sheet: Some(_), .. }) => self.count(),

@@ -1,12 +1,10 @@
 // Changes of one node of the table, with what comes and goes below it.
 ghost use Rattle.std.specs.Prelude.{◌≡◌, ◌==◌, ◌||◌, true, Some, IsSome, OnOk};
-ghost use Rattle.node_tree.specs.Nodes.{alone};
-ghost use Rattle.cdp_messages.specs.Told.{seen_nodes};
 ghost use Rattle.cdp_messages.specs.Views.{is_in};
 ghost use Rattle.front_mirror.specs.declared.slots.Slot.{Slot};
-ghost use Rattle.front_mirror.specs.Shown.{shown_of};
-ghost use Rattle.front_mirror.specs.IdLists.{id_after};
-ghost use Rattle.front_mirror.specs.Tables.{table_slots, IsListed, TableGrown, TableCut, opened_slot, with_child_id, root_ids};
+ghost use Rattle.front_mirror.specs.declared.edits.NodeEdit.TheVariants as edit;
+ghost use Rattle.front_mirror.specs.Tables.{table_slots, IsListed, TableCut};
+ghost use Rattle.front_mirror.specs.TableEdits.{IsEdited};
 
 use crate::checks::MOST_LEVELS;
 use crate::plants::ids_of;
@@ -23,7 +21,7 @@ impl Table {
         id: u64,
         nodes: Vec<NodeTree>,
     ) -> Result<(), AllocError>
-        ensures { OnOk result (TableGrown self.old self.new id (opened_slot (root_ids (shown_of nodes.items))) (shown_of nodes.items)) }
+        ensures { OnOk result (IsEdited (edit.Show nodes) self.old self.new id) }
     {
         let ids = ids_of(alloc, &nodes)?;
         self.open(id, ids);
@@ -40,7 +38,7 @@ impl Table {
         node: NodeTree,
     ) -> Result<(), AllocError>
         requires { (slot : Slot) → table_slots self.old id ≡ Some slot → (previous == 0 || is_in previous slot.children) ≡ true }
-        ensures { OnOk result (TableGrown self.old self.new id (with_child_id previous node.row.seen.id) (seen_nodes (alone node))) }
+        ensures { OnOk result (IsEdited (edit.Insert previous node) self.old self.new id) }
     {
         self.insert_child(id, previous, node.id)?;
         self.plant(alloc, node, Some(id))?;

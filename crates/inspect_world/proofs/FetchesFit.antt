@@ -27,7 +27,8 @@ use Rattle.inspect_world.proofs.Growing.{pauses-of}
 use Rattle.front_mirror.specs.declared.replies.Ask.{Ask}
 use Rattle.front_mirror.specs.Sheets.{has_sheet, with_fetched, stale_of}
 use Rattle.front_mirror.specs.declared.faults.FrontKind.{FrontKind}
-use Rattle.front_mirror.specs.Front.{FrontValue, first_value, fetch_ask, method_waiting, fetched_sheet, reply_kept, unless_fetch}
+use Rattle.front_mirror.specs.Front.{FrontValue, reply_frame, first_value, fetch_ask, method_waiting, fetched_sheet, reply_kept}
+use Rattle.front_mirror.specs.Front.{unless_fetch}
 use Rattle.front_mirror.specs.Front.{kept_reply, sheets_fetched, asks_without, replied, seen_pause, with_body, with_reply, with_message}
 use Rattle.front_mirror.specs.Front.{take_frame}
 use Rattle.front_mirror.specs.Laws.{Has}
@@ -150,14 +151,17 @@ fetched-front v count number text asks counted utf8 =
     ap (fetched_sheet id) asks ∙ ap (λ b. option_and_then (λ (a : Ask). a.sheet) (cond b (Some (fetch_ask count number)) None)) first in
     let gone : asks_without id v.asks ≡ [] = ap (asks_without id) asks ∙ ap (λ b. cond b [] (fetch_ask count number ∷ [])) first in
     let after : FrontValue = record
-    (replied v id frame true v.tree) { sheets = sheets_fetched (fetched_sheet id v.asks) text v.sheets; matched = v.matched ++ [] } in
+    (replied v (reply_frame id frame) true v.tree) {
+      sheets = sheets_fetched (fetched_sheet id v.asks) text v.sheets;
+      matched = v.matched ++ [];
+    } in
     let reply_kept : kept_reply id v.asks frame true
     ≡ [] = ap (λ o. unless_fetch o (reply_kept (Some id) (method_waiting id v.asks) frame true)) sheet in (
       after,
       ap (with_message v frame) (replies_are_read id (SheetText text) counted refl (replies_are_shallow id (SheetText text) (omega arith))
           (replies_are_utf8 id (SheetText text) counted refl utf8))
-          ∙ ap (with_reply v id frame (body_data (SheetText text))) waits
-          ∙ ap (with_body v id frame method) (results_are_read method (SheetText text) refl refl),
+          ∙ ap (with_reply v (reply_frame id frame) (body_data (SheetText text))) waits
+          ∙ ap (with_body v (reply_frame id frame) method) (results_are_read method (SheetText text) refl refl),
       ap (λ o. sheets_fetched o text v.sheets) sheet,
       λ i. record {
         tree = v.tree;

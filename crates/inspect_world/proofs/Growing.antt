@@ -24,7 +24,8 @@ use Rattle.front_mirror.specs.declared.faults.FrontKind.{FrontKind}
 use Rattle.front_mirror.specs.declared.faults.FrontKind.TheVariants.{NotMessage, UnknownNode, IdTaken, UnknownSheet}
 use Rattle.front_mirror.specs.declared.sheets.KnownSheet.{KnownSheet}
 use Rattle.front_mirror.specs.Sheets.{told_sheet, has_sheet, marked_old, without_sheet}
-use Rattle.front_mirror.specs.Front.{FrontValue, first_value, take_frame, method_waiting, with_root, root_fault, matched_told, matched_in}
+use Rattle.front_mirror.specs.Front.{FrontValue, reply_frame, first_value, take_frame, method_waiting, with_root, root_fault, matched_told}
+use Rattle.front_mirror.specs.Front.{matched_in}
 use Rattle.front_mirror.specs.Front.{with_matched, with_effect, with_body, with_reply, with_fault, with_tree, ToldChange, told_change}
 use Rattle.front_mirror.specs.Front.{at_spot, change_fault, with_change, seen_pause, halted, is_shown, told_sheets, with_news, with_message}
 use Rattle.cdp_json.specs.Lookups.{then_ok}
@@ -60,12 +61,12 @@ grows-same v x w pauses matched e = grows-none v x w [] pauses (matched ∙ sym 
 
 grows-root : (v : FrontValue) (id : ℕ) (frame : List ℕ) (more : List MatchedReply) (root : Branch told.Told) (o : Option FrontKind)
     (w : FrontValue)
-    → with_root (with_matched v more) id frame root o ≡ Ok w → Grows v [] w
+    → with_root (with_matched v more) (reply_frame id frame) root o ≡ Ok w → Grows v [] w
 grows-root v id frame more root None w e = grows-none v _ w more refl refl e
 grows-root v id frame more root (Some kind) w e = refuses kind w e
 
 grows-effect : (v : FrontValue) (id : ℕ) (frame : List ℕ) (more : List MatchedReply) (x : Effect) (w : FrontValue)
-    → with_effect (with_matched v more) id frame x ≡ Ok w → Grows v [] w
+    → with_effect (with_matched v more) (reply_frame id frame) x ≡ Ok w → Grows v [] w
 grows-effect v id frame more (effect.Document tree) w e = grows-root v id frame more tree (root_fault tree) w e
 grows-effect v id frame more (effect.SheetText text) w e = grows-none v _ w more refl refl e
 grows-effect v id frame more effect.AllOff w e = grows-none v _ w more refl refl e
@@ -73,16 +74,17 @@ grows-effect v id frame more effect.SheetsOff w e = grows-none v _ w more refl r
 grows-effect v id frame more effect.NothingElse w e = grows-none v _ w more refl refl e
 
 grows-body : (v : FrontValue) (id : ℕ) (frame method : List ℕ) (o : Option ReplyBody) (w : FrontValue)
-    → with_body v id frame method o ≡ Ok w → Grows v [] w
+    → with_body v (reply_frame id frame) method o ≡ Ok w → Grows v [] w
 grows-body v id frame method None w e = refuses NotMessage w e
 grows-body v id frame method (Some body) w e = grows-effect v id frame (matched_told id body) (effect_of method body) w e
 
 grows-reply : (v : FrontValue) (id : ℕ) (frame : List ℕ) (result : Data) (o : Option (List ℕ)) (w : FrontValue)
-    → with_reply v id frame result o ≡ Ok w → Grows v [] w
+    → with_reply v (reply_frame id frame) result o ≡ Ok w → Grows v [] w
 grows-reply v id frame result None w e = refuses NotMessage w e
 grows-reply v id frame result (Some method) w e = grows-body v id frame method (result_of method result) w e
 
-grows-fault : (v : FrontValue) (id : ℕ) (frame : List ℕ) (o : Option (List ℕ)) (w : FrontValue) → with_fault v id frame o ≡ Ok w
+grows-fault : (v : FrontValue) (id : ℕ) (frame : List ℕ) (o : Option (List ℕ)) (w : FrontValue)
+    → with_fault v (reply_frame id frame) o ≡ Ok w
     → Grows v [] w
 grows-fault v id frame None w e = refuses NotMessage w e
 grows-fault v id frame (Some method) w e = grows-same v _ w refl refl e

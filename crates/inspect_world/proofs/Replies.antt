@@ -24,7 +24,8 @@ use Rattle.front_mirror.specs.declared.faults.FrontKind.{FrontKind}
 use Rattle.front_mirror.specs.declared.faults.FrontKind.TheVariants.{NotMessage, UnknownNode, IdTaken, UnknownSheet}
 use Rattle.front_mirror.specs.declared.sheets.KnownSheet.{KnownSheet}
 use Rattle.front_mirror.specs.Sheets.{told_sheet, has_sheet, marked_old, without_sheet}
-use Rattle.front_mirror.specs.Front.{FrontValue, first_value, take_frame, method_waiting, asks_without, reply_kept, kept_reply, replied}
+use Rattle.front_mirror.specs.Front.{FrontValue, reply_frame, first_value, take_frame, method_waiting, asks_without, reply_kept, kept_reply}
+use Rattle.front_mirror.specs.Front.{replied}
 use Rattle.front_mirror.specs.Front.{refused, with_root, root_fault, matched_told, with_matched, with_effect, with_body, with_reply}
 use Rattle.front_mirror.specs.Front.{with_fault, with_tree, ToldChange, told_change, at_spot, change_fault, with_change, halted, is_shown}
 use Rattle.front_mirror.specs.Front.{told_sheets, with_news, with_message}
@@ -57,9 +58,9 @@ keeps-like v id frame good x w same asks plain e =
     }
 
 keeps-replied : (v : FrontValue) (id : ℕ) (frame : List ℕ) (good : Bool) (tree : Nodes Seen) (w : FrontValue) → ArePlain v.asks
-    → ◌≡◌ {A = Result FrontValue FrontKind} (Ok (replied v id frame good tree)) (Ok w)
+    → ◌≡◌ {A = Result FrontValue FrontKind} (Ok (replied v (reply_frame id frame) good tree)) (Ok w)
     → Keeps v (record { id = Some id; text = frame } ∷ []) w
-keeps-replied v id frame good tree w plain e = keeps-like v id frame good (replied v id frame good tree) w refl refl plain e
+keeps-replied v id frame good tree w plain e = keeps-like v id frame good (replied v (reply_frame id frame) good tree) w refl refl plain e
 
 -- nothing is kept
 keeps-none : (v x w : FrontValue) → x.replies ≡ v.replies → x.asks ≡ v.asks → ArePlain v.asks
@@ -73,12 +74,12 @@ keeps-none v x w same asks plain e =
     }
 
 keeps-root : (v : FrontValue) (id : ℕ) (frame : List ℕ) (root : Branch told.Told) (o : Option FrontKind) (w : FrontValue) → ArePlain v.asks
-    → with_root v id frame root o ≡ Ok w → Keeps v (record { id = Some id; text = frame } ∷ []) w
+    → with_root v (reply_frame id frame) root o ≡ Ok w → Keeps v (record { id = Some id; text = frame } ∷ []) w
 keeps-root v id frame root None w plain e = keeps-replied v id frame _ _ w plain e
 keeps-root v id frame root (Some kind) w plain e = refuses kind w e
 
 keeps-effect : (v : FrontValue) (id : ℕ) (frame : List ℕ) (x : Effect) (w : FrontValue) → ArePlain v.asks
-    → with_effect v id frame x ≡ Ok w → Keeps v (record { id = Some id; text = frame } ∷ []) w
+    → with_effect v (reply_frame id frame) x ≡ Ok w → Keeps v (record { id = Some id; text = frame } ∷ []) w
 keeps-effect v id frame (effect.Document tree) w plain e = keeps-root v id frame tree (root_fault tree) w plain e
 keeps-effect v id frame (effect.SheetText text) w plain e = keeps-like v id frame true _ w refl refl plain e
 keeps-effect v id frame effect.AllOff w plain e = keeps-like v id frame true _ w refl refl plain e
@@ -86,7 +87,7 @@ keeps-effect v id frame effect.SheetsOff w plain e = keeps-like v id frame true 
 keeps-effect v id frame effect.NothingElse w plain e = keeps-replied v id frame _ _ w plain e
 
 keeps-body : (v : FrontValue) (id : ℕ) (frame method : List ℕ) (o : Option ReplyBody) (w : FrontValue) → ArePlain v.asks
-    → with_body v id frame method o ≡ Ok w → Keeps v (record { id = Some id; text = frame } ∷ []) w
+    → with_body v (reply_frame id frame) method o ≡ Ok w → Keeps v (record { id = Some id; text = frame } ∷ []) w
 keeps-body v id frame method None w plain e = refuses NotMessage w e
 keeps-body v id frame method (Some body) w plain e = keeps-more
     (keeps-effect (with_matched v (matched_told id body)) id frame (effect_of method body) w plain e)
@@ -95,12 +96,12 @@ keeps-body v id frame method (Some body) w plain e = keeps-more
     keeps-more k = record { replies = k.replies; plain = k.plain }
 
 keeps-reply : (v : FrontValue) (id : ℕ) (frame : List ℕ) (result : Data) (o : Option (List ℕ)) (w : FrontValue) → ArePlain v.asks
-    → with_reply v id frame result o ≡ Ok w → Keeps v (record { id = Some id; text = frame } ∷ []) w
+    → with_reply v (reply_frame id frame) result o ≡ Ok w → Keeps v (record { id = Some id; text = frame } ∷ []) w
 keeps-reply v id frame result None w plain e = refuses NotMessage w e
 keeps-reply v id frame result (Some method) w plain e = keeps-body v id frame method (result_of method result) w plain e
 
 keeps-fault : (v : FrontValue) (id : ℕ) (frame : List ℕ) (o : Option (List ℕ)) (w : FrontValue) → ArePlain v.asks
-    → with_fault v id frame o ≡ Ok w → Keeps v (record { id = Some id; text = frame } ∷ []) w
+    → with_fault v (reply_frame id frame) o ≡ Ok w → Keeps v (record { id = Some id; text = frame } ∷ []) w
 keeps-fault v id frame None w plain e = refuses NotMessage w e
 keeps-fault v id frame (Some method) w plain e = keeps-replied v id frame _ _ w plain e
 

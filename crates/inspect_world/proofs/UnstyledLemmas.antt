@@ -22,7 +22,8 @@ use Rattle.front_mirror.specs.declared.faults.FrontKind.{FrontKind}
 use Rattle.front_mirror.specs.declared.faults.FrontKind.TheVariants.{NotMessage, UnknownNode, IdTaken, UnknownSheet}
 use Rattle.front_mirror.specs.declared.sheets.KnownSheet.{KnownSheet}
 use Rattle.front_mirror.specs.Sheets.{told_sheet, has_sheet, marked_old, without_sheet}
-use Rattle.front_mirror.specs.Front.{FrontValue, take_frame, method_waiting, with_root, root_fault, matched_told, with_matched, with_effect}
+use Rattle.front_mirror.specs.Front.{FrontValue, reply_frame, take_frame, method_waiting, with_root, root_fault, matched_told, with_matched}
+use Rattle.front_mirror.specs.Front.{with_effect}
 use Rattle.front_mirror.specs.Front.{with_body, with_reply, with_fault, with_tree, ToldChange, told_change, at_spot, change_fault}
 use Rattle.front_mirror.specs.Front.{with_change, halted, is_shown, told_sheets, with_news, with_message}
 use Rattle.inspect_world.specs.Fits.{ask_of_frame, with_ask, join}
@@ -55,33 +56,34 @@ not-ok kind w e = absurd cc
 
 module _ (v : FrontValue) (ss : List KnownSheet) (t : ℕ) (v1 w1 : FrontValue) where
   same-root : (id : ℕ) (frame : List ℕ) (found : List MatchedReply) (root : Branch told.Told) (o : Option FrontKind)
-      → with_root (with_matched v found) id frame root o ≡ Ok v1
-      → with_root (with_matched (restyled v ss t) found) id frame root o ≡ Ok w1 → unstyled v1 ≡ unstyled w1
+      → with_root (with_matched v found) (reply_frame id frame) root o ≡ Ok v1
+      → with_root (with_matched (restyled v ss t) found) (reply_frame id frame) root o ≡ Ok w1 → unstyled v1 ≡ unstyled w1
   same-root id frame found root None e f = both-ok _ _ v1 w1 refl e f
   same-root id frame found root (Some kind) e f = not-ok kind v1 e
 
-  same-effect : (id : ℕ) (frame : List ℕ) (found : List MatchedReply) (x : Effect) → with_effect (with_matched v found) id frame x ≡ Ok v1
-      → with_effect (with_matched (restyled v ss t) found) id frame x ≡ Ok w1 → unstyled v1 ≡ unstyled w1
+  same-effect : (id : ℕ) (frame : List ℕ) (found : List MatchedReply) (x : Effect)
+      → with_effect (with_matched v found) (reply_frame id frame) x ≡ Ok v1
+      → with_effect (with_matched (restyled v ss t) found) (reply_frame id frame) x ≡ Ok w1 → unstyled v1 ≡ unstyled w1
   same-effect id frame found (effect.Document tree) e f = same-root id frame found tree (root_fault tree) e f
   same-effect id frame found (effect.SheetText text) e f = both-ok _ _ v1 w1 refl e f
   same-effect id frame found effect.AllOff e f = both-ok _ _ v1 w1 refl e f
   same-effect id frame found effect.SheetsOff e f = both-ok _ _ v1 w1 refl e f
   same-effect id frame found effect.NothingElse e f = both-ok _ _ v1 w1 refl e f
 
-  same-body : (id : ℕ) (frame method : List ℕ) (o : Option ReplyBody) → with_body v id frame method o ≡ Ok v1
-      → with_body (restyled v ss t) id frame method o ≡ Ok w1
+  same-body : (id : ℕ) (frame method : List ℕ) (o : Option ReplyBody) → with_body v (reply_frame id frame) method o ≡ Ok v1
+      → with_body (restyled v ss t) (reply_frame id frame) method o ≡ Ok w1
       → unstyled v1 ≡ unstyled w1
   same-body id frame method None e f = not-ok NotMessage v1 e
   same-body id frame method (Some body) e f = same-effect id frame (matched_told id body) (effect_of method body) e f
 
-  same-reply : (id : ℕ) (frame : List ℕ) (result : Data) (o : Option (List ℕ)) → with_reply v id frame result o ≡ Ok v1
-      → with_reply (restyled v ss t) id frame result o ≡ Ok w1
+  same-reply : (id : ℕ) (frame : List ℕ) (result : Data) (o : Option (List ℕ)) → with_reply v (reply_frame id frame) result o ≡ Ok v1
+      → with_reply (restyled v ss t) (reply_frame id frame) result o ≡ Ok w1
       → unstyled v1 ≡ unstyled w1
   same-reply id frame result None e f = not-ok NotMessage v1 e
   same-reply id frame result (Some method) e f = same-body id frame method (result_of method result) e f
 
-  same-fault : (id : ℕ) (frame : List ℕ) (o : Option (List ℕ)) → with_fault v id frame o ≡ Ok v1
-      → with_fault (restyled v ss t) id frame o ≡ Ok w1 → unstyled v1 ≡ unstyled w1
+  same-fault : (id : ℕ) (frame : List ℕ) (o : Option (List ℕ)) → with_fault v (reply_frame id frame) o ≡ Ok v1
+      → with_fault (restyled v ss t) (reply_frame id frame) o ≡ Ok w1 → unstyled v1 ≡ unstyled w1
   same-fault id frame None e f = not-ok NotMessage v1 e
   same-fault id frame (Some method) e f = both-ok _ _ v1 w1 refl e f
 

@@ -19,7 +19,7 @@ use Rattle.page_tree.specs.EditFaults.{is_live, CanAttach, CanApply, edit_faults
 use Rattle.page_tree.specs.declared.edits.TreeEdit.{TreeEdit}
 use Rattle.page_tree.specs.declared.edits.TreeEdit.TheVariants.{SetAttr, DropAttr, SetText, Attach, Detach}
 use Rattle.page_tree.specs.Arenas.{page_slots, slot_row, slots_in, keys_in, Filed, Fresh, SameSlots, Turned, slot_of, stored_trees, next_in}
-use Rattle.page_tree.specs.Arenas.{Grafted, Cut, tree_of, IsPage, Looks}
+use Rattle.page_tree.specs.Arenas.{Grafted, Cut, graft_point, tree_of, IsPage, Looks}
 use Rattle.page_tree.specs.declared.slots.Slot.{Slot}
 use Rattle.page_tree.specs.declared.arenas.Arena.{Arena}
 use Rattle.page_tree.proofs.PlaceLemmas.{located, tree_is, rebuilt, looks, Under, placed_up}
@@ -200,7 +200,7 @@ module _ (a b : Arena) (root next : ℕ) (page : IsPage a root next) (p : PageVa
   -- ---- a tree more
 
   pub tree_attached : (parent before key : ℕ) (w : Branch PageRow) → CanApply p.next (Attach parent before w) p.tree
-      → keys_in a parent ≡ Some key → Grafted a b key before w → Filed b → Fresh a (alone w)
+      → keys_in a parent ≡ Some key → Grafted a b (graft_point key before) w → Filed b → Fresh a (alone w)
       → IsAfter b root next (Attach parent before w) p
   tree_attached parent before key w can key_is grafted files fresh =
       let can = can_here (Attach parent before w) can in
@@ -213,7 +213,7 @@ module _ (a b : Arena) (root next : ℕ) (page : IsPage a root next) (p : PageVa
       let valid = subst (λ (n : ℕ). IsValid
       (record { tree = changed_at parent (with_child before w) (tree_of a root); next = n })) stays valid in
       let done = page_grafted a root next page parent slot at b next before w files fresh
-      (subst (λ (k : ℕ). Grafted a b k before w) same grafted) valid in
+      (subst (λ (k : ℕ). Grafted a b (graft_point k before) w) same grafted) valid in
       record {
         shown =
             ap (λ (t : Branch PageRow). record { tree = t; next = next }) done.0
@@ -317,7 +317,8 @@ module _ (a b : Arena) (root next : ℕ) (page : IsPage a root next) (p : PageVa
       (omega arith))
 
   pub tree_detached : (serial key : ℕ) (slot : Slot) (w : Branch PageRow) → CanApply p.next (Detach serial) p.tree
-      → slot_of a serial ≡ Some slot → slot.parent ≡ Some key → w ≡ node_at serial (tree_of a root) → Cut a b key serial w → Filed b
+      → slot_of a serial ≡ Some slot → slot.parent ≡ Some key → w ≡ node_at serial (tree_of a root)
+      → Cut a b (graft_point key serial) w → Filed b
       → IsAfter b root next (Detach serial) p
   tree_detached serial key slot w can e up is cut files =
       let q = parting serial can in
@@ -329,8 +330,8 @@ module _ (a b : Arena) (root next : ℕ) (page : IsPage a root next) (p : PageVa
       let own = seat a root next page q.under.over.serial q.under.over q.under.over_is in
       let own_key : q.under.key ≡ own.key = let both : Some q.under.key
       ≡ Some own.key = sym (page.arena.files.filed q.under.key q.under.over q.under.over_at) ∙ own.key_is in cc in
-      let cut = subst (λ (k : ℕ). Cut a b k serial w) (same_key ∙ own_key) cut in
-      let cut = subst (λ (t : Branch PageRow). Cut a b own.key serial t) is cut in
+      let cut = subst (λ (k : ℕ). Cut a b (graft_point k serial) w) (same_key ∙ own_key) cut in
+      let cut = subst (λ (t : Branch PageRow). Cut a b (graft_point own.key serial) t) is cut in
       let inserted = inserted-taken serial (node_at serial (tree_of a root)) (children_at q.under.over.serial (tree_of a root))
       (serial-live serial (tree_of a root) q.live) q.child in
       let valid = subst (λ (x : ℕ). IsValid

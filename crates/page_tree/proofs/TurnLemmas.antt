@@ -14,7 +14,7 @@ use Rattle.page_tree.specs.Pages.{PageRow, row_serial, IsValid, node_at}
 use Rattle.page_tree.specs.Edits.{first_serial, next_sibling, relabelled, put_before, taken_out, with_child, without_child, changed_at}
 use Rattle.page_tree.specs.EditFaults.{is_live}
 use Rattle.page_tree.specs.Arenas.{page_slots, slot_row, slots_in, keys_in, Filed, Fresh, slot_of, is_numbered, place_in, first_in, next_in}
-use Rattle.page_tree.specs.Arenas.{with_child_key, without_child_key, Grafted, Cut, tree_of, IsPage}
+use Rattle.page_tree.specs.Arenas.{with_child_key, without_child_key, graft_point, Grafted, Cut, tree_of, IsPage}
 use Rattle.page_tree.specs.declared.slots.Slot.{Slot}
 use Rattle.page_tree.specs.declared.arenas.Arena.{Arena}
 use Rattle.page_tree.proofs.PlaceLemmas.{located, node_at_is, once, tree_is, rebuilt}
@@ -211,7 +211,7 @@ module _ (a : Arena) (root next : ℕ) (page : IsPage a root next) (x : ℕ) (sl
   -- ---- a tree more below it
 
   module _ (b : Arena) (then before : ℕ) (w : Branch PageRow) (files : Filed b) (fresh : Fresh a (alone w))
-      (g : Grafted a b seat.key before w)
+      (g : Grafted a b (graft_point seat.key before) w)
       (valid : IsValid (record { tree = changed_at x (with_child before w) (tree_of a root); next = then })) where
     grafted : Turns page_slots (slots_in g.mid) (slots_in b) seat.key slot (with_child_key a before g.child slot)
     grafted = g.turned slot (g.grown.kept seat.key slot seat.at)
@@ -271,7 +271,7 @@ module _ (a : Arena) (root next : ℕ) (page : IsPage a root next) (x : ℕ) (sl
 
   -- ---- and a tree less
 
-  module _ (b : Arena) (serial : ℕ) (w : Branch PageRow) (files : Filed b) (g : Cut a b seat.key serial w)
+  module _ (b : Arena) (serial : ℕ) (w : Branch PageRow) (files : Filed b) (g : Cut a b (graft_point seat.key serial) w)
       (child : Inserted w (taken_out serial (node_at x (tree_of a root)).children) (node_at x (tree_of a root)).children)
       (valid : IsValid (record { tree = changed_at x (without_child serial) (tree_of a root); next = next })) where
     cut : Turns page_slots (slots_in a) (slots_in g.mid) seat.key slot (without_child_key a serial slot)

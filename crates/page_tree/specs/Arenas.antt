@@ -149,19 +149,28 @@ with_child_key a before child slot = record slot { children = insert slot.childr
 abbrev pub without_child_key : Arena → ℕ → Slot → Slot
 without_child_key a serial slot = record slot { children = remove slot.children (place_in a serial slot.children) }
 
--- the tree came in below the slot of that key, before the child of that serial
-pub record Grafted (a b : Arena) (key before : ℕ) (tree : Branch PageRow) : Type 0 where
+-- among the children of the slot of that key: the child of that serial, or behind the last one where there is none
+pub record GraftPoint : Type 0 where
+  pub key : ℕ
+  pub serial : ℕ
+
+-- that key and that serial
+abbrev pub graft_point : ℕ → ℕ → GraftPoint
+graft_point key serial = record { key = key; serial = serial }
+
+-- the tree came in at that point, before the child that is there
+pub record Grafted (a b : Arena) (at : GraftPoint) (tree : Branch PageRow) : Type 0 where
   pub mid : Arena
   pub child : ℕ
   pub grown : Grown a mid (alone tree)
-  pub stored : Stored mid (alone tree) (Some key) (child ∷ [])
-  pub turned : Turned mid b key (with_child_key a before child)
+  pub stored : Stored mid (alone tree) (Some at.key) (child ∷ [])
+  pub turned : Turned mid b at.key (with_child_key a at.serial child)
 
--- the tree of that serial's slot went out, from among the children of the slot of that key
-pub record Cut (a b : Arena) (key serial : ℕ) (tree : Branch PageRow) : Type 0 where
+-- the tree of the child at that point went out
+pub record Cut (a b : Arena) (at : GraftPoint) (tree : Branch PageRow) : Type 0 where
   pub mid : Arena
   pub serials : List ℕ
-  pub turned : Turned a mid key (without_child_key a serial)
+  pub turned : Turned a mid at.key (without_child_key a at.serial)
   pub shrunk : Shrunk mid b serials
   pub listing : (x : ℕ) → listed x serials ≡ times page_slots x (alone tree)
 

@@ -1,11 +1,11 @@
-ghost use Rattle.std.specs.Prelude.{◌≡◌, ◌≤◌, [], ◌∷◌, true, length, drop, Option, Some, None, IfOk, OnOk, OnErr, IfSome, IsSome};
+ghost use Rattle.std.specs.Prelude.{◌≡◌, ◌≤◌, true, length, drop, Option, Some, None, IfOk, OnOk, OnErr, IsSome};
 ghost use Rattle.std.specs.List.{insert, remove};
 ghost use Rattle.node_tree.specs.Nodes.{alone};
 ghost use Rattle.node_tree.specs.Labels.{is_ascending, value_of};
 ghost use Rattle.page_tree.specs.Loads.{placed};
 ghost use Rattle.page_tree.specs.Edits.{pairs_without};
 ghost use Rattle.page_tree.specs.Arenas.{slots_in, Filed, Fresh, Grown, Turned, SameSlots, slot_of, slot_row, stored_trees, is_numbered};
-ghost use Rattle.page_tree.specs.Arenas.{place_in, first_in, next_in, without_child_key, Grafted, Cut};
+ghost use Rattle.page_tree.specs.Arenas.{place_in, first_in, next_in, without_child_key, graft_point, Grafted, Cut};
 ghost use Rattle.page_tree.specs.declared.slots.Slot.{Slot};
 
 use crate::arenas::{Arena, list_serials};
@@ -151,7 +151,7 @@ impl Arena {
         requires fresh { Fresh self.old (alone tree) }
         requires there { IsSome (slots_in self.old key) }
         ensures filed { Filed self.new }
-        ensures ok { OnOk result (Grafted self.old self.new key before tree) }
+        ensures ok { OnOk result (Grafted self.old self.new (graft_point key before) tree) }
         ensures err { OnErr result (Grown self.old self.new (alone tree)) }
     {
         let i = match self.slots.get(key) {
@@ -174,7 +174,7 @@ impl Arena {
         requires fresh { Fresh self.old (alone tree) }
         requires there { IsSome (slots_in self.old key) }
         ensures filed { Filed self.new }
-        ensures ok { OnOk result (Grafted self.old self.new key before tree) }
+        ensures ok { OnOk result (Grafted self.old self.new (graft_point key before) tree) }
         ensures err { OnErr result (SameSlots self.old self.new) }
     {
         let mut serials = Vec::new(alloc);
@@ -196,7 +196,7 @@ impl Arena {
         ensures filed { Filed self.new }
         ensures tree { IfOk result (λ tree. (slot : Slot) → slot_of self.old serial ≡ Some slot
             → tree ≡ record { row = slot_row slot; children = stored_trees self.old 61 slot.children }) }
-        ensures ok { IfOk result (λ tree. Cut self.old self.new key serial tree) }
+        ensures ok { IfOk result (λ tree. Cut self.old self.new (graft_point key serial) tree) }
         ensures err { OnErr result (self.new ≡ self.old) }
     {
         let tree = match self.find(serial) {

@@ -16,7 +16,7 @@ use Rattle.sheet_reader.specs.Forms.{range}
 use Rattle.sheet_reader.specs.Lone.{is_blank_kind, is_blank_piece}
 use Rattle.sheet_reader.specs.Brackets.{nesting}
 use Rattle.sheet_reader.specs.Declarations.{is_bad_kind, is_stray_nesting, holds_bad, is_custom, name_by, is_important, plain_value}
-use Rattle.sheet_reader.specs.Declarations.{value_range, property, property_by, declared_by, declared_in, declaration_of}
+use Rattle.sheet_reader.specs.Declarations.{value_range, property, unless_empty, declared_by, declared_in, declaration_of}
 use Rattle.sheet_laws.specs.Solids.{AreBlank, Covers}
 use Rattle.sheet_laws.specs.Values.{AreMatched, IsValueRange, some_value, no_value, IsDeclaration}
 use Rattle.sheet_laws.proofs.WordCuts.{solid_first, blank_words, words_blank, word_stands, stands_among, covers_words, words_cover}
@@ -93,7 +93,7 @@ declaration_reads text ts p d =
     let i = importance_is text d.value p.important d.plain d.importance in
     let plain = words_after text false d.plain in
     let kept = kept_by p.name plain (λ none. d.some (words_blank text false d.plain none)) in
-    let of : List ℕ → Bool → List Word → Option Property = λ n important ws. property_by n colon important ws p.whole in
+    let of : List ℕ → Bool → List Word → Option Property = λ n important ws. unless_empty ws (property n colon important ws p.whole) in
     ap (λ (b : Bool). cond b None (declared_in text (words_after text false ts))) (none_bad ts d.no_bad d.matched)
     ∙ ap (λ (o : Option Range). o >>= λ whole. declared_by text (words_after text false ts) whole)
     (words_cover text false ts p.whole d.whole)
@@ -124,7 +124,8 @@ declared_from text t ts p whole (colon ∷ value) ident bad covers words e =
     let name = name_by (word_value text (word_of text false t)) in
     let c = word_stands text false ts [] colon value words in
     let a = passed_test (is_mark 58 colon.kind)
-    (property_by name colon (is_important text value) (plain_value (is_important text value) value) whole) p e in
+    (unless_empty (plain_value (is_important text value) value)
+    (property name colon (is_important text value) (plain_value (is_important text value) value) whole)) p e in
     let i = importance_found text c.behind (is_important text value) (ap (is_important text) c.rest) in
     let plain_is : plain_value (is_important text value) value
     ≡ words_after text false i.plain = ap (plain_value (is_important text value)) (sym c.rest) ∙ i.rest in

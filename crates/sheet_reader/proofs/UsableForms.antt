@@ -23,7 +23,7 @@ use Rattle.sheet_reader.specs.Forms.{range, RuleForm}
 use Rattle.sheet_reader.specs.Parts.{EndingForm, text_end, semicolon, block, PartForm, passed, at_rule, qualified, ending_pieces}
 use Rattle.sheet_reader.specs.Parts.{part_pieces, parts}
 use Rattle.sheet_reader.specs.Declarations.{ItemForm, item_pieces, item_property, items_after, is_custom, is_important, plain_value}
-use Rattle.sheet_reader.specs.Declarations.{name_by, value_range, property, property_by, declared_by, declared_in, declaration_of}
+use Rattle.sheet_reader.specs.Declarations.{name_by, value_range, property, unless_empty, declared_by, declared_in, declaration_of}
 use Rattle.sheet_reader.specs.Declarations.{holds_bad, properties_in, declarations, style_of}
 use Rattle.sheet_reader.specs.Declarations as body
 use Rattle.sheet_reader.specs.Sheets.{body_end, style_rule, rule_by, rule_of, is_closed_comment, passed_place, ending_place, place_of}
@@ -76,7 +76,7 @@ declared_words text from to (name ∷ colon ∷ value) whole p e s =
     let important = is_important text value in
     let plain = plain_value important value in
     let spelled = name_by (word_value text name) in
-    let a = passed_test (is_mark 58 colon.kind) (property_by spelled colon important plain whole) p e in
+    let a = passed_test (is_mark 58 colon.kind) (unless_empty plain (property spelled colon important plain whole)) p e in
     let b = failed_test (is_over plain && not (is_custom spelled)) (Some (property spelled colon important plain whole)) p a.1 in
     let same = some_is {A = Property} (property spelled colon important plain whole) p b.1 in
     let w = s.words in

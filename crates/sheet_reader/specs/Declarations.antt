@@ -117,16 +117,16 @@ property name colon important value whole = record {
   whole = whole;
 }
 
--- a value that is empty is none, unless the name begins with `--`
-abbrev pub property_by : List ℕ → Word → Bool → List Word → Range → Option Property
-property_by name colon important value whole =
-    if is_over value && not (is_custom name) then None else Some (property name colon important value whole)
+-- a declaration whose value is empty is none, unless its name begins with `--`
+abbrev pub unless_empty : List Word → Property → Option Property
+unless_empty value p = if is_over value && not (is_custom p.name) then None else Some p
 
 -- an ident, a colon and a value
 abbrev pub declared_by : List ℕ → List Word → Range → Option Property
 declared_by text (name ∷ colon ∷ value) whole =
-    if is_mark 58 colon.kind then property_by (name_by (word_value text name)) colon (is_important text value)
-    (plain_value (is_important text value) value) whole else None
+    if is_mark 58 colon.kind then unless_empty (plain_value (is_important text value) value)
+    (property (name_by (word_value text name)) colon (is_important text value) (plain_value (is_important text value) value) whole)
+    else None
 declared_by text _ whole = None
 
 -- the declaration that these words are, if they are one: its whole goes from the first word to the last one

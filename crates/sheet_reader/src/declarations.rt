@@ -1,13 +1,13 @@
 //! Declarations (CSS Syntax 3, sections 5.4.4 to 5.4.6).
 
-ghost use Rattle.std.specs.Prelude.{◌≡◌, ◌<◌, ◌∷◌, ◌++◌, All, length, drop, slice_get, Some, IfOk, string_bytes, option_to_list};
+ghost use Rattle.std.specs.Prelude.{◌≡◌, ◌<◌, ◌++◌, All, length, drop, slice_get, Some, IfOk, string_bytes, option_to_list};
 ghost use Rattle.css_tokens.specs.Marks.{IsPieceOf};
 ghost use Rattle.selectors.specs.Words.{IsWordOf};
 ghost use Rattle.selectors.specs.Reading.{word_value};
 ghost use Rattle.std.specs.List.{AllByRecursion, list_any};
 ghost use Rattle.sheet_reader.specs.Seen.{item_seen};
 ghost use Rattle.sheet_reader.specs.Declarations.{names_important, is_important, plain_value, is_bad_kind, holds_bad, is_custom, name_by};
-ghost use Rattle.sheet_reader.specs.Declarations.{value_range, property_by, declared_by, declaration_of, item_property, item_at};
+ghost use Rattle.sheet_reader.specs.Declarations.{value_range, unless_empty, declared_by, declaration_of, item_property, item_at};
 ghost use Rattle.sheet_reader.specs.Declarations.{item_pieces, declarations, style_of};
 
 use crate::brackets::{Nesting, Stop, nesting_of, until};
@@ -155,25 +155,14 @@ fn value_range(colon: Word, range: Option<Range>) -> Range
     }
 }
 
-/// The declaration with this name and value, whose first words these are.
-fn property_by(
-    name: String,
-    colon: Word,
-    important: bool,
-    value: &[Word],
-    whole: Range,
-) -> Option<Property>
-    ensures { result ≡ property_by (string_bytes name) colon important value.now whole }
+/// A declaration with this value, unless the value is empty: only a name that begins with `--` may have such a one.
+fn unless_empty(value: &[Word], property: Property) -> Option<Property>
+    ensures { result ≡ unless_empty value.now property }
 {
-    if value.is_empty() && !is_custom(name.as_str()) {
+    if value.is_empty() && !is_custom(property.name.as_str()) {
         return None;
     }
-    Some(Property {
-        name: Text::new(name),
-        value: value_range(colon, range_of(value)),
-        important,
-        whole,
-    })
+    Some(property)
 }
 
 fn declared_by(
@@ -192,7 +181,14 @@ fn declared_by(
             }
             let important = is_important(alloc, text, value)?;
             let own = name_of(alloc, text, *name)?;
-            Ok(property_by(own, *colon, important, plain_value(important, value), whole))
+            let plain = plain_value(important, value);
+            let property = Property {
+                name: Text::new(own),
+                value: value_range(*colon, range_of(plain)),
+                important,
+                whole,
+            };
+            Ok(unless_empty(plain, property))
         }
         _ => Ok(None),
     }
