@@ -15,4 +15,5 @@ pub mod NumberForms
 pub mod TableForms
 pub mod SeamUnits
 pub mod SeamRows
+pub mod SeamNames
 pub mod SeamPieces

@@ -9,7 +9,7 @@ use Rattle.css_tokens.specs.Pieces.{pieces, pieces_after}
 use Rattle.css_tokens.specs.Seams.{is_stop, IsWholeBefore, no_more, piece_and}
 use Rattle.css_tokens.proofs.Cuts.{piece_first}
 use Rattle.css_tokens.proofs.TableForms.{first_fits}
-use Rattle.css_tokens.proofs.SeamRows.{piece_same}
+use Rattle.css_tokens.proofs.SeamNames.{piece_same}
 
 pub whole_before : (c : ℕ) → is_stop c ≡ true → (rest other : List ℕ) (place : ℕ) (front : List ℕ) (ts : List Token)
     → IsWholeBefore (c ∷ rest) place front ts → IsWholeBefore (c ∷ other) place front ts

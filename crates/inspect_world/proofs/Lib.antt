@@ -22,6 +22,7 @@ pub mod Scripts
 pub mod SeatRoom
 pub mod Ends
 pub mod CountLemmas
+pub mod StepSends
 pub mod LinkLemmas
 pub mod BareFrames
 pub mod SendForms

@@ -541,7 +541,7 @@ first_again text front rest x is_first =
 
 -- ---- parts one behind the other
 
-pub record RunLaw {X : Type 0} (ends : WordReading → Bool) (read : WordReading → Option ((List X × Bool) × WordReading))
+record RunLaw {X : Type 0} (ends : WordReading → Bool) (read : WordReading → Option ((List X × Bool) × WordReading))
     (R : List Word → List X × Bool → Type 0) (follows : List Word → Type 0) (text : List ℕ) : Type 0 where
   pub again : (front rest : List Word) (x : List X × Bool) → R front x → follows rest
       → read (word_reading text (front ++ rest)) ≡ Some (x, word_reading text rest)
@@ -549,7 +549,7 @@ pub record RunLaw {X : Type 0} (ends : WordReading → Bool) (read : WordReading
   pub some : (front : List Word) (x : List X × Bool) → R front x → 0 < length front
   pub before : (front rest : List Word) (x : List X × Bool) → R front x → follows (front ++ rest)
 
-pub run_follows : {X : Type 0} (ends : WordReading → Bool) (read : WordReading → Option ((List X × Bool) × WordReading))
+run_follows : {X : Type 0} (ends : WordReading → Bool) (read : WordReading → Option ((List X × Bool) × WordReading))
     (R : List Word → List X × Bool → Type 0) (follows : List Word → Type 0) (text : List ℕ) → RunLaw ends read R follows text
     → (element : Bool) (ws rest : List Word) (x : List X × Bool) → Run R element ws x → follows rest → follows (ws ++ rest)
 run_follows ends read R follows text law element ws rest x (done e) last = last
@@ -557,7 +557,7 @@ run_follows ends read R follows text law element ws rest x (more front others al
     subst follows (sym (ap (λ (vs : List Word). vs ++ rest) same ∙ append_assoc front others rest))
     (law.before front (others ++ rest) y is_part)
 
-pub run_again : {X : Type 0} (ends : WordReading → Bool) (read : WordReading → Option ((List X × Bool) × WordReading))
+run_again : {X : Type 0} (ends : WordReading → Bool) (read : WordReading → Option ((List X × Bool) × WordReading))
     (R : List Word → List X × Bool → Type 0) (follows : List Word → Type 0) (text : List ℕ) → RunLaw ends read R follows text
     → (fuel : ℕ) (element : Bool) (ws rest : List Word) (x : List X × Bool) → Run R element ws x → length ws < fuel → follows rest
     → ends (word_reading text rest) ≡ true
@@ -762,7 +762,7 @@ selector_again text all s i =
     some_selector : SelectorForm → Option SelectorForm
     some_selector x = Some x
 
-list_again : (text : List ℕ) (segs : List (List Word)) (ss : List SelectorForm) → AreSelectors text segs ss
+pub list_again : (text : List ℕ) (segs : List (List Word)) (ss : List SelectorForm) → AreSelectors text segs ss
     → selectors_in text segs ≡ Some ss
 unfolding selectors_in
 list_again text [] [] h = refl

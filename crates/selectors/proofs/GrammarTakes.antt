@@ -27,7 +27,7 @@ abbrev pub Parts : Type 0 → Type 0
 Parts X = Option ((List X × Bool) × WordReading)
 
 -- a run of parts stands in front, and behind it no part follows
-pub record FoundRun {X : Type 0} (ends : WordReading → Bool) (R : List Word → List X × Bool → Type 0) (text : List ℕ) (element : Bool)
+record FoundRun {X : Type 0} (ends : WordReading → Bool) (R : List Word → List X × Bool → Type 0) (text : List ℕ) (element : Bool)
     (ws : List Word) (x : List X × Bool) (r : WordReading) : Type 0 where
   pub front : List Word
   pub rest : List Word
@@ -43,7 +43,7 @@ with_front_some {X = X} front (Some z) x r e =
     let same = some_is {A = (List X × Bool) × WordReading} ((front ++ z.0.0, z.0.1), z.1) (x, r) e in
     (z, refl, ap (λ (p : (List X × Bool) × WordReading). p.0) same, ap (λ (p : (List X × Bool) × WordReading). p.1) same)
 
-pub many_takes : {X : Type 0} (ends : WordReading → Bool) (read : WordReading → Parts X) (R : List Word → List X × Bool → Type 0)
+many_takes : {X : Type 0} (ends : WordReading → Bool) (read : WordReading → Parts X) (R : List Word → List X × Bool → Type 0)
     (text : List ℕ)
     → ((ws : List Word) (x : List X × Bool) (r : WordReading) → ends (word_reading text ws) ≡ false
     → read (word_reading text ws) ≡ Some (x, r) → Found R text ws x r)
@@ -288,7 +288,7 @@ put_before_some : (s : SelectorForm) (o : Option (List SelectorForm)) (ss : List
 put_before_some s None ss e = absurd (none_some ss e)
 put_before_some s (Some xs) ss e = (xs, refl, some_is (s ∷ xs) ss e)
 
-list_takes : (text : List ℕ) (segs : List (List Word)) (ss : List SelectorForm) → selectors_in text segs ≡ Some ss
+pub list_takes : (text : List ℕ) (segs : List (List Word)) (ss : List SelectorForm) → selectors_in text segs ≡ Some ss
     → AreSelectors text segs ss
 unfolding selectors_in
 list_takes text [] ss e =

@@ -1,8 +1,5 @@
 pub mod Cutting
 pub mod WordCuts
-pub mod SimpleAgain
-pub mod SelectorAgain
-pub mod SelectorTakes
 pub mod ListCuts
 pub mod RuleCuts
 pub mod BracketPairs
