@@ -10,15 +10,15 @@ use Rattle.sheet_reader.specs.declared.book.SheetEntry.{SheetEntry}
 use Rattle.sheet_reader.specs.Books.{IsStored}
 use Rattle.css_objects.specs.Results.{class_names_result}
 use Rattle.cdp_messages.specs.declared.command.Command.{Command}
-use Rattle.cdp_messages.specs.declared.command.Command.TheVariants.{GetMatchedStyles, GetStyleSheetText, CollectClassNames}
+use Rattle.cdp_messages.specs.declared.command.Command.TheVariants.{AskCss}
 use Rattle.cdp_messages.specs.declared.command.Why.{Why}
 use Rattle.cdp_messages.specs.declared.down.ReplyBody.TheVariants.{ClassNames}
 use Rattle.cdp_messages.specs.Asked.{method_name}
 use Rattle.cdp_messages.specs.Laws.{PairsHaveUtf8}
 use Rattle.cdp_messages.specs.Views.{shown_text}
 use Rattle.cdp_messages.specs.Moves.{Moves}
-use Rattle.css_agent.specs.declared.asks.CssAsk.{CssAsk}
-use Rattle.css_agent.specs.declared.asks.CssAsk.TheVariants as css
+use Rattle.cdp_messages.specs.declared.css_ask.CssAsk.{CssAsk}
+use Rattle.cdp_messages.specs.declared.css_ask.CssAsk.TheVariants as css
 use Rattle.css_agent.specs.Asks.{sheet_named, if_sheet, answer_move}
 use Rattle.css_agent.specs.ClassNames.{class_names}
 use Rattle.css_agent.proofs.TellableStyles.{both, entry-stored, ValuesAre, NodesHaveValues, zipper-has, styles-told, class-names-utf8}
@@ -28,12 +28,6 @@ use Rattle.back_end.specs.Steps.{element_named, node_answer, text_answer, css_an
 use Rattle.back_end.specs.Laws.{MayAnswer, MayAnswerAll, TellsTextOf, TellTextOf, text_asked, reply_ids}
 use Rattle.back_end.proofs.SheetLemmas.{book-stored, named-is}
 use Rattle.back_end.proofs.WellSteps.{Well, HasNumbers, stays-with}
-
--- the command that it was
-abbrev pub css_command : CssAsk → Command
-css_command (css.GetMatchedStyles target) = GetMatchedStyles target
-css_command (css.GetStyleSheetText sheet) = GetStyleSheetText sheet
-css_command (css.CollectClassNames sheet) = CollectClassNames sheet
 
 -- ---- the move that answers it
 
@@ -139,7 +133,7 @@ names-may : (id : ℕ) (o : Option SheetEntry)
 names-may id None = tt
 names-may id (Some x) = (refl, refl)
 
-pub css-may : (id : ℕ) (ask : CssAsk) (state : State) → MayAnswerAll (method_name (css_command ask)) (css_step id ask state).moves
+pub css-may : (id : ℕ) (ask : CssAsk) (state : State) → MayAnswerAll (method_name (AskCss ask)) (css_step id ask state).moves
 css-may id (css.GetMatchedStyles target) state = (node-may id target (element_named target state) state, tt)
 css-may id (css.GetStyleSheetText sheet) state = (text-may id (sheet_named sheet (book_in state)), tt)
 css-may id (css.CollectClassNames sheet) state = (names-may id (sheet_named sheet (book_in state)), tt)
@@ -150,7 +144,7 @@ node-text sheet id target (Err why) state = tt
 node-text sheet id target (Ok serial) state = tt
 
 text-text : (id : ℕ) (sheet : List ℕ) (o : Option SheetEntry) (state : State) → sheet_named sheet (book_in state) ≡ o
-    → TellsTextOf (text_asked (GetStyleSheetText sheet)) (text_answer id o)
+    → TellsTextOf (text_asked (AskCss (css.GetStyleSheetText sheet))) (text_answer id o)
 text-text id sheet None state e = tt
 text-text id sheet (Some x) state e = (named-is sheet state.side.sheets x e).told
 
@@ -159,9 +153,9 @@ names-text : (sheet : Option ℕ) (id : ℕ) (o : Option SheetEntry)
 names-text sheet id None = tt
 names-text sheet id (Some x) = tt
 
-pub css-text : (id : ℕ) (ask : CssAsk) (state : State) → TellTextOf (text_asked (css_command ask)) (css_step id ask state).moves
+pub css-text : (id : ℕ) (ask : CssAsk) (state : State) → TellTextOf (text_asked (AskCss ask)) (css_step id ask state).moves
 css-text id (css.GetMatchedStyles target) state =
-    (node-text (text_asked (GetMatchedStyles target)) id target (element_named target state) state, tt)
+    (node-text (text_asked (AskCss (css.GetMatchedStyles target))) id target (element_named target state) state, tt)
 css-text id (css.GetStyleSheetText sheet) state = (text-text id sheet (sheet_named sheet (book_in state)) state refl, tt)
 css-text id (css.CollectClassNames sheet) state =
-    (names-text (text_asked (CollectClassNames sheet)) id (sheet_named sheet (book_in state)), tt)
+    (names-text (text_asked (AskCss (css.CollectClassNames sheet))) id (sheet_named sheet (book_in state)), tt)

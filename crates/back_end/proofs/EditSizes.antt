@@ -17,13 +17,13 @@ use Rattle.cdp_json.specs.Fields.{field_if, field_from, field_of}
 use Rattle.cdp_json.specs.Lookups.{then_ok, required, Lookups, no_lookups, with_later}
 use Rattle.cdp_json.proofs.Options.{and_then_some}
 use Rattle.cdp_messages.specs.declared.command.Command.{Command}
-use Rattle.cdp_messages.specs.declared.command.Command.TheVariants.{DomEnable, DomDisable, GetDocument, RequestChildNodes, PushByPath}
-use Rattle.cdp_messages.specs.declared.command.Command.TheVariants.{PushBySerials, QuerySelector, QuerySelectorAll, GetAttributes}
-use Rattle.cdp_messages.specs.declared.command.Command.TheVariants.{DescribeNode, SetAttributeValue, RemoveAttribute, SetNodeValue}
-use Rattle.cdp_messages.specs.declared.command.Command.TheVariants.{RemoveNode, MoveTo, CopyTo, MarkUndoableState, Undo, Redo, CssEnable}
-use Rattle.cdp_messages.specs.declared.command.Command.TheVariants.{CssDisable, GetMatchedStyles, GetStyleSheetText, CollectClassNames}
-use Rattle.cdp_messages.specs.declared.command.Command.TheVariants.{SetStyleTexts, SetRuleSelector, SetStyleSheetText, AddRule}
-use Rattle.cdp_messages.specs.declared.command.Command.TheVariants.{SetBreakpoint, RemoveBreakpoint, ReplayLoad, ReplayAct}
+use Rattle.cdp_messages.specs.declared.command.Command.TheVariants.{DomEnable, DomDisable, CssEnable, CssDisable, AskDom, EditDom, AskCss}
+use Rattle.cdp_messages.specs.declared.command.Command.TheVariants.{EditCss, MarkUndoableState, Undo, Redo, SetBreakpoint, RemoveBreakpoint}
+use Rattle.cdp_messages.specs.declared.command.Command.TheVariants.{ReplayLoad, ReplayAct}
+use Rattle.cdp_messages.specs.declared.dom_ask.DomAsk.TheVariants as ask
+use Rattle.cdp_messages.specs.declared.dom_edit.DomEdit.TheVariants as tree
+use Rattle.cdp_messages.specs.declared.css_ask.CssAsk.TheVariants as css
+use Rattle.cdp_messages.specs.declared.css_edit.CssEdit.TheVariants as style
 use Rattle.cdp_messages.specs.declared.command.Param.{Param}
 use Rattle.cdp_messages.specs.declared.command.Param.TheVariants as param
 use Rattle.cdp_messages.specs.declared.command.Why.{Why}
@@ -39,13 +39,12 @@ use Rattle.cdp_messages.specs.Parameters.{serials_field, node_field, query_field
 use Rattle.cdp_messages.specs.Parameters.{reads_with, command_by}
 use Rattle.cdp_messages.specs.Asked.{json_of, of_method, command_for, unless_session, or_bad_request, params_of, command_of, method_in}
 use Rattle.cdp_messages.specs.Asked.{command_in, asked_by, with_id, asked_in, asked_value, asked}
-use Rattle.back_end.specs.Servers.{server_of}
 use Rattle.back_end.specs.Laws.{most_edits, edits_asked}
 use Rattle.back_end.proofs.FrameSizes.{data_size, items_size, members_size, read-long}
 
 -- how many edits a command comes to at most
 abbrev pub edits_of : Command → ℕ
-edits_of c = most_edits (server_of c)
+edits_of c = most_edits c
 
 -- ---- members
 
@@ -188,9 +187,10 @@ edits-bare : (made c : Command) (ms : Members) → edits_of made ≤ 0 → ◌�
     → edits_of c ≤ members_size ms
 edits-bare made c ms none is = let same : made ≡ c = cc in let zero = subst (λ e. edits_of e ≤ 0) same none in omega arith
 
-edits-texts : (ms : Members) (c : Command) → reads_with edits_field (λ x. SetStyleTexts x.0) ms ≡ Ok c → edits_of c ≤ members_size ms
+edits-texts : (ms : Members) (c : Command) → reads_with edits_field (λ x. EditCss (style.SetStyleTexts x.0)) ms ≡ Ok c → edits_of c ≤
+    members_size ms
 edits-texts ms c is =
-    let all = needs-one param.Edits (list_of text_edit) no_lookups (λ x. SetStyleTexts x.0) ms c is in
+    let all = needs-one param.Edits (list_of text_edit) no_lookups (λ x. EditCss (style.SetStyleTexts x.0)) ms c is in
     let size = member-size (param_name param.Edits) ms all.0 all.2 in
     let found = and_then_some (read_items text_edit.reads) (as_array all.0) all.1.0 all.3 in
     let few = items-few text_edit.reads found.0 all.1.0 found.2 in
@@ -202,43 +202,49 @@ edits-texts ms c is =
 pub edits-by : (m : Method) (ms : Members) (c : Command) → command_by m ms ≡ Ok c → edits_of c ≤ members_size ms
 edits-by method.DomEnable ms c is = edits-bare DomEnable c ms (omega arith) is
 edits-by method.DomDisable ms c is = edits-bare DomDisable c ms (omega arith) is
-edits-by method.GetDocument ms c is = edits-none depth_fields (λ x. GetDocument x.0 x.1.0) ms c (λ x. omega arith) is
-edits-by method.RequestChildNodes ms c is = edits-none children_fields (λ x. RequestChildNodes x.0 x.1.0 x.1.1.0) ms c (λ x. omega arith) is
-edits-by method.PushByPath ms c is = edits-none path_field (λ x. PushByPath x.0) ms c (λ x. omega arith) is
-edits-by method.PushBySerials ms c is = edits-none serials_field (λ x. PushBySerials x.0) ms c (λ x. omega arith) is
-edits-by method.QuerySelector ms c is = edits-none query_fields (λ x. QuerySelector x.0 x.1.0) ms c (λ x. omega arith) is
-edits-by method.QuerySelectorAll ms c is = edits-none query_fields (λ x. QuerySelectorAll x.0 x.1.0) ms c (λ x. omega arith) is
-edits-by method.GetAttributes ms c is = edits-none node_field (λ x. GetAttributes x.0) ms c (λ x. omega arith) is
-edits-by method.DescribeNode ms c is = edits-none describe_fields (λ x. DescribeNode x.0 x.1.0 x.1.1.0 x.1.1.1.0) ms c (λ x. omega arith) is
+edits-by method.GetDocument ms c is = edits-none depth_fields (λ x. AskDom (ask.GetDocument x.0 x.1.0)) ms c (λ x. omega arith) is
+edits-by method.RequestChildNodes ms c is =
+    edits-none children_fields (λ x. AskDom (ask.RequestChildNodes x.0 x.1.0 x.1.1.0)) ms c (λ x. omega arith) is
+edits-by method.PushByPath ms c is = edits-none path_field (λ x. AskDom (ask.PushByPath x.0)) ms c (λ x. omega arith) is
+edits-by method.PushBySerials ms c is = edits-none serials_field (λ x. AskDom (ask.PushBySerials x.0)) ms c (λ x. omega arith) is
+edits-by method.QuerySelector ms c is = edits-none query_fields (λ x. AskDom (ask.QuerySelector x.0 x.1.0)) ms c (λ x. omega arith) is
+edits-by method.QuerySelectorAll ms c is = edits-none query_fields (λ x. AskDom (ask.QuerySelectorAll x.0 x.1.0)) ms c (λ x. omega arith) is
+edits-by method.GetAttributes ms c is = edits-none node_field (λ x. AskDom (ask.GetAttributes x.0)) ms c (λ x. omega arith) is
+edits-by method.DescribeNode ms c is =
+    edits-none describe_fields (λ x. AskDom (ask.DescribeNode x.0 x.1.0 x.1.1.0 x.1.1.1.0)) ms c (λ x. omega arith) is
 edits-by method.SetAttributeValue ms c is = edits-two param.NodeId whole (needed param.Name text (needed param.Value text no_lookups))
-    (λ x. SetAttributeValue x.0 x.1.0 x.1.1.0) ms c (λ x. omega arith) is
+    (λ x. EditDom (tree.SetAttributeValue x.0 x.1.0 x.1.1.0)) ms c (λ x. omega arith) is
 edits-by method.RemoveAttribute ms c is = edits-two param.NodeId whole (needed param.Name text no_lookups)
-    (λ x. RemoveAttribute x.0 x.1.0) ms c (λ x. omega arith) is
-edits-by method.SetNodeValue ms c is = edits-two param.NodeId whole (needed param.Value text no_lookups) (λ x. SetNodeValue x.0 x.1.0) ms c
+    (λ x. EditDom (tree.RemoveAttribute x.0 x.1.0)) ms c (λ x. omega arith) is
+edits-by method.SetNodeValue ms c is =
+    edits-two param.NodeId whole (needed param.Value text no_lookups) (λ x. EditDom (tree.SetNodeValue x.0 x.1.0)) ms c
     (λ x. omega arith) is
-edits-by method.RemoveNode ms c is = edits-two param.NodeId whole no_lookups (λ x. RemoveNode x.0) ms c (λ x. omega arith) is
+edits-by method.RemoveNode ms c is = edits-two param.NodeId whole no_lookups (λ x. EditDom (tree.RemoveNode x.0)) ms c (λ x. omega arith) is
 edits-by method.MoveTo ms c is = edits-two param.NodeId whole
-    (needed param.TargetNodeId whole (allowed param.InsertBeforeNodeId whole no_lookups)) (λ x. MoveTo x.0 x.1.0 x.1.1.0) ms c
+    (needed param.TargetNodeId whole (allowed param.InsertBeforeNodeId whole no_lookups)) (λ x. EditDom (tree.MoveTo x.0 x.1.0 x.1.1.0)) ms
+    c
     (λ x. omega arith) is
 edits-by method.CopyTo ms c is = edits-two param.NodeId whole
-    (needed param.TargetNodeId whole (allowed param.InsertBeforeNodeId whole no_lookups)) (λ x. CopyTo x.0 x.1.0 x.1.1.0) ms c
+    (needed param.TargetNodeId whole (allowed param.InsertBeforeNodeId whole no_lookups)) (λ x. EditDom (tree.CopyTo x.0 x.1.0 x.1.1.0)) ms
+    c
     (λ x. omega arith) is
 edits-by method.MarkUndoableState ms c is = edits-bare MarkUndoableState c ms (omega arith) is
 edits-by method.Undo ms c is = edits-bare Undo c ms (omega arith) is
 edits-by method.Redo ms c is = edits-bare Redo c ms (omega arith) is
 edits-by method.CssEnable ms c is = edits-bare CssEnable c ms (omega arith) is
 edits-by method.CssDisable ms c is = edits-bare CssDisable c ms (omega arith) is
-edits-by method.GetMatchedStyles ms c is = edits-none node_field (λ x. GetMatchedStyles x.0) ms c (λ x. omega arith) is
-edits-by method.GetStyleSheetText ms c is = edits-none sheet_field (λ x. GetStyleSheetText x.0) ms c (λ x. omega arith) is
-edits-by method.CollectClassNames ms c is = edits-none sheet_field (λ x. CollectClassNames x.0) ms c (λ x. omega arith) is
+edits-by method.GetMatchedStyles ms c is = edits-none node_field (λ x. AskCss (css.GetMatchedStyles x.0)) ms c (λ x. omega arith) is
+edits-by method.GetStyleSheetText ms c is = edits-none sheet_field (λ x. AskCss (css.GetStyleSheetText x.0)) ms c (λ x. omega arith) is
+edits-by method.CollectClassNames ms c is = edits-none sheet_field (λ x. AskCss (css.CollectClassNames x.0)) ms c (λ x. omega arith) is
 edits-by method.SetStyleTexts ms c is = edits-texts ms c is
 edits-by method.SetRuleSelector ms c is = edits-two param.StyleSheetId text
-    (needed param.Range range_parameter (needed param.Selector text no_lookups)) (λ x. SetRuleSelector x.0 x.1.0 x.1.1.0) ms c
+    (needed param.Range range_parameter (needed param.Selector text no_lookups)) (λ x. EditCss (style.SetRuleSelector x.0 x.1.0 x.1.1.0))
+    ms c
     (λ x. omega arith) is
 edits-by method.SetStyleSheetText ms c is = edits-two param.StyleSheetId text (needed param.Text text no_lookups)
-    (λ x. SetStyleSheetText x.0 x.1.0) ms c (λ x. omega arith) is
+    (λ x. EditCss (style.SetStyleSheetText x.0 x.1.0)) ms c (λ x. omega arith) is
 edits-by method.AddRule ms c is = edits-two param.StyleSheetId text
-    (needed param.RuleText text (needed param.Location range_parameter no_lookups)) (λ x. AddRule x.0 x.1.0 x.1.1.0) ms c
+    (needed param.RuleText text (needed param.Location range_parameter no_lookups)) (λ x. EditCss (style.AddRule x.0 x.1.0 x.1.1.0)) ms c
     (λ x. omega arith) is
 edits-by method.SetBreakpoint ms c is = edits-none watch_fields (λ x. SetBreakpoint x.0 x.1.0) ms c (λ x. omega arith) is
 edits-by method.RemoveBreakpoint ms c is = edits-none watch_fields (λ x. RemoveBreakpoint x.0 x.1.0) ms c (λ x. omega arith) is

@@ -10,13 +10,9 @@ use Rattle.page_tree.specs.Pages.{PageValue, IsValid}
 use Rattle.node_binding.specs.Sessions.{Session, IsSession, is_open, reset}
 use Rattle.node_binding.proofs.StartLemmas.{count-alone}
 use Rattle.cdp_messages.specs.declared.command.Command.{Command}
-use Rattle.cdp_messages.specs.declared.command.Command.TheVariants.{DomEnable, DomDisable, GetDocument, RequestChildNodes, PushByPath}
-use Rattle.cdp_messages.specs.declared.command.Command.TheVariants.{PushBySerials, QuerySelector, QuerySelectorAll, GetAttributes}
-use Rattle.cdp_messages.specs.declared.command.Command.TheVariants.{DescribeNode, SetAttributeValue, RemoveAttribute, SetNodeValue}
-use Rattle.cdp_messages.specs.declared.command.Command.TheVariants.{RemoveNode, MoveTo, CopyTo, MarkUndoableState, Undo, Redo, CssEnable}
-use Rattle.cdp_messages.specs.declared.command.Command.TheVariants.{CssDisable, GetMatchedStyles, GetStyleSheetText, CollectClassNames}
-use Rattle.cdp_messages.specs.declared.command.Command.TheVariants.{SetStyleTexts, SetRuleSelector, SetStyleSheetText, AddRule}
-use Rattle.cdp_messages.specs.declared.command.Command.TheVariants.{SetBreakpoint, RemoveBreakpoint, ReplayLoad, ReplayAct}
+use Rattle.cdp_messages.specs.declared.command.Command.TheVariants.{DomEnable, DomDisable, CssEnable, CssDisable, AskDom, EditDom, AskCss}
+use Rattle.cdp_messages.specs.declared.command.Command.TheVariants.{EditCss, MarkUndoableState, Undo, Redo, SetBreakpoint, RemoveBreakpoint}
+use Rattle.cdp_messages.specs.declared.command.Command.TheVariants.{ReplayLoad, ReplayAct}
 use Rattle.cdp_messages.specs.declared.command.Asked.{Asked}
 use Rattle.cdp_messages.specs.declared.command.Refused.{Refused}
 use Rattle.cdp_messages.specs.declared.command.Why.{Why}
@@ -26,14 +22,13 @@ use Rattle.cdp_messages.specs.declared.dom_ask.DomAsk.{DomAsk}
 use Rattle.cdp_messages.specs.declared.dom_ask.DomAsk.TheVariants as ask
 use Rattle.cdp_messages.specs.declared.down.ReplyBody.TheVariants.{Nothing}
 use Rattle.cdp_messages.specs.Asked.{asked, method_name, fits_command}
-use Rattle.cdp_messages.specs.DomAsks.{as_command, dom_ask_in, ask_name, fits_ask}
+use Rattle.cdp_messages.specs.DomAsks.{ask_name, fits_ask}
 use Rattle.cdp_messages.specs.Views.{ShownSheet}
 use Rattle.cdp_messages.specs.Moves.{replied, all_off, failed, CanBeTold, Course, ends, goes}
-use Rattle.cdp_messages.proofs.DomAskLaws.{dom_asks_are_commands}
-use Rattle.css_agent.specs.declared.asks.CssAsk.{CssAsk}
-use Rattle.css_agent.specs.declared.asks.CssAsk.TheVariants as css
-use Rattle.css_agent.specs.declared.edits.CssEdit.{CssEdit}
-use Rattle.css_agent.specs.declared.edits.CssEdit.TheVariants as style
+use Rattle.cdp_messages.specs.declared.css_ask.CssAsk.{CssAsk}
+use Rattle.cdp_messages.specs.declared.css_ask.CssAsk.TheVariants as css
+use Rattle.cdp_messages.specs.declared.css_edit.CssEdit.{CssEdit}
+use Rattle.cdp_messages.specs.declared.css_edit.CssEdit.TheVariants as style
 use Rattle.css_agent.specs.EditLaws.{HasEditTexts, css_edit_name}
 use Rattle.dom_agent.specs.Laws.{session_outcome, CanTell, session_view as seen_by}
 use Rattle.dom_agent.specs.Keepers.{session_keeper}
@@ -42,18 +37,16 @@ use Rattle.dom_agent.proofs.RepliedLemmas.{description-keeps}
 use Rattle.dom_agent.proofs.OutcomeLemmas.{OutcomeGoes, either_ask, root-opened, asks-go, stays_session, draws_few}
 use Rattle.dom_agent.proofs.MoveLemmas.{steps_are_moves, replies_answer}
 use Rattle.dom_breakpoints.specs.Watched.{Watched, with_watch, without_watch}
-use Rattle.back_end.specs.declared.dom_edits.DomEdit.{DomEdit}
-use Rattle.back_end.specs.declared.dom_edits.DomEdit.TheVariants as tree
+use Rattle.cdp_messages.specs.declared.dom_edit.DomEdit.{DomEdit}
+use Rattle.cdp_messages.specs.declared.dom_edit.DomEdit.TheVariants as tree
 use Rattle.back_end.specs.Texts.{HasTreeTexts}
 use Rattle.back_end.proofs.TreeSteps.{AsksFor, tree-edit-answered}
 use Rattle.back_end.specs.States.{State, page_nodes, book_in, sheets_shown, view_of, HoldsNow, HasHistory, IsState}
 use Rattle.back_end.specs.OwnMethods.{load_asked, act_asked}
 use Rattle.back_end.specs.Steps.{Step, with_client, refusing, client_reset, moves_come, Turn, acts, loads, turn_step, ask_needs_on}
 use Rattle.back_end.specs.Steps.{needs_on, needs_css, turns_on, client_served, agent_step, css_step, serial_now, watch_kind, watch_step}
-use Rattle.back_end.specs.Steps.{own_step, sheet_edit_step, server_step, command_step, asked_step}
-use Rattle.back_end.specs.Servers.{Server, enables, disables, css_enables, css_disables, agent, css_agent, edits_tree, edits_sheets}
-use Rattle.back_end.specs.Servers.{ends_group, undoes, redoes, watches, unwatches, page_load, page_act, nobody, by_agent, server_of}
-use Rattle.back_end.specs.Servers.{HasServedTexts}
+use Rattle.back_end.specs.Steps.{own_step, sheet_edit_step, served_step, command_step, asked_step}
+use Rattle.back_end.specs.Texts.{HasServedTexts}
 use Rattle.back_end.specs.Laws.{reply_ids, MayAnswer, HasRoom, StepsWell, KeepsAtMost, most_splices, most_edits, edits_asked, MayAnswerAll}
 use Rattle.back_end.specs.Laws.{text_asked, TellTextOf, IsAnswered, IsTurn, FramesStepWell}
 use Rattle.back_end.proofs.AskedLemmas.{AskedFits, frame-fits}
@@ -62,7 +55,7 @@ use Rattle.back_end.proofs.OwnLemmas.{load-turn, act-turn, answering-well, answe
 use Rattle.back_end.proofs.TurnAnswers.{AreEvents, events-answer, events-may, events-text, may-append, texts-append, come-are-events}
 use Rattle.back_end.proofs.TurnAnswers.{turn-events}
 use Rattle.back_end.proofs.AnswerLemmas.{flat-append, outcome-answers, outcome-may, outcome-text}
-use Rattle.back_end.proofs.CssAnswers.{css_command, css-well, css-once, css-may, css-text}
+use Rattle.back_end.proofs.CssAnswers.{css-well, css-once, css-may, css-text}
 use Rattle.back_end.proofs.SheetSteps.{css-on-well, css-off-well}
 use Rattle.back_end.proofs.SpliceSteps.{sheet-edit-answered}
 use Rattle.back_end.proofs.UndoSteps.{undo-answered, redo-answered, mark-answered}
@@ -234,7 +227,7 @@ enabled-is state is = record {
 }
 
 enables-well : (id : ℕ) (state : State) → HoldsNow state → HasRoom state → is_counted id ≡ true
-    → Well state (server_step id enables state) 0 0 0
+    → Well state (served_step id DomEnable state) 0 0 0
 enables-well id state is room small =
     let told : CanBeTold (view_of state) = told-view state is (room-numbers state room) in
     record {
@@ -254,7 +247,7 @@ and-false true = refl
 and-false false = refl
 
 disables-well : (id : ℕ) (state : State) → HoldsNow state → HasRoom state → is_counted id ≡ true
-    → Well state (server_step id disables state) 0 0 0
+    → Well state (served_step id DomDisable state) 0 0 0
 disables-well id state is room small =
     let after : State = with_client (client_reset false state.client) state in
     let done : HoldsNow after = disabled-is state is in
@@ -305,25 +298,6 @@ serves-plain c low well recalls once may texts = record {
   texts = texts;
 }
 
--- a server that a replay has
-data IsServer (c : Command) : Server → Type 0 where
-  is_enables : MayAnswer (method_name c) (replied 0 Nothing) → IsServer c enables
-  is_disables : method_name c ≡ codes "DOM.disable" → IsServer c disables
-  is_css_enables : MayAnswer (method_name c) (replied 0 Nothing) → IsServer c css_enables
-  is_css_disables : method_name c ≡ codes "CSS.disable" → IsServer c css_disables
-  is_agent : (ask : DomAsk) → method_name c ≡ ask_name ask → fits_ask ask ≡ true → IsServer c (agent ask)
-  is_css : (ask : CssAsk) → c ≡ css_command ask → IsServer c (css_agent ask)
-  is_sheet_edit : (x : CssEdit) → method_name c ≡ css_edit_name x → HasEditTexts x → IsServer c (edits_sheets x)
-  is_tree_edit : (edit : DomEdit) → AsksFor (method_name c) edit → HasTreeTexts edit → IsServer c (edits_tree edit)
-  is_ends_group : MayAnswer (method_name c) (replied 0 Nothing) → IsServer c ends_group
-  is_undoes : MayAnswer (method_name c) (replied 0 Nothing) → IsServer c undoes
-  is_redoes : MayAnswer (method_name c) (replied 0 Nothing) → IsServer c redoes
-  is_watches : (node : ℕ) (word : WatchWord) → MayAnswer (method_name c) (replied 0 Nothing) → IsServer c (watches node word)
-  is_unwatches : (node : ℕ) (word : WatchWord) → MayAnswer (method_name c) (replied 0 Nothing) → IsServer c (unwatches node word)
-  is_load : (params : Data) → MayAnswer (method_name c) (replied 0 Nothing) → HasUtf8 params → IsServer c (page_load params)
-  is_act : (params : Data) → MayAnswer (method_name c) (replied 0 Nothing) → HasUtf8 params → IsServer c (page_act params)
-  is_nobody : IsServer c nobody
-
 -- what one of our own two methods comes to
 serves-own : {A : Type 0} (turn_of : A → Turn) (id : ℕ) (r : Result A Why) (c : Command) (state : State)
     → ((a : A) → r ≡ Ok a → IsTurn (turn_of a))
@@ -357,15 +331,15 @@ serves-watch id change node c state adds h is room small = at (serial_now state 
       (recalls-same state _ is.history refl refl (omega arith)) refl (h, tt) (tt, tt)
 
 -- a command is refused while a domain is off that it needs, and else carried out
-command-serves : (id : ℕ) (c : Command) (server : Server) (most : ℕ) (state : State) → IsState state → HasRoom state → is_counted id ≡ true
-    → ((needs_on server && not state.client.dom_on) ≡ false → (needs_css server && not state.client.css_on) ≡ false
-    → Serves state (server_step id server state) id c most)
-    → Serves state (command_step id server state) id c most
-command-serves id c server most state is room small goes_on = at (needs_on server && not state.client.dom_on) refl
-    (needs_css server && not state.client.css_on) refl where
-      at : (a : Bool) → (needs_on server && not state.client.dom_on) ≡ a → (b : Bool) → (needs_css server && not state.client.css_on) ≡ b
+command-serves : (id : ℕ) (c : Command) (most : ℕ) (state : State) → IsState state → HasRoom state → is_counted id ≡ true
+    → ((needs_on c && not state.client.dom_on) ≡ false → (needs_css c && not state.client.css_on) ≡ false
+    → Serves state (served_step id c state) id c most)
+    → Serves state (command_step id c state) id c most
+command-serves id c most state is room small goes_on = at (needs_on c && not state.client.dom_on) refl
+    (needs_css c && not state.client.css_on) refl where
+      at : (a : Bool) → (needs_on c && not state.client.dom_on) ≡ a → (b : Bool) → (needs_css c && not state.client.css_on) ≡ b
           → Serves state (cond a (refusing (Some id) DomOff state)
-          (cond b (refusing (Some id) CssOff state) (server_step id server state))) id c most
+          (cond b (refusing (Some id) CssOff state) (served_step id c state))) id c most
       at true e b f = serves-refusal id DomOff c most state is room small
       at false e true f = serves-refusal id CssOff c most state is room small
       at false e false f = goes_on e f
@@ -388,116 +362,91 @@ on-events : (b : Bool) (sheets : List ShownSheet) → AreEvents (cond b [] (move
 on-events true sheets = tt
 on-events false sheets = come-are-events sheets
 
-serves : (id : ℕ) (c : Command) (server : Server) (state : State) → IsServer c server → IsState state → HasRoom state → is_counted id ≡ true
-    → Serves state (command_step id server state) id c (most_edits server)
-serves id c _ state (is_enables h) is room small =
-    command-serves id c enables 0 state is room small
-    (λ dom css. serves-plain {ids = 0} c (omega arith)
+-- the reply to each of a client's edits of the tree
+asks-for : (edit : DomEdit) → AsksFor (method_name (EditDom edit)) edit
+asks-for (tree.SetAttributeValue node name value) = (refl, refl)
+asks-for (tree.RemoveAttribute node name) = (refl, refl)
+asks-for (tree.SetNodeValue node value) = (refl, refl)
+asks-for (tree.RemoveNode node) = (refl, refl)
+asks-for (tree.MoveTo node target before) = λ id. (refl, refl)
+asks-for (tree.CopyTo node target before) = λ id. (refl, refl)
+
+serves : (id : ℕ) (c : Command) (state : State) → fits_command c ≡ true → HasServedTexts c → IsState state → HasRoom state
+    → is_counted id ≡ true → Serves state (command_step id c state) id c (most_edits c)
+serves id DomEnable state fits texts is room small =
+    command-serves id DomEnable 0 state is room small
+    (λ dom css. serves-plain {ids = 0} DomEnable (omega arith)
     (more (omega arith) (omega arith) (omega arith) (enables-well id state is.now room small))
-    (recalls-same state _ is.history refl refl (omega arith)) refl (h, tt) (tt, tt))
-serves id c _ state (is_disables h) is room small =
-    command-serves id c disables 0 state is room small
-    (λ dom css. serves-plain {ids = 0} c (omega arith)
+    (recalls-same state _ is.history refl refl (omega arith)) refl ((refl, refl), tt) (tt, tt))
+serves id DomDisable state fits texts is room small =
+    command-serves id DomDisable 0 state is room small
+    (λ dom css. serves-plain {ids = 0} DomDisable (omega arith)
     (more (omega arith) (omega arith) (omega arith) (disables-well id state is.now room small))
-    (recalls-none state _ refl) refl (h, tt) (tt, tt))
-serves id c _ state (is_css_enables h) is room small =
+    (recalls-none state _ refl) refl (refl, tt) (tt, tt))
+serves id (AskDom ask) state fits texts is room small =
+    let c : Command = AskDom ask in
+    command-serves id c 0 state is room small (λ dom css. serves-plain {ids = 100000} c (omega arith)
+    (more (omega arith) (omega arith) (omega arith) (agent-well id ask state is.now room small fits dom))
+    (agent-recalls ask (session_outcome state.side.page ask state.client.session) state is.history)
+    (outcome-answers id (session_outcome state.side.page ask state.client.session))
+    (outcome-may id ask (session_outcome state.side.page ask state.client.session)
+    (replies_answer state.side.page ask state.client.session is.now.page fits is.now.session))
+    (outcome-text (text_asked c) id (session_outcome state.side.page ask state.client.session)))
+serves id (EditDom edit) state fits texts is room small =
+    let c : Command = EditDom edit in
+    command-serves id c 2 state is room small
+    (λ dom css. tree-edit-answered (method_name c) (text_asked c) id edit state texts (asks-for edit) is room small)
+serves id MarkUndoableState state fits texts is room small =
+    let c : Command = MarkUndoableState in
+    command-serves id c 0 state is room small
+    (λ dom css. mark-answered (method_name c) (text_asked c) id state (refl, refl) is room small)
+serves id Undo state fits texts is room small =
+    let c : Command = Undo in
+    command-serves id c 0 state is room small
+    (λ dom css. undo-answered (method_name c) (text_asked c) id state (refl, refl) is room small)
+serves id Redo state fits texts is room small =
+    let c : Command = Redo in
+    command-serves id c 0 state is room small
+    (λ dom css. redo-answered (method_name c) (text_asked c) id state (refl, refl) is room small)
+serves id CssEnable state fits texts is room small =
     let events = on-events state.client.css_on state.side.sheets in
     let first = cond state.client.css_on [] (moves_come state.side.sheets) in
-    command-serves id c css_enables 0 state is room small (λ dom css. serves-plain {ids = 0} c (omega arith)
+    let c : Command = CssEnable in
+    command-serves id c 0 state is room small (λ dom css. serves-plain {ids = 0} c (omega arith)
     (more (omega arith) (omega arith) (omega arith)
     (css-on-well id state is.now (room-numbers state room) (on-by state.client.dom_on dom) small))
     (recalls-same state _ is.history refl refl (omega arith))
     (css-once-on id state.client.css_on state.side.sheets)
-    (may-append (method_name c) first (replied id Nothing ∷ []) (events-may (method_name c) first events) (h, tt))
+    (may-append (method_name c) first (replied id Nothing ∷ []) (events-may (method_name c) first events) ((refl, refl), tt))
     (texts-append (text_asked c) first (replied id Nothing ∷ []) (events-text (text_asked c) first events) (tt, tt)))
-serves id c _ state (is_css_disables h) is room small =
-    command-serves id c css_disables 0 state is room small (λ dom css. serves-plain {ids = 0} c (omega arith)
+serves id CssDisable state fits texts is room small =
+    command-serves id CssDisable 0 state is room small (λ dom css. serves-plain {ids = 0} CssDisable (omega arith)
     (more (omega arith) (omega arith) (omega arith) (css-off-well id state is.now (room-numbers state room) small))
-    (recalls-same state _ is.history refl refl (omega arith)) refl (h, tt) (tt, tt))
-serves id c _ state (is_agent ask h fits) is room small =
-    command-serves id c (agent ask) 0 state is room small (λ dom css. serves-plain {ids = 100000} c (omega arith)
-    (more (omega arith) (omega arith) (omega arith) (agent-well id ask state is.now room small fits dom))
-    (agent-recalls ask (session_outcome state.side.page ask state.client.session) state is.history)
-    (outcome-answers id (session_outcome state.side.page ask state.client.session))
-    (subst (λ method. MayAnswerAll method (agent_step id ask state).moves) (sym h)
-    (outcome-may id ask (session_outcome state.side.page ask state.client.session)
-    (replies_answer state.side.page ask state.client.session is.now.page fits is.now.session)))
-    (outcome-text (text_asked c) id (session_outcome state.side.page ask state.client.session)))
-serves id c _ state (is_css ask h) is room small =
-    command-serves id c (css_agent ask) 0 state is room small (λ dom css. serves-plain {ids = 0} c (omega arith)
+    (recalls-same state _ is.history refl refl (omega arith)) refl (refl, tt) (tt, tt))
+serves id (AskCss ask) state fits texts is room small =
+    let c : Command = AskCss ask in
+    command-serves id c 0 state is room small (λ dom css. serves-plain {ids = 0} c (omega arith)
     (more (omega arith) (omega arith) (omega arith)
     (css-well id ask state is.now (room-numbers state room) (on-by state.client.css_on css) small))
     (recalls-same state state is.history refl refl (omega arith))
-    (css-once id ask state)
-    (subst (λ d. MayAnswerAll (method_name d) (css_step id ask state).moves) (sym h) (css-may id ask state))
-    (subst (λ d. TellTextOf (text_asked d) (css_step id ask state).moves) (sym h) (css-text id ask state)))
-serves id c _ state (is_sheet_edit x h u) is room small =
-    command-serves id c (edits_sheets x) (most_splices x) state is room small (λ dom css.
-    subst (λ method. Answered method (text_asked c) id (most_splices x) state (sheet_edit_step id x state)) (sym h)
-    (sheet-edit-answered id x state (text_asked c) is room u small))
-serves id c _ state (is_tree_edit edit asks texts) is room small =
-    command-serves id c (edits_tree edit) 2 state is room small
-    (λ dom css. tree-edit-answered (method_name c) (text_asked c) id edit state texts asks is room small)
-serves id c _ state (is_ends_group h) is room small =
-    command-serves id c ends_group 0 state is room small (λ dom css. mark-answered (method_name c) (text_asked c) id state h is room small)
-serves id c _ state (is_undoes h) is room small =
-    command-serves id c undoes 0 state is room small (λ dom css. undo-answered (method_name c) (text_asked c) id state h is room small)
-serves id c _ state (is_redoes h) is room small =
-    command-serves id c redoes 0 state is room small (λ dom css. redo-answered (method_name c) (text_asked c) id state h is room small)
-serves id c _ state (is_watches node word h) is room small =
-    command-serves id c (watches node word) 0 state is room small
-    (λ dom css. serves-watch id (with_watch (watch_kind word)) node c state (with-adds (watch_kind word)) h is room small)
-serves id c _ state (is_unwatches node word h) is room small =
-    command-serves id c (unwatches node word) 0 state is room small
-    (λ dom css. serves-watch id (without_watch (watch_kind word)) node c state (without-adds (watch_kind word)) h is room small)
-serves id c _ state (is_load params h u) is room small = serves-own loads id (load_asked params) c state
-    (λ page e. load-turn params page u e) h is room small
-serves id c _ state (is_act params h u) is room small =
-    serves-own acts id (act_asked params state.side.page (book_in state)) c state
-    (λ act e. act-turn params state.side.page (book_in state) act u e) h is room small
-serves id c _ state is_nobody is room small = serves-refusal id NoMethod c 0 state is room small
-
-by-agent : (c : Command) → fits_command c ≡ true → IsServer c (by_agent (dom_ask_in c))
-by-agent c fits = at (dom_ask_in c) refl where
-  at : (o : Option DomAsk) → dom_ask_in c ≡ o → IsServer c (by_agent o)
-  at None e = is_nobody
-  at (Some ask) e =
-      let same : c ≡ as_command ask = dom_asks_are_commands c ask e in
-      is_agent ask (ap method_name same) (ap fits_command (sym same) ∙ fits)
-
-server-is : (c : Command) → fits_command c ≡ true → HasServedTexts (server_of c) → IsServer c (server_of c)
-server-is DomEnable fits texts = is_enables (refl, refl)
-server-is DomDisable fits texts = is_disables refl
-server-is (GetDocument depth pierce) fits texts = by-agent (GetDocument depth pierce) fits
-server-is (RequestChildNodes node depth pierce) fits texts = by-agent (RequestChildNodes node depth pierce) fits
-server-is (PushByPath path) fits texts = by-agent (PushByPath path) fits
-server-is (PushBySerials serials) fits texts = by-agent (PushBySerials serials) fits
-server-is (QuerySelector node selector) fits texts = by-agent (QuerySelector node selector) fits
-server-is (QuerySelectorAll node selector) fits texts = by-agent (QuerySelectorAll node selector) fits
-server-is (GetAttributes node) fits texts = by-agent (GetAttributes node) fits
-server-is (DescribeNode id serial depth pierce) fits texts = by-agent (DescribeNode id serial depth pierce) fits
-server-is (SetAttributeValue node name value) fits texts = is_tree_edit (tree.SetAttributeValue node name value) (refl, refl) texts
-server-is (RemoveAttribute node name) fits texts = is_tree_edit (tree.RemoveAttribute node name) (refl, refl) texts
-server-is (SetNodeValue node value) fits texts = is_tree_edit (tree.SetNodeValue node value) (refl, refl) texts
-server-is (RemoveNode node) fits texts = is_tree_edit (tree.RemoveNode node) (refl, refl) texts
-server-is (MoveTo node target before) fits texts = is_tree_edit (tree.MoveTo node target before) (λ id. (refl, refl)) texts
-server-is (CopyTo node target before) fits texts = is_tree_edit (tree.CopyTo node target before) (λ id. (refl, refl)) texts
-server-is MarkUndoableState fits texts = is_ends_group (refl, refl)
-server-is Undo fits texts = is_undoes (refl, refl)
-server-is Redo fits texts = is_redoes (refl, refl)
-server-is CssEnable fits texts = is_css_enables (refl, refl)
-server-is CssDisable fits texts = is_css_disables refl
-server-is (GetMatchedStyles node) fits texts = is_css (css.GetMatchedStyles node) refl
-server-is (GetStyleSheetText sheet) fits texts = is_css (css.GetStyleSheetText sheet) refl
-server-is (CollectClassNames sheet) fits texts = is_css (css.CollectClassNames sheet) refl
-server-is (SetStyleTexts edits) fits texts = is_sheet_edit (style.SetStyleTexts edits) refl texts
-server-is (SetRuleSelector sheet range selector) fits texts = is_sheet_edit (style.SetRuleSelector sheet range selector) refl texts
-server-is (SetStyleSheetText sheet text) fits texts = is_sheet_edit (style.SetStyleSheetText sheet text) refl texts
-server-is (AddRule sheet rule_text location) fits texts = is_sheet_edit (style.AddRule sheet rule_text location) refl texts
-server-is (SetBreakpoint node kind) fits texts = is_watches node kind (refl, refl)
-server-is (RemoveBreakpoint node kind) fits texts = is_unwatches node kind (refl, refl)
-server-is (ReplayLoad params) fits texts = is_load params (refl, refl) texts
-server-is (ReplayAct params) fits texts = is_act params (refl, refl) texts
+    (css-once id ask state) (css-may id ask state) (css-text id ask state))
+serves id (EditCss edit) state fits texts is room small =
+    let c : Command = EditCss edit in
+    command-serves id c (most_splices edit) state is room small
+    (λ dom css. sheet-edit-answered id edit state (text_asked c) is room texts small)
+serves id (SetBreakpoint node word) state fits texts is room small =
+    let c : Command = SetBreakpoint node word in
+    command-serves id c 0 state is room small
+    (λ dom css. serves-watch id (with_watch (watch_kind word)) node c state (with-adds (watch_kind word)) (refl, refl) is room small)
+serves id (RemoveBreakpoint node word) state fits texts is room small =
+    let c : Command = RemoveBreakpoint node word in
+    command-serves id c 0 state is room small
+    (λ dom css. serves-watch id (without_watch (watch_kind word)) node c state (without-adds (watch_kind word)) (refl, refl) is room small)
+serves id (ReplayLoad params) state fits texts is room small =
+    serves-own loads id (load_asked params) (ReplayLoad params) state (λ page e. load-turn params page texts e) (refl, refl) is room small
+serves id (ReplayAct params) state fits texts is room small =
+    serves-own acts id (act_asked params state.side.page (book_in state)) (ReplayAct params) state
+    (λ act e. act-turn params state.side.page (book_in state) act texts e) (refl, refl) is room small
 
 -- ---- a frame
 
@@ -506,6 +455,6 @@ frame-steps-well own state frame is room = at (asked frame own) (frame-fits own 
   at : (r : Result Asked Refused) → AskedFits r → AskedTexts r
       → StepsWell state (asked_step r state) × IsAnswered r (asked_step r state).moves
       × KeepsAtMost (edits_asked r) state (asked_step r state).state
-  at (Ok a) fits texts = let s = serves a.id a.command (server_of a.command) state (server-is a.command fits.1 texts) is room fits.0 in
+  at (Ok a) fits texts = let s = serves a.id a.command state fits.1 texts is room fits.0 in
       (s.well, (s.once, s.may, s.texts), s.few)
   at (Err r) fits texts = let w = refusing-well r state is room fits in (w.0, refl, w.1)

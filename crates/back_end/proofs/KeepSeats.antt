@@ -7,7 +7,7 @@ use Rattle.cdp_messages.specs.declared.command.Why.{Why}
 use Rattle.cdp_messages.specs.declared.command.Why.TheVariants.{DomOff, CssOff}
 use Rattle.cdp_messages.specs.declared.dom_ask.DomAsk.{DomAsk}
 use Rattle.cdp_messages.specs.Moves.{frames_of_moves}
-use Rattle.css_agent.specs.declared.asks.CssAsk.{CssAsk}
+use Rattle.cdp_messages.specs.declared.css_ask.CssAsk.{CssAsk}
 use Rattle.std.specs.Result.{OnOk}
 use Rattle.dom_agent.specs.Requests.{Outcome, shows_root, served, refused}
 use Rattle.dom_agent.specs.Laws.{session_outcome}
@@ -25,12 +25,12 @@ use Rattle.back_end.specs.declared.faults.ActFault.{ActFault}
 use Rattle.back_end.specs.Sheets.{as_book, SheetChange}
 use Rattle.back_end.specs.States.{Side, State, book_in, Keeps}
 use Rattle.back_end.specs.Plans.{Deed, edits, restyles, act_fault, act_plan}
-use Rattle.back_end.specs.Servers.{Server, disables, agent, watches, unwatches, by_agent, by_part}
-use Rattle.back_end.specs.declared.parts.SeatPart.{SeatPart}
-use Rattle.back_end.specs.declared.parts.SeatPart.TheVariants as part
+use Rattle.cdp_messages.specs.declared.command.Command.{Command}
+use Rattle.cdp_messages.specs.declared.command.Command.TheVariants.{DomEnable, DomDisable, CssEnable, CssDisable, AskDom, AskCss}
+use Rattle.cdp_messages.specs.declared.command.Command.TheVariants.{SetBreakpoint, RemoveBreakpoint}
 use Rattle.back_end.specs.Steps.{Step, refusing, with_page, client_served, push_step, push_steps, pause_step, script_step, script_steps}
 use Rattle.back_end.specs.Steps.{sheet_step, sheet_steps, deed_step, planned_step, act_step, load_step, watch_kind, watch_step, serial_now}
-use Rattle.back_end.specs.Steps.{needs_on, needs_css, server_step, command_step}
+use Rattle.back_end.specs.Steps.{needs_on, needs_css, served_step, command_step}
 use Rattle.dom_breakpoints.specs.Watched.{with_watch, without_watch}
 use Rattle.cdp_messages.specs.declared.command.WatchWord.{WatchWord}
 use Rattle.back_end.specs.Seats.{DeskStandsFor, BothStandFor}
@@ -56,24 +56,24 @@ stays-kept h before after stays k =
     (omega (arith, same))
 
 -- a command that may be refused before
-command-stays : (id : ℕ) (server : Server) (state : State) → Stays state (server_step id server state).state
-    → Stays state (command_step id server state).state
-command-stays id server state stays = at (needs_on server && not state.client.dom_on) (needs_css server && not state.client.css_on) where
+command-stays : (id : ℕ) (command : Command) (state : State) → Stays state (served_step id command state).state
+    → Stays state (command_step id command state).state
+command-stays id command state stays = at (needs_on command && not state.client.dom_on) (needs_css command && not state.client.css_on) where
   at : (a b : Bool) → Stays state
-      (cond a (refusing (Some id) DomOff state) (cond b (refusing (Some id) CssOff state) (server_step id server state))).state
+      (cond a (refusing (Some id) DomOff state) (cond b (refusing (Some id) CssOff state) (served_step id command state))).state
   at true b = stayed state
   at false true = stayed state
   at false false = stays
 
-stays-both : (d d1 : Desk) (s s1 : PageSide) (h : Marks Inverse) (state : State) (id : ℕ) (server : Server)
-    → Stays state (server_step id server state).state → BothStandFor d h s state
-    → DeskStandsFor d1 s1 (command_step id server state).state → BothStandFor d1 h s1 (command_step id server state).state
-stays-both d d1 s s1 h state id server stays both stands = record {
+stays-both : (d d1 : Desk) (s s1 : PageSide) (h : Marks Inverse) (state : State) (id : ℕ) (command : Command)
+    → Stays state (served_step id command state).state → BothStandFor d h s state
+    → DeskStandsFor d1 s1 (command_step id command state).state → BothStandFor d1 h s1 (command_step id command state).state
+stays-both d d1 s s1 h state id command stays both stands = record {
   stands = stands;
-  kept = stays-kept h state (command_step id server state).state (command-stays id server state stays) both.kept;
+  kept = stays-kept h state (command_step id command state).state (command-stays id command state stays) both.kept;
 }
 
-agent-stays : (id : ℕ) (ask : DomAsk) (state : State) → Stays state (server_step id (agent ask) state).state
+agent-stays : (id : ℕ) (ask : DomAsk) (state : State) → Stays state (served_step id (AskDom ask) state).state
 agent-stays id ask state = record { marks = at (session_outcome state.side.page ask state.client.session); side = refl } where
   at : (o : Outcome Session) → (client_served ask o state.client).marks ≡ state.client.marks
   at (shows_root w b) = refl
@@ -85,61 +85,57 @@ watch-stays : (id : ℕ) (change : ℕ → Watched → Watched) (found : Option 
 watch-stays id change None state = stayed state
 watch-stays id change (Some node) state = record { marks = refl; side = refl }
 
-watches-stay : (id node : ℕ) (word : WatchWord) (state : State) → Stays state (server_step id (watches node word) state).state
+watches-stay : (id node : ℕ) (word : WatchWord) (state : State) → Stays state (served_step id (SetBreakpoint node word) state).state
 watches-stay id node word state = watch-stays id (with_watch (watch_kind word)) (serial_now state node) state
 
-unwatches-stay : (id node : ℕ) (word : WatchWord) (state : State) → Stays state (server_step id (unwatches node word) state).state
+unwatches-stay : (id node : ℕ) (word : WatchWord) (state : State) → Stays state (served_step id (RemoveBreakpoint node word) state).state
 unwatches-stay id node word state = watch-stays id (without_watch (watch_kind word)) (serial_now state node) state
 
-others-stay : (id : ℕ) (ask : Option DomAsk) (state : State) → Stays state (server_step id (by_agent ask) state).state
-others-stay id None state = stayed state
-others-stay id (Some ask) state = agent-stays id ask state
+-- a command that leaves the history alone
+abbrev pub LeavesAlone : Command → Type 0
+LeavesAlone c = (id : ℕ) (state : State) → Stays state (served_step id c state).state
 
--- what a part of the seat does that leaves the history alone
-abbrev pub LeavesAlone : SeatPart → Type 0
-LeavesAlone p = (id : ℕ) (state : State) → Stays state (server_step id (by_part p) state).state
-
-pub enables-alone : LeavesAlone part.Enables
+pub enables-alone : LeavesAlone DomEnable
 enables-alone id state = record { marks = refl; side = refl }
 
-pub css-enables-alone : LeavesAlone part.CssEnables
+pub css-enables-alone : LeavesAlone CssEnable
 css-enables-alone id state = record { marks = refl; side = refl }
 
-pub css-disables-alone : LeavesAlone part.CssDisables
+pub css-disables-alone : LeavesAlone CssDisable
 css-disables-alone id state = record { marks = refl; side = refl }
 
-pub styles-alone : (ask : CssAsk) → LeavesAlone (part.Styles ask)
+pub styles-alone : (ask : CssAsk) → LeavesAlone (AskCss ask)
 styles-alone ask id state = stayed state
 
-pub watches-alone : (node : ℕ) (word : WatchWord) → LeavesAlone (part.Watches node word)
+pub watches-alone : (node : ℕ) (word : WatchWord) → LeavesAlone (SetBreakpoint node word)
 watches-alone node word id state = watches-stay id node word state
 
-pub unwatches-alone : (node : ℕ) (word : WatchWord) → LeavesAlone (part.Unwatches node word)
+pub unwatches-alone : (node : ℕ) (word : WatchWord) → LeavesAlone (RemoveBreakpoint node word)
 unwatches-alone node word id state = unwatches-stay id node word state
 
-pub others-alone : (ask : Option DomAsk) → LeavesAlone (part.Others ask)
-others-alone ask id state = others-stay id ask state
+pub agent-alone : (ask : DomAsk) → LeavesAlone (AskDom ask)
+agent-alone ask id state = agent-stays id ask state
 
 pub plain-both : {T E : Type 0} (result : Result T E) (d d1 : Desk) (s s1 : PageSide) (h : Marks Inverse) (state : State) (id : ℕ)
-    (p q : SeatPart) → p ≡ q → LeavesAlone p → BothStandFor d h s state
-    → OnOk result (DeskStandsFor d1 s1 (command_step id (by_part p) state).state)
-    → OnOk result (BothStandFor d1 h s1 (command_step id (by_part q) state).state)
+    (p q : Command) → p ≡ q → LeavesAlone p → BothStandFor d h s state
+    → OnOk result (DeskStandsFor d1 s1 (command_step id p state).state)
+    → OnOk result (BothStandFor d1 h s1 (command_step id q state).state)
 plain-both result d d1 s s1 h state id p q is alone both done =
-    subst (λ (x : SeatPart). OnOk result (BothStandFor d1 h s1 (command_step id (by_part x) state).state)) is
-    (on_ok result _ _ done (stays-both d d1 s s1 h state id (by_part p) (alone id state) both))
+    subst (λ (x : Command). OnOk result (BothStandFor d1 h s1 (command_step id x state).state)) is
+    (on_ok result _ _ done (stays-both d d1 s s1 h state id p (alone id state) both))
 
 pub part-both : {T E : Type 0} (result : Result T E) (d1 : Desk) (s1 : PageSide) (h1 : Marks Inverse) (state : State) (id : ℕ)
-    (p q : SeatPart) → p ≡ q
-    → OnOk result (BothStandFor d1 h1 s1 (command_step id (by_part p) state).state)
-    → OnOk result (BothStandFor d1 h1 s1 (command_step id (by_part q) state).state)
+    (p q : Command) → p ≡ q
+    → OnOk result (BothStandFor d1 h1 s1 (command_step id p state).state)
+    → OnOk result (BothStandFor d1 h1 s1 (command_step id q state).state)
 part-both result d1 s1 h1 state id p q is done = subst
-    (λ (x : SeatPart). OnOk result (BothStandFor d1 h1 s1 (command_step id (by_part x) state).state)) is done
+    (λ (x : Command). OnOk result (BothStandFor d1 h1 s1 (command_step id x state).state)) is done
 
-pub part-sent : {T E : Type 0} (result : Result T E) (state : State) (id : ℕ) (p q : SeatPart) (old new : List ℕ) → p ≡ q
-    → OnOk result (new ≡ old ++ frames_of_moves (command_step id (by_part p) state).moves)
-    → OnOk result (new ≡ old ++ frames_of_moves (command_step id (by_part q) state).moves)
+pub part-sent : {T E : Type 0} (result : Result T E) (state : State) (id : ℕ) (p q : Command) (old new : List ℕ) → p ≡ q
+    → OnOk result (new ≡ old ++ frames_of_moves (command_step id p state).moves)
+    → OnOk result (new ≡ old ++ frames_of_moves (command_step id q state).moves)
 part-sent result state id p q old new is done = subst
-    (λ (x : SeatPart). OnOk result (new ≡ old ++ frames_of_moves (command_step id (by_part x) state).moves)) is done
+    (λ (x : Command). OnOk result (new ≡ old ++ frames_of_moves (command_step id x state).moves)) is done
 
 -- a step that is a refusal
 refused-both : (d : Desk) (h : Marks Inverse) (s : PageSide) (state : State) (done : Step) (id : Option ℕ) (why : Why)
@@ -148,35 +144,35 @@ refused-both : (d : Desk) (h : Marks Inverse) (s : PageSide) (state : State) (do
 refused-both d h s state done id why is both = subst (λ (x : Step). BothStandFor d h s x.state) (sym is) both
 
 -- one since DOM is off, and one since CSS is
-pub off-both : (d : Desk) (h : Marks Inverse) (s : PageSide) (state : State) (id : ℕ) (server : Server) → needs_on server ≡ true
+pub off-both : (d : Desk) (h : Marks Inverse) (s : PageSide) (state : State) (id : ℕ) (command : Command) → needs_on command ≡ true
     → BothStandFor d h s state → d.is_on ≡ false
-    → BothStandFor d h s (command_step id server state).state
-off-both d h s state id server needs both was =
-    let off : (needs_on server && not state.client.dom_on)
+    → BothStandFor d h s (command_step id command state).state
+off-both d h s state id command needs both was =
+    let off : (needs_on command && not state.client.dom_on)
     ≡ true = ap (λ a. a && not state.client.dom_on) needs ∙ ap (λ b. not b) (sym both.stands.on_is ∙ was) in
-    refused-both d h s state (command_step id server state) (Some id) DomOff (off-is id server state off) both
+    refused-both d h s state (command_step id command state) (Some id) DomOff (off-is id command state off) both
 
-pub css-off-both : (d : Desk) (h : Marks Inverse) (s : PageSide) (state : State) (id : ℕ) (server : Server) → needs_css server ≡ true
+pub css-off-both : (d : Desk) (h : Marks Inverse) (s : PageSide) (state : State) (id : ℕ) (command : Command) → needs_css command ≡ true
     → BothStandFor d h s state → d.is_on ≡ true → d.css ≡ false
-    → BothStandFor d h s (command_step id server state).state
-css-off-both d h s state id server needs both on was =
-    let off : (needs_css server && not state.client.css_on)
+    → BothStandFor d h s (command_step id command state).state
+css-off-both d h s state id command needs both on was =
+    let off : (needs_css command && not state.client.css_on)
     ≡ true = ap (λ a. a && not state.client.css_on) needs ∙ ap (λ b. not b) (sym both.stands.css_is ∙ was) in
-    refused-both d h s state (command_step id server state) (Some id) CssOff
-    (css-off-is id server state (dom-on server d s state both.stands on) off) both
+    refused-both d h s state (command_step id command state) (Some id) CssOff
+    (css-off-is id command state (dom-on command d s state both.stands on) off) both
 
 -- ---- `DOM.disable`
 
 pub disabled-both : (d d1 : Desk) (h1 : Marks Inverse) (s s1 : PageSide) (state : State) (id : ℕ) → DeskStandsFor d s state
-    → d.is_on ≡ true → h1 ≡ no_marks → DeskStandsFor d1 s1 (command_step id disables state).state
-    → BothStandFor d1 h1 s1 (command_step id disables state).state
+    → d.is_on ≡ true → h1 ≡ no_marks → DeskStandsFor d1 s1 (command_step id DomDisable state).state
+    → BothStandFor d1 h1 s1 (command_step id DomDisable state).state
 disabled-both d d1 h1 s s1 state id before on none stands =
-    let after = (command_step id disables state).state in
+    let after = (command_step id DomDisable state).state in
     record {
       stands = stands;
       kept = subst (λ (h : Marks Inverse). Keeps h after) (sym none)
           (keeps-cleared after (ap (λ (done : Step). done.state.client.marks)
-          (on-is id disables state (dom-on disables d s state before on) refl)));
+          (on-is id DomDisable state (dom-on DomDisable d s state before on) refl)));
     }
 
 -- ---- a script's changes

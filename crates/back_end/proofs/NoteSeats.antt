@@ -23,8 +23,8 @@ use Rattle.undo_marks.specs.declared.inverse_lists.Inverse.TheVariants.{Tree, Sh
 use Rattle.undo_marks.proofs.SheetLemmas.{after-saved, back-saved, taken-saved}
 use Rattle.back_end.specs.declared.desk.Desk.{Desk}
 use Rattle.back_end.specs.declared.side.PageSide.{PageSide}
-use Rattle.back_end.specs.declared.dom_edits.NodeEdit.{NodeEdit}
-use Rattle.back_end.specs.declared.dom_edits.NodeEdit.TheVariants.{One, MoveNode, CopyNode}
+use Rattle.back_end.specs.declared.node_edits.NodeEdit.{NodeEdit}
+use Rattle.back_end.specs.declared.node_edits.NodeEdit.TheVariants.{One, MoveNode, CopyNode}
 use Rattle.back_end.specs.Plans.{Plan, node_edit_fault, node_edit_plan, node_put}
 use Rattle.back_end.specs.States.{State, page_nodes, book_in, HoldsNow, TakesWell, saved_now, Keeps}
 use Rattle.back_end.specs.Steps.{Step, idle, with_page, with_marks, keeping, edit_step, edit_steps, splice_steps, plan_step}

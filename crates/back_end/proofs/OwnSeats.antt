@@ -22,7 +22,7 @@ use Rattle.back_end.specs.Plans.{act_fault, act_plan}
 use Rattle.back_end.specs.OwnMethods.{act_why, unless_why, load_asked, act_read, act_judged, Finds}
 use Rattle.back_end.specs.Steps.{Step, acts, loads, planned_step, act_step, load_step, refusing, answering, own_step, judged_step}
 use Rattle.back_end.specs.Steps.{command_step}
-use Rattle.back_end.specs.Servers.{page_load, page_act}
+use Rattle.cdp_messages.specs.declared.command.Command.TheVariants.{ReplayLoad, ReplayAct}
 use Rattle.back_end.specs.Seats.{DeskStandsFor, BothStandFor}
 use Rattle.undo_marks.specs.Marks.{Marks, no_marks, crossed_over}
 use Rattle.undo_marks.specs.declared.inverse_lists.Inverse.{Inverse}
@@ -54,20 +54,20 @@ commands-why {T} e why found is finds = subst (λ x. Commands {T = T} (Err x) fo
 
 pub loaded-sent : (state : State) (id : ℕ) (params : Data) (page : LoadedPage) (old middle new : List ℕ) → load_asked params ≡ Ok page
     → middle ≡ old ++ frames_of_moves (load_step page state).moves → new ≡ middle ++ framed (reply_text id Nothing)
-    → new ≡ old ++ frames_of_moves (command_step id (page_load params) state).moves
+    → new ≡ old ++ frames_of_moves (command_step id (ReplayLoad params) state).moves
 loaded-sent state id params page old middle new is first last =
     answered-sent id (load_step page state).moves old middle new first last
     ∙ ap (λ r. old ++ frames_of_moves (own_step loads id r state).moves) (sym is)
 
 pub unloaded-sent : (state : State) (id : ℕ) (params : Data) (why : Why) (old new : List ℕ) → load_asked params ≡ Err why
     → new ≡ old ++ frames_of_moves (refusing (Some id) why state).moves
-    → new ≡ old ++ frames_of_moves (command_step id (page_load params) state).moves
+    → new ≡ old ++ frames_of_moves (command_step id (ReplayLoad params) state).moves
 unloaded-sent state id params why old new is sent = sent ∙ ap (λ r. old ++ frames_of_moves (own_step loads id r state).moves) (sym is)
 
 -- a desk and a history that stand for the state after a load
 pub loaded-both : (d : Desk) (h : Marks Inverse) (s : PageSide) (state : State) (id : ℕ) (params : Data) (page : LoadedPage)
     → load_asked params ≡ Ok page → h ≡ no_marks
-    → DeskStandsFor d s (load_step page state).state → BothStandFor d h s (command_step id (page_load params) state).state
+    → DeskStandsFor d s (load_step page state).state → BothStandFor d h s (command_step id (ReplayLoad params) state).state
 loaded-both d h s state id params page is none stands =
     subst (λ (r : Result LoadedPage Why). BothStandFor d h s (own_step loads id r state).state) (sym is)
     (record {
@@ -78,7 +78,7 @@ loaded-both d h s state id params page is none stands =
 
 pub unloaded-both : (d : Desk) (h : Marks Inverse) (s : PageSide) (state : State) (id : ℕ) (params : Data) (why : Why)
     → load_asked params ≡ Err why
-    → BothStandFor d h s state → BothStandFor d h s (command_step id (page_load params) state).state
+    → BothStandFor d h s state → BothStandFor d h s (command_step id (ReplayLoad params) state).state
 unloaded-both d h s state id params why is both = subst
     (λ (r : Result LoadedPage Why). BothStandFor d h s (own_step loads id r state).state) (sym is) both
 
@@ -86,18 +86,18 @@ unloaded-both d h s state id params why is both = subst
 
 -- the step on an act with parameters that were read
 judged-is : (state : State) (id : ℕ) (params : Data) (r : Result Act Why) → act_read params ≡ r
-    → command_step id (page_act params) state ≡ own_step acts id (then_ok r (act_judged state.side.page (book_in state))) state
+    → command_step id (ReplayAct params) state ≡ own_step acts id (then_ok r (act_judged state.side.page (book_in state))) state
 judged-is state id params r is = ap (λ found. own_step acts id (then_ok found (act_judged state.side.page (book_in state))) state) is
 
 pub changed-sent : (state : State) (id : ℕ) (params : Data) (act : Act) (old new : List ℕ) → act_read params ≡ Ok act
     → new ≡ old ++ frames_of_moves (judged_step id act state).moves
-    → new ≡ old ++ frames_of_moves (command_step id (page_act params) state).moves
+    → new ≡ old ++ frames_of_moves (command_step id (ReplayAct params) state).moves
 changed-sent state id params act old new is sent = sent ∙ ap (λ (done : Step). old ++ frames_of_moves done.moves)
     (sym (judged-is state id params (Ok act) is))
 
 pub unread-sent : (state : State) (id : ℕ) (params : Data) (why : Why) (old new : List ℕ) → act_read params ≡ Err why
     → new ≡ old ++ frames_of_moves (refusing (Some id) why state).moves
-    → new ≡ old ++ frames_of_moves (command_step id (page_act params) state).moves
+    → new ≡ old ++ frames_of_moves (command_step id (ReplayAct params) state).moves
 unread-sent state id params why old new is sent = sent ∙ ap (λ (done : Step). old ++ frames_of_moves done.moves)
     (sym (judged-is state id params (Err why) is))
 
@@ -156,13 +156,13 @@ faulty-sent d s state id act f why old middle new before some why_is first last 
 
 pub changed-both : (d : Desk) (h : Marks Inverse) (s : PageSide) (state : State) (id : ℕ) (params : Data) (act : Act)
     → act_read params ≡ Ok act
-    → BothStandFor d h s (judged_step id act state).state → BothStandFor d h s (command_step id (page_act params) state).state
+    → BothStandFor d h s (judged_step id act state).state → BothStandFor d h s (command_step id (ReplayAct params) state).state
 changed-both d h s state id params act is both = subst (λ (done : Step). BothStandFor d h s done.state)
     (sym (judged-is state id params (Ok act) is)) both
 
 pub unread-both : (d : Desk) (h : Marks Inverse) (s : PageSide) (state : State) (id : ℕ) (params : Data) (why : Why)
     → act_read params ≡ Err why
-    → BothStandFor d h s state → BothStandFor d h s (command_step id (page_act params) state).state
+    → BothStandFor d h s state → BothStandFor d h s (command_step id (ReplayAct params) state).state
 unread-both d h s state id params why is both = subst (λ (done : Step). BothStandFor d h s done.state)
     (sym (judged-is state id params (Err why) is)) both
 

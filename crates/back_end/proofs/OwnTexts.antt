@@ -18,18 +18,15 @@ use Rattle.cdp_json.proofs.ReadTexts.{IfSome, read_utf8}
 use Rattle.page_forms.proofs.NodeTexts.{object_utf8}
 use Rattle.cdp_messages.specs.declared.command.Asked.{Asked}
 use Rattle.cdp_messages.specs.declared.command.Command.{Command}
-use Rattle.cdp_messages.specs.declared.command.Command.TheVariants.{GetDocument, RequestChildNodes, PushByPath, PushBySerials}
-use Rattle.cdp_messages.specs.declared.command.Command.TheVariants.{QuerySelector, QuerySelectorAll, GetAttributes, DescribeNode}
-use Rattle.cdp_messages.specs.declared.command.Command.TheVariants.{SetAttributeValue, RemoveAttribute, SetNodeValue, RemoveNode, MoveTo}
-use Rattle.cdp_messages.specs.declared.command.Command.TheVariants.{CopyTo, GetMatchedStyles, GetStyleSheetText, CollectClassNames}
-use Rattle.cdp_messages.specs.declared.command.Command.TheVariants.{SetStyleTexts, SetRuleSelector, SetStyleSheetText, AddRule}
-use Rattle.cdp_messages.specs.declared.command.Command.TheVariants.{SetBreakpoint, RemoveBreakpoint}
+use Rattle.cdp_messages.specs.declared.command.Command.TheVariants.{AskDom, EditDom, AskCss, EditCss, SetBreakpoint, RemoveBreakpoint}
+use Rattle.cdp_messages.specs.declared.dom_ask.DomAsk.TheVariants as ask
+use Rattle.cdp_messages.specs.declared.dom_edit.DomEdit.TheVariants as tree
+use Rattle.cdp_messages.specs.declared.css_ask.CssAsk.TheVariants as css
+use Rattle.cdp_messages.specs.declared.css_edit.CssEdit.TheVariants as style
 use Rattle.cdp_messages.specs.declared.command.Refused.{Refused}
 use Rattle.cdp_messages.specs.declared.command.Why.{Why}
 use Rattle.cdp_messages.specs.declared.method.Method.{Method}
 use Rattle.cdp_messages.specs.declared.method.Method.TheVariants as method
-use Rattle.cdp_messages.specs.declared.dom_ask.DomAsk.{DomAsk}
-use Rattle.cdp_messages.specs.DomAsks.{dom_ask_in}
 use Rattle.cdp_messages.specs.Methods.{known_method}
 use Rattle.cdp_messages.specs.declared.command.Param.{Param}
 use Rattle.cdp_messages.specs.declared.command.Param.TheVariants as param
@@ -43,33 +40,29 @@ use Rattle.cdp_messages.specs.Parameters.{command_by, reads_with, needed, attrib
 use Rattle.cdp_messages.specs.Parameters.{set_selector_fields, sheet_text_fields, add_rule_fields, range_parameter, text_edit}
 use Rattle.cdp_messages.specs.Asked.{json_of, of_method, command_for, unless_session, or_bad_request, params_of, command_of, method_in}
 use Rattle.cdp_messages.specs.Asked.{command_in, asked_by, with_id, asked_in, asked_value, asked}
-use Rattle.back_end.specs.Servers.{by_agent, server_of, HasServedTexts}
+use Rattle.back_end.specs.Texts.{HasServedTexts}
 
 -- what is asked, if anything is, has UTF-8 texts where it is one of our own two methods
 abbrev CommandTexts : Result Command Why → Type 0
-CommandTexts (Ok c) = HasServedTexts (server_of c)
+CommandTexts (Ok c) = HasServedTexts c
 CommandTexts (Err why) = ⊤
 
 -- the same of a frame
 abbrev pub AskedTexts : Result Asked Refused → Type 0
-AskedTexts (Ok a) = HasServedTexts (server_of a.command)
+AskedTexts (Ok a) = HasServedTexts a.command
 AskedTexts (Err r) = ⊤
 
 -- ---- a command by its method
 
--- what an agent may serve is none of them
-agents : (o : Option DomAsk) → HasServedTexts (by_agent o)
-agents None = tt
-agents (Some ask) = tt
-
-by-agents : {T : Type 0} (r : Result T Why) (makes : T → Command) → ((x : T) → HasServedTexts (server_of (makes x)))
+-- one whose parameters bring none
+brings-none : {T : Type 0} (r : Result T Why) (makes : T → Command) → ((x : T) → HasServedTexts (makes x))
     → CommandTexts (then_ok r (λ x. Ok (makes x)))
-by-agents (Ok x) makes has = has x
-by-agents (Err why) makes has = tt
+brings-none (Ok x) makes has = has x
+brings-none (Err why) makes has = tt
 
 -- one whose parameters bring texts
 given : {T : Type 0} (fields : Lookups Why T) (makes : T → Command) (P : T → Type 0) (ms : Members) → MembersHaveUtf8 ms → Gives fields P
-    → ((x : T) → P x → HasServedTexts (server_of (makes x)))
+    → ((x : T) → P x → HasServedTexts (makes x))
     → CommandTexts (reads_with fields makes ms)
 given fields makes P ms u gives has = at (fields.gets ms) (gives ms u) where
   at : (r : Result _ Why) → IfGiven P r → CommandTexts (then_ok r (λ x. Ok (makes x)))
@@ -119,44 +112,45 @@ rule-gives =
 by-method : (m : Method) (ms : Members) → MembersHaveUtf8 ms → CommandTexts (command_by m ms)
 by-method method.DomEnable ms u = tt
 by-method method.DomDisable ms u = tt
-by-method method.GetDocument ms u = by-agents _ (λ x. GetDocument x.0 x.1.0) (λ x. agents (dom_ask_in (GetDocument x.0 x.1.0)))
-by-method method.RequestChildNodes ms u = by-agents _ (λ x. RequestChildNodes x.0 x.1.0 x.1.1.0)
-    (λ x. agents (dom_ask_in (RequestChildNodes x.0 x.1.0 x.1.1.0)))
-by-method method.PushByPath ms u = by-agents _ (λ x. PushByPath x.0) (λ x. agents (dom_ask_in (PushByPath x.0)))
-by-method method.PushBySerials ms u = by-agents _ (λ x. PushBySerials x.0) (λ x. agents (dom_ask_in (PushBySerials x.0)))
-by-method method.QuerySelector ms u = by-agents _ (λ x. QuerySelector x.0 x.1.0) (λ x. agents (dom_ask_in (QuerySelector x.0 x.1.0)))
-by-method method.QuerySelectorAll ms u = by-agents _ (λ x. QuerySelectorAll x.0 x.1.0)
-    (λ x. agents (dom_ask_in (QuerySelectorAll x.0 x.1.0)))
-by-method method.GetAttributes ms u = by-agents _ (λ x. GetAttributes x.0) (λ x. agents (dom_ask_in (GetAttributes x.0)))
-by-method method.DescribeNode ms u = by-agents _ (λ x. DescribeNode x.0 x.1.0 x.1.1.0 x.1.1.1.0)
-    (λ x. agents (dom_ask_in (DescribeNode x.0 x.1.0 x.1.1.0 x.1.1.1.0)))
-by-method method.SetAttributeValue ms u = given attribute_fields (λ x. SetAttributeValue x.0 x.1.0 x.1.1.0)
+by-method method.GetDocument ms u = brings-none _ (λ x. AskDom (ask.GetDocument x.0 x.1.0)) (λ x. tt)
+by-method method.RequestChildNodes ms u = brings-none _ (λ x. AskDom (ask.RequestChildNodes x.0 x.1.0 x.1.1.0))
+    (λ x. tt)
+by-method method.PushByPath ms u = brings-none _ (λ x. AskDom (ask.PushByPath x.0)) (λ x. tt)
+by-method method.PushBySerials ms u = brings-none _ (λ x. AskDom (ask.PushBySerials x.0)) (λ x. tt)
+by-method method.QuerySelector ms u = brings-none _ (λ x. AskDom (ask.QuerySelector x.0 x.1.0)) (λ x. tt)
+by-method method.QuerySelectorAll ms u = brings-none _ (λ x. AskDom (ask.QuerySelectorAll x.0 x.1.0))
+    (λ x. tt)
+by-method method.GetAttributes ms u = brings-none _ (λ x. AskDom (ask.GetAttributes x.0)) (λ x. tt)
+by-method method.DescribeNode ms u = brings-none _ (λ x. AskDom (ask.DescribeNode x.0 x.1.0 x.1.1.0 x.1.1.1.0))
+    (λ x. tt)
+by-method method.SetAttributeValue ms u = given attribute_fields (λ x. EditDom (tree.SetAttributeValue x.0 x.1.0 x.1.1.0))
     (λ x. Any x.0 × TwoTexts x.1) ms u attribute-gives (λ x g. (g.1.0, g.1.1.0))
-by-method method.RemoveAttribute ms u = given name_fields (λ x. RemoveAttribute x.0 x.1.0) (λ x. Any x.0 × OneText x.1) ms u
+by-method method.RemoveAttribute ms u = given name_fields (λ x. EditDom (tree.RemoveAttribute x.0 x.1.0)) (λ x. Any x.0 × OneText x.1) ms u
     (needed-any param.NodeId whole (needed param.Name text no_lookups) OneText (last-text param.Name)) (λ x g. g.1.0)
-by-method method.SetNodeValue ms u = given value_fields (λ x. SetNodeValue x.0 x.1.0) (λ x. Any x.0 × OneText x.1) ms u
+by-method method.SetNodeValue ms u = given value_fields (λ x. EditDom (tree.SetNodeValue x.0 x.1.0)) (λ x. Any x.0 × OneText x.1) ms u
     (needed-any param.NodeId whole (needed param.Value text no_lookups) OneText (last-text param.Value)) (λ x g. g.1.0)
-by-method method.RemoveNode ms u = by-agents _ (λ x. RemoveNode x.0) (λ x. tt)
-by-method method.MoveTo ms u = by-agents _ (λ x. MoveTo x.0 x.1.0 x.1.1.0) (λ x. tt)
-by-method method.CopyTo ms u = by-agents _ (λ x. CopyTo x.0 x.1.0 x.1.1.0) (λ x. tt)
+by-method method.RemoveNode ms u = brings-none _ (λ x. EditDom (tree.RemoveNode x.0)) (λ x. tt)
+by-method method.MoveTo ms u = brings-none _ (λ x. EditDom (tree.MoveTo x.0 x.1.0 x.1.1.0)) (λ x. tt)
+by-method method.CopyTo ms u = brings-none _ (λ x. EditDom (tree.CopyTo x.0 x.1.0 x.1.1.0)) (λ x. tt)
 by-method method.MarkUndoableState ms u = tt
 by-method method.Undo ms u = tt
 by-method method.Redo ms u = tt
 by-method method.CssEnable ms u = tt
 by-method method.CssDisable ms u = tt
-by-method method.GetMatchedStyles ms u = by-agents _ (λ x. GetMatchedStyles x.0) (λ x. tt)
-by-method method.GetStyleSheetText ms u = by-agents _ (λ x. GetStyleSheetText x.0) (λ x. tt)
-by-method method.CollectClassNames ms u = by-agents _ (λ x. CollectClassNames x.0) (λ x. tt)
-by-method method.SetStyleTexts ms u = given edits_field (λ x. SetStyleTexts x.0) (λ x. All HasEditText x.0 × Any x.1) ms u edits-give
+by-method method.GetMatchedStyles ms u = brings-none _ (λ x. AskCss (css.GetMatchedStyles x.0)) (λ x. tt)
+by-method method.GetStyleSheetText ms u = brings-none _ (λ x. AskCss (css.GetStyleSheetText x.0)) (λ x. tt)
+by-method method.CollectClassNames ms u = brings-none _ (λ x. AskCss (css.CollectClassNames x.0)) (λ x. tt)
+by-method method.SetStyleTexts ms u =
+    given edits_field (λ x. EditCss (style.SetStyleTexts x.0)) (λ x. All HasEditText x.0 × Any x.1) ms u edits-give
     (λ x g. g.0)
-by-method method.SetRuleSelector ms u = given set_selector_fields (λ x. SetRuleSelector x.0 x.1.0 x.1.1.0)
+by-method method.SetRuleSelector ms u = given set_selector_fields (λ x. EditCss (style.SetRuleSelector x.0 x.1.0 x.1.1.0))
     (λ x. IsUtf8 x.0 × (Any x.1.0 × OneText x.1.1)) ms u selector-gives (λ x g. g.1.1.0)
-by-method method.SetStyleSheetText ms u = given sheet_text_fields (λ x. SetStyleSheetText x.0 x.1.0) TwoTexts ms u
+by-method method.SetStyleSheetText ms u = given sheet_text_fields (λ x. EditCss (style.SetStyleSheetText x.0 x.1.0)) TwoTexts ms u
     (needed-text param.StyleSheetId (needed param.Text text no_lookups) OneText (last-text param.Text)) (λ x g. g.1.0)
-by-method method.AddRule ms u = given add_rule_fields (λ x. AddRule x.0 x.1.0 x.1.1.0)
+by-method method.AddRule ms u = given add_rule_fields (λ x. EditCss (style.AddRule x.0 x.1.0 x.1.1.0))
     (λ x. IsUtf8 x.0 × (IsUtf8 x.1.0 × (Any x.1.1.0 × Any x.1.1.1))) ms u rule-gives (λ x g. g.1.0)
-by-method method.SetBreakpoint ms u = by-agents _ (λ x. SetBreakpoint x.0 x.1.0) (λ x. tt)
-by-method method.RemoveBreakpoint ms u = by-agents _ (λ x. RemoveBreakpoint x.0 x.1.0) (λ x. tt)
+by-method method.SetBreakpoint ms u = brings-none _ (λ x. SetBreakpoint x.0 x.1.0) (λ x. tt)
+by-method method.RemoveBreakpoint ms u = brings-none _ (λ x. RemoveBreakpoint x.0 x.1.0) (λ x. tt)
 by-method method.ReplayLoad ms u = u
 by-method method.ReplayAct ms u = u
 

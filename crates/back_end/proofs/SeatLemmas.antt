@@ -23,8 +23,9 @@ use Rattle.undo_marks.specs.Saved.{Saved}
 use Rattle.undo_marks.specs.declared.inverse_lists.Inverse.{Inverse}
 use Rattle.back_end.specs.Sheets.{NumberedBook}
 use Rattle.back_end.specs.States.{Client, State, page_nodes}
-use Rattle.back_end.specs.Servers.{Server, enables, disables, agent}
-use Rattle.back_end.specs.Steps.{Step, refusing, with_marks, ask_needs_on, needs_on, needs_css, turns_on, client_served, server_step}
+use Rattle.cdp_messages.specs.declared.command.Command.{Command}
+use Rattle.cdp_messages.specs.declared.command.Command.TheVariants.{DomEnable, DomDisable, AskDom}
+use Rattle.back_end.specs.Steps.{Step, refusing, with_marks, ask_needs_on, needs_on, needs_css, turns_on, client_served, served_step}
 use Rattle.back_end.specs.Steps.{command_step}
 use Rattle.back_end.specs.declared.desk.Desk.{Desk}
 use Rattle.back_end.specs.declared.side.PageSide.{PageSide}
@@ -64,29 +65,29 @@ marks-stands marks d s state stands = record {
 -- ---- a command that needs DOM on, or does not
 
 -- one that is refused, since DOM is off
-pub off-is : (id : ℕ) (server : Server) (state : State) → (needs_on server && not state.client.dom_on) ≡ true
-    → command_step id server state ≡ refusing (Some id) DomOff state
-off-is id server state off =
+pub off-is : (id : ℕ) (command : Command) (state : State) → (needs_on command && not state.client.dom_on) ≡ true
+    → command_step id command state ≡ refusing (Some id) DomOff state
+off-is id command state off =
     ap (λ t. cond t (refusing (Some id) DomOff state)
-    (cond (needs_css server && not state.client.css_on) (refusing (Some id) CssOff state) (server_step id server state))) off
+    (cond (needs_css command && not state.client.css_on) (refusing (Some id) CssOff state) (served_step id command state))) off
 
 -- one that is refused, since CSS is off
-pub css-off-is : (id : ℕ) (server : Server) (state : State) → (needs_on server && not state.client.dom_on) ≡ false
-    → (needs_css server && not state.client.css_on) ≡ true
-    → command_step id server state ≡ refusing (Some id) CssOff state
-css-off-is id server state on off =
+pub css-off-is : (id : ℕ) (command : Command) (state : State) → (needs_on command && not state.client.dom_on) ≡ false
+    → (needs_css command && not state.client.css_on) ≡ true
+    → command_step id command state ≡ refusing (Some id) CssOff state
+css-off-is id command state on off =
     ap (λ t. cond t (refusing (Some id) DomOff state)
-    (cond (needs_css server && not state.client.css_on) (refusing (Some id) CssOff state) (server_step id server state))) on
-    ∙ ap (λ t. cond t (refusing (Some id) CssOff state) (server_step id server state)) off
+    (cond (needs_css command && not state.client.css_on) (refusing (Some id) CssOff state) (served_step id command state))) on
+    ∙ ap (λ t. cond t (refusing (Some id) CssOff state) (served_step id command state)) off
 
 -- one that is carried out
-pub on-is : (id : ℕ) (server : Server) (state : State) → (needs_on server && not state.client.dom_on) ≡ false
-    → (needs_css server && not state.client.css_on) ≡ false
-    → command_step id server state ≡ server_step id server state
-on-is id server state on css_on =
+pub on-is : (id : ℕ) (command : Command) (state : State) → (needs_on command && not state.client.dom_on) ≡ false
+    → (needs_css command && not state.client.css_on) ≡ false
+    → command_step id command state ≡ served_step id command state
+on-is id command state on css_on =
     ap (λ t. cond t (refusing (Some id) DomOff state)
-    (cond (needs_css server && not state.client.css_on) (refusing (Some id) CssOff state) (server_step id server state))) on
-    ∙ ap (λ t. cond t (refusing (Some id) CssOff state) (server_step id server state)) css_on
+    (cond (needs_css command && not state.client.css_on) (refusing (Some id) CssOff state) (served_step id command state))) on
+    ∙ ap (λ t. cond t (refusing (Some id) CssOff state) (served_step id command state)) css_on
 
 -- whether it is refused, as the state has it
 same-on : (c : DomAsk) (b on t : Bool) → b ≡ on → t ≡ (ask_needs_on c && not b) → (ask_needs_on c && not on) ≡ t
@@ -139,7 +140,7 @@ pub asked-stands : (d d1 : Desk) (s s1 : PageSide) (state : State) (id : ℕ) (c
     → fits_ask c ≡ true → false ≡ (ask_needs_on c && not d.is_on) → DeskStandsFor d s state
     → s1.page ≡ s.page → s1.sheets ≡ s.sheets → page ≡ s.page → d1.is_on ≡ (d.is_on || turns_on c) → d1.css ≡ d.css
     → d1.watches ≡ d.watches → d1.agent ≡ state_after d.agent (binding_outcome page c d.agent)
-    → DeskStandsFor d1 s1 (command_step id (agent c) state).state
+    → DeskStandsFor d1 s1 (command_step id (AskDom c) state).state
 asked-stands d d1 s s1 state id c page fits is_off stands same_side sheets_is same_page on_is css_is watches_is agent_is =
     let w = state.client.session in
     let on : (ask_needs_on c && not state.client.dom_on) ≡ false = same-on c d.is_on state.client.dom_on false stands.on_is is_off in
@@ -148,7 +149,7 @@ asked-stands d d1 s s1 state id c page fits is_off stands same_side sheets_is sa
     stays_bound state.side.page c w d.agent stands.now.page fits stands.now.session stands.stands in
     let agent_now : state_after d.agent (binding_outcome state.side.page c d.agent) ≡ d1.agent =
     sym (agent_is ∙ ap (λ page. state_after d.agent (binding_outcome page c d.agent)) (same_page ∙ stands.page_is)) in
-    subst (λ (done : Step). DeskStandsFor d1 s1 done.state) (sym (on-is id (agent c) state on refl)) (record {
+    subst (λ (done : Step). DeskStandsFor d1 s1 done.state) (sym (on-is id (AskDom c) state on refl)) (record {
       now = served-is c o state stands.now (off-after c state stands.now on)
           (unknown-before state.side.page c w stands.now.page stands.now.session)
           (stays_session state.side.page c w stands.now.page fits stands.now.session);
@@ -164,35 +165,35 @@ asked-stands d d1 s s1 state id c page fits is_off stands same_side sheets_is sa
 
 pub asked-sent : (d : Desk) (s : PageSide) (state : State) (id : ℕ) (c : DomAsk) (page : PageValue) (old new : List ℕ)
     → fits_ask c ≡ true → false ≡ (ask_needs_on c && not d.is_on) → DeskStandsFor d s state → page ≡ s.page
-    → new ≡ old ++ answer id (binding_outcome page c d.agent) → new ≡ old ++ frames_of_moves (command_step id (agent c) state).moves
+    → new ≡ old ++ answer id (binding_outcome page c d.agent) → new ≡ old ++ frames_of_moves (command_step id (AskDom c) state).moves
 asked-sent d s state id c page old new fits is_off stands same_page sent =
     let on : (ask_needs_on c && not state.client.dom_on) ≡ false = same-on c d.is_on state.client.dom_on false stands.on_is is_off in
     sent ∙ ap (λ page. old ++ answer id (binding_outcome page c d.agent)) (same_page ∙ stands.page_is)
     ∙ ap (λ ms. old ++ frames_of_moves ms)
     (same_moves state.side.page c state.client.session d.agent id stands.now.page fits stands.now.session stands.stands)
-    ∙ ap (λ (done : Step). old ++ frames_of_moves done.moves) (sym (on-is id (agent c) state on refl))
+    ∙ ap (λ (done : Step). old ++ frames_of_moves done.moves) (sym (on-is id (AskDom c) state on refl))
 
 -- an ask that is refused
 pub refused-stands : (d : Desk) (s : PageSide) (state : State) (id : ℕ) (c : DomAsk) → true ≡ (ask_needs_on c && not d.is_on)
     → DeskStandsFor d s state
-    → DeskStandsFor d s (command_step id (agent c) state).state
+    → DeskStandsFor d s (command_step id (AskDom c) state).state
 refused-stands d s state id c is_off stands =
     let off : (ask_needs_on c && not state.client.dom_on) ≡ true = same-on c d.is_on state.client.dom_on true stands.on_is is_off in
-    subst (λ (done : Step). DeskStandsFor d s done.state) (sym (off-is id (agent c) state off)) stands
+    subst (λ (done : Step). DeskStandsFor d s done.state) (sym (off-is id (AskDom c) state off)) stands
 
 pub refused-sent : (d : Desk) (s : PageSide) (state : State) (id : ℕ) (c : DomAsk) (old new : List ℕ)
     → true ≡ (ask_needs_on c && not d.is_on) → DeskStandsFor d s state
     → new ≡ old ++ frames_of_moves (refusing (Some id) DomOff state).moves
-    → new ≡ old ++ frames_of_moves (command_step id (agent c) state).moves
+    → new ≡ old ++ frames_of_moves (command_step id (AskDom c) state).moves
 refused-sent d s state id c old new is_off stands sent =
     let off : (ask_needs_on c && not state.client.dom_on) ≡ true = same-on c d.is_on state.client.dom_on true stands.on_is is_off in
-    sent ∙ ap (λ (done : Step). old ++ frames_of_moves done.moves) (sym (off-is id (agent c) state off))
+    sent ∙ ap (λ (done : Step). old ++ frames_of_moves done.moves) (sym (off-is id (AskDom c) state off))
 
 -- ---- the seat's own commands
 
 pub enabled-stands : (d d1 : Desk) (s s1 : PageSide) (state : State) (id : ℕ) → DeskStandsFor d s state → s1.page ≡ s.page
     → s1.sheets ≡ s.sheets → d1.is_on ≡ true → d1.css ≡ d.css → d1.watches ≡ d.watches → d1.agent ≡ d.agent
-    → DeskStandsFor d1 s1 (server_step id enables state).state
+    → DeskStandsFor d1 s1 (served_step id DomEnable state).state
 enabled-stands d d1 s s1 state id stands same sheets_is on css_is watches_is agent_is = record {
   now = enabled-is state stands.now;
   page_is = same ∙ stands.page_is;
@@ -217,10 +218,10 @@ and-false false = refl
 
 pub disabled-stands : (d d1 : Desk) (s s1 : PageSide) (state : State) (id : ℕ) → DeskStandsFor d s state → d.is_on ≡ true
     → s1.page ≡ s.page → s1.sheets ≡ s.sheets → d1.is_on ≡ false
-    → d1.css ≡ false → d1.watches ≡ unwatched → d1.agent ≡ cleared d.agent → DeskStandsFor d1 s1 (command_step id disables state).state
+    → d1.css ≡ false → d1.watches ≡ unwatched → d1.agent ≡ cleared d.agent → DeskStandsFor d1 s1 (command_step id DomDisable state).state
 disabled-stands d d1 s s1 state id stands was same sheets_is off css_off watches_is agent_is =
     subst (λ (done : Step). DeskStandsFor d1 s1 done.state)
-    (sym (on-is id disables state (disable-on d.is_on state.client.dom_on stands.on_is was) refl)) (record {
+    (sym (on-is id DomDisable state (disable-on d.is_on state.client.dom_on stands.on_is was) refl)) (record {
       now = disabled-is state stands.now;
       page_is = same ∙ stands.page_is;
       sheets_are = ap (λ (b : NumberedBook). b.entries) sheets_is ∙ stands.sheets_are;
@@ -233,15 +234,15 @@ disabled-stands d d1 s s1 state id stands was same sheets_is off css_off watches
     })
 
 pub disabled-sent : (d : Desk) (s : PageSide) (state : State) (id : ℕ) (old middle new : List ℕ) → DeskStandsFor d s state → d.is_on ≡ true
-    → middle ≡ old ++ frames_of_moves (server_step id disables state).moves → new ≡ middle ++ []
-    → new ≡ old ++ frames_of_moves (command_step id disables state).moves
+    → middle ≡ old ++ frames_of_moves (served_step id DomDisable state).moves → new ≡ middle ++ []
+    → new ≡ old ++ frames_of_moves (command_step id DomDisable state).moves
 disabled-sent d s state id old middle new stands was sent more =
     more ∙ append-nil middle ∙ sent ∙ ap (λ (done : Step). old ++ frames_of_moves done.moves)
-    (sym (on-is id disables state (disable-on d.is_on state.client.dom_on stands.on_is was) refl))
+    (sym (on-is id DomDisable state (disable-on d.is_on state.client.dom_on stands.on_is was) refl))
 
 pub off-sent : (d : Desk) (s : PageSide) (state : State) (id : ℕ) (old new : List ℕ) → DeskStandsFor d s state → d.is_on ≡ false
     → new ≡ old ++ frames_of_moves (refusing (Some id) DomOff state).moves
-    → new ≡ old ++ frames_of_moves (command_step id disables state).moves
+    → new ≡ old ++ frames_of_moves (command_step id DomDisable state).moves
 off-sent d s state id old new stands was sent =
     sent ∙ ap (λ (done : Step). old ++ frames_of_moves done.moves)
-    (sym (off-is id disables state (disable-off d.is_on state.client.dom_on stands.on_is was)))
+    (sym (off-is id DomDisable state (disable-off d.is_on state.client.dom_on stands.on_is was)))

@@ -30,8 +30,8 @@ use Rattle.cdp_messages.specs.Replies.{Message, event, event_text, reply_text}
 use Rattle.cdp_messages.specs.Views.{ShownSheet, sheet_header}
 use Rattle.cdp_messages.specs.Moves.{Move, clear, added, dropped, replied, message_of, move_text, frames_of_moves}
 use Rattle.cascade_match.proofs.MatchLemmas.{drop-at}
-use Rattle.css_agent.specs.declared.asks.CssAsk.{CssAsk}
-use Rattle.css_agent.specs.declared.asks.CssAsk.TheVariants as css
+use Rattle.cdp_messages.specs.declared.css_ask.CssAsk.{CssAsk}
+use Rattle.cdp_messages.specs.declared.css_ask.CssAsk.TheVariants as css
 use Rattle.css_agent.specs.Told.{told_origin, told_header, added_message, turn_messages, event_messages, message_frame, message_frames}
 use Rattle.css_agent.specs.Asks.{sheet_named, if_sheet, css_outcome, answer_move}
 use Rattle.dom_agent.specs.Keepers.{session_keeper, binding_keeper}
@@ -45,7 +45,8 @@ use Rattle.back_end.specs.Sheets.{origin_in_book, entry_of_sheet, as_book, numbe
 use Rattle.back_end.specs.States.{State, page_nodes, book_in}
 use Rattle.back_end.specs.Plans.{Deed, restyles, size_fault, drop_fault, replace_fault, dropping, replacing}
 use Rattle.dom_breakpoints.specs.Watched.{unwatched}
-use Rattle.back_end.specs.Servers.{Server, css_enables, css_disables, css_agent}
+use Rattle.cdp_messages.specs.declared.command.Command.{Command}
+use Rattle.cdp_messages.specs.declared.command.Command.TheVariants.{CssEnable, CssDisable, AskCss}
 use Rattle.back_end.specs.Steps.{Step, refusing, with_crossed, planned_step, act_step, sheet_step, sheet_move, moves_gone, moves_come}
 use Rattle.back_end.specs.Steps.{load_step, needs_on, needs_css, element_serial, element_named, node_answer, text_answer, css_step}
 use Rattle.back_end.specs.Steps.{command_step}
@@ -102,64 +103,64 @@ frames-append ms ks = flat_map-append (λ (m : Move). framed (move_text m)) ms k
 test-is : (needs was on : Bool) (t : Bool) → was ≡ on → (needs && not was) ≡ t → (needs && not on) ≡ t
 test-is needs was on t is e = ap (λ b. needs && not b) (sym is) ∙ e
 
-pub dom-off-stands : (d : Desk) (s : PageSide) (state : State) (id : ℕ) (server : Server) → needs_on server ≡ true
+pub dom-off-stands : (d : Desk) (s : PageSide) (state : State) (id : ℕ) (command : Command) → needs_on command ≡ true
     → DeskStandsFor d s state → d.is_on ≡ false
-    → DeskStandsFor d s (command_step id server state).state
-dom-off-stands d s state id server needs stands was =
-    let off : (needs_on server && not state.client.dom_on)
+    → DeskStandsFor d s (command_step id command state).state
+dom-off-stands d s state id command needs stands was =
+    let off : (needs_on command && not state.client.dom_on)
     ≡ true = ap (λ a. a && not state.client.dom_on) needs ∙ ap (λ b. not b) (sym stands.on_is ∙ was) in
-    subst (λ (done : Step). DeskStandsFor d s done.state) (sym (off-is id server state off)) stands
+    subst (λ (done : Step). DeskStandsFor d s done.state) (sym (off-is id command state off)) stands
 
-pub dom-off-sent : (d : Desk) (s : PageSide) (state : State) (id : ℕ) (server : Server) (old new : List ℕ) → needs_on server ≡ true
+pub dom-off-sent : (d : Desk) (s : PageSide) (state : State) (id : ℕ) (command : Command) (old new : List ℕ) → needs_on command ≡ true
     → DeskStandsFor d s state → d.is_on ≡ false
     → new ≡ old ++ frames_of_moves (refusing (Some id) DomOff state).moves
-    → new ≡ old ++ frames_of_moves (command_step id server state).moves
-dom-off-sent d s state id server old new needs stands was sent =
-    let off : (needs_on server && not state.client.dom_on)
+    → new ≡ old ++ frames_of_moves (command_step id command state).moves
+dom-off-sent d s state id command old new needs stands was sent =
+    let off : (needs_on command && not state.client.dom_on)
     ≡ true = ap (λ a. a && not state.client.dom_on) needs ∙ ap (λ b. not b) (sym stands.on_is ∙ was) in
-    sent ∙ ap (λ (done : Step). old ++ frames_of_moves done.moves) (sym (off-is id server state off))
+    sent ∙ ap (λ (done : Step). old ++ frames_of_moves done.moves) (sym (off-is id command state off))
 
-pub dom-on : (server : Server) (d : Desk) (s : PageSide) (state : State) → DeskStandsFor d s state → d.is_on ≡ true
-    → (needs_on server && not state.client.dom_on) ≡ false
-dom-on server d s state stands was = ap (λ b. needs_on server && not b) (sym stands.on_is ∙ was) ∙ at (needs_on server) where
+pub dom-on : (command : Command) (d : Desk) (s : PageSide) (state : State) → DeskStandsFor d s state → d.is_on ≡ true
+    → (needs_on command && not state.client.dom_on) ≡ false
+dom-on command d s state stands was = ap (λ b. needs_on command && not b) (sym stands.on_is ∙ was) ∙ at (needs_on command) where
   at : (a : Bool) → (a && false) ≡ false
   at true = refl
   at false = refl
 
-css-refused : (server : Server) (d : Desk) (s : PageSide) (state : State) → needs_css server ≡ true → DeskStandsFor d s state
-    → d.css ≡ false → (needs_css server && not state.client.css_on) ≡ true
-css-refused server d s state needs stands was = ap (λ a. a && not state.client.css_on) needs ∙ ap (λ b. not b) (sym stands.css_is ∙ was)
+css-refused : (command : Command) (d : Desk) (s : PageSide) (state : State) → needs_css command ≡ true → DeskStandsFor d s state
+    → d.css ≡ false → (needs_css command && not state.client.css_on) ≡ true
+css-refused command d s state needs stands was = ap (λ a. a && not state.client.css_on) needs ∙ ap (λ b. not b) (sym stands.css_is ∙ was)
 
-pub css-taken : (server : Server) (d : Desk) (s : PageSide) (state : State) → DeskStandsFor d s state → d.css ≡ true
-    → (needs_css server && not state.client.css_on) ≡ false
-css-taken server d s state stands was = ap (λ b. needs_css server && not b) (sym stands.css_is ∙ was) ∙ at (needs_css server) where
+pub css-taken : (command : Command) (d : Desk) (s : PageSide) (state : State) → DeskStandsFor d s state → d.css ≡ true
+    → (needs_css command && not state.client.css_on) ≡ false
+css-taken command d s state stands was = ap (λ b. needs_css command && not b) (sym stands.css_is ∙ was) ∙ at (needs_css command) where
   at : (a : Bool) → (a && false) ≡ false
   at true = refl
   at false = refl
 
-pub css-off-stands : (d : Desk) (s : PageSide) (state : State) (id : ℕ) (server : Server) → needs_css server ≡ true
+pub css-off-stands : (d : Desk) (s : PageSide) (state : State) (id : ℕ) (command : Command) → needs_css command ≡ true
     → DeskStandsFor d s state → d.is_on ≡ true → d.css ≡ false
-    → DeskStandsFor d s (command_step id server state).state
-css-off-stands d s state id server needs stands on off =
+    → DeskStandsFor d s (command_step id command state).state
+css-off-stands d s state id command needs stands on off =
     subst (λ (done : Step). DeskStandsFor d s done.state)
-    (sym (css-refused-is id server state (dom-on server d s state stands on) (css-refused server d s state needs stands off))) stands
+    (sym (css-refused-is id command state (dom-on command d s state stands on) (css-refused command d s state needs stands off))) stands
 
-pub css-off-sent : (d : Desk) (s : PageSide) (state : State) (id : ℕ) (server : Server) (old new : List ℕ) → needs_css server ≡ true
+pub css-off-sent : (d : Desk) (s : PageSide) (state : State) (id : ℕ) (command : Command) (old new : List ℕ) → needs_css command ≡ true
     → DeskStandsFor d s state → d.is_on ≡ true → d.css ≡ false
     → new ≡ old ++ frames_of_moves (refusing (Some id) CssOff state).moves
-    → new ≡ old ++ frames_of_moves (command_step id server state).moves
-css-off-sent d s state id server old new needs stands on off sent =
+    → new ≡ old ++ frames_of_moves (command_step id command state).moves
+css-off-sent d s state id command old new needs stands on off sent =
     sent ∙ ap (λ (done : Step). old ++ frames_of_moves done.moves)
-    (sym (css-refused-is id server state (dom-on server d s state stands on) (css-refused server d s state needs stands off)))
+    (sym (css-refused-is id command state (dom-on command d s state stands on) (css-refused command d s state needs stands off)))
 
 -- ---- `CSS.enable` and `CSS.disable`
 
 pub css-enabled-stands : (d d1 : Desk) (s : PageSide) (state : State) (id : ℕ) → DeskStandsFor d s state → d.is_on ≡ true
     → d1.is_on ≡ d.is_on → d1.css ≡ true → d1.watches ≡ d.watches → d1.agent ≡ d.agent
-    → DeskStandsFor d1 s (command_step id css_enables state).state
+    → DeskStandsFor d1 s (command_step id CssEnable state).state
 css-enabled-stands d d1 s state id stands was on_is css_is watches_is agent_is =
     subst (λ (done : Step). DeskStandsFor d1 s done.state)
-    (sym (on-is id css_enables state (dom-on css_enables d s state stands was) refl)) (record {
+    (sym (on-is id CssEnable state (dom-on CssEnable d s state stands was) refl)) (record {
       now = css-on-is state stands.now (sym stands.on_is ∙ was);
       page_is = stands.page_is;
       sheets_are = stands.sheets_are;
@@ -173,7 +174,7 @@ css-enabled-stands d d1 s state id stands was on_is css_is watches_is agent_is =
 pub css-enabled-sent : (d : Desk) (s : PageSide) (state : State) (id : ℕ) (book : List SheetEntry) (old middle new : List ℕ)
     → DeskStandsFor d s state → d.is_on ≡ true → book ≡ s.sheets.entries
     → middle ≡ old ++ message_frames (turn_messages d.css true book) → new ≡ middle ++ framed (reply_text id Nothing)
-    → new ≡ old ++ frames_of_moves (command_step id css_enables state).moves
+    → new ≡ old ++ frames_of_moves (command_step id CssEnable state).moves
 css-enabled-sent d s state id book old middle new stands was book_is first last =
     let ms = cond state.client.css_on [] (moves_come state.side.sheets) in
     let same : middle ≡ old ++ frames_of_moves ms =
@@ -185,14 +186,14 @@ css-enabled-sent d s state id book old middle new stands was book_is first last 
     ∙ append_assoc old (frames_of_moves ms) (frames_of_moves (replied id Nothing ∷ []))
     ∙ ap (λ bs. old ++ bs) (sym (frames-append ms (replied id Nothing ∷ [])))
     ∙ ap (λ (done : Step). old ++ frames_of_moves done.moves)
-    (sym (on-is id css_enables state (dom-on css_enables d s state stands was) refl))
+    (sym (on-is id CssEnable state (dom-on CssEnable d s state stands was) refl))
 
 pub css-disabled-stands : (d d1 : Desk) (s : PageSide) (state : State) (id : ℕ) → DeskStandsFor d s state → d.is_on ≡ true → d.css ≡ true
     → d1.is_on ≡ d.is_on → d1.css ≡ false → d1.watches ≡ d.watches → d1.agent ≡ d.agent
-    → DeskStandsFor d1 s (command_step id css_disables state).state
+    → DeskStandsFor d1 s (command_step id CssDisable state).state
 css-disabled-stands d d1 s state id stands was css_was on_is css_is watches_is agent_is =
     subst (λ (done : Step). DeskStandsFor d1 s done.state)
-    (sym (on-is id css_disables state (dom-on css_disables d s state stands was) (css-taken css_disables d s state stands css_was)))
+    (sym (on-is id CssDisable state (dom-on CssDisable d s state stands was) (css-taken CssDisable d s state stands css_was)))
     (record {
       now = css-off-is state stands.now;
       page_is = stands.page_is;
@@ -207,30 +208,30 @@ css-disabled-stands d d1 s state id stands was css_was on_is css_is watches_is a
 pub css-disabled-sent : (d : Desk) (s : PageSide) (state : State) (id : ℕ) (old middle new : List ℕ) → DeskStandsFor d s state
     → d.is_on ≡ true → d.css ≡ true
     → middle ≡ old ++ framed (reply_text id Nothing) → new ≡ middle ++ []
-    → new ≡ old ++ frames_of_moves (command_step id css_disables state).moves
+    → new ≡ old ++ frames_of_moves (command_step id CssDisable state).moves
 css-disabled-sent d s state id old middle new stands was css_was first last =
     last ∙ append-nil middle ∙ first ∙ ap (λ bs. old ++ bs) (sym (append-nil (framed (reply_text id Nothing))))
     ∙ ap (λ (done : Step). old ++ frames_of_moves done.moves)
-    (sym (on-is id css_disables state (dom-on css_disables d s state stands was) (css-taken css_disables d s state stands css_was)))
+    (sym (on-is id CssDisable state (dom-on CssDisable d s state stands was) (css-taken CssDisable d s state stands css_was)))
 
 -- ---- what the CSS agent is asked
 
 pub styles-stand : (d : Desk) (s : PageSide) (state : State) (id : ℕ) (ask : CssAsk) → DeskStandsFor d s state → d.is_on ≡ true
     → d.css ≡ true
-    → DeskStandsFor d s (command_step id (css_agent ask) state).state
+    → DeskStandsFor d s (command_step id (AskCss ask) state).state
 styles-stand d s state id ask stands was css_was =
     subst (λ (done : Step). DeskStandsFor d s done.state)
-    (sym (on-is id (css_agent ask) state (dom-on (css_agent ask) d s state stands was)
-    (css-taken (css_agent ask) d s state stands css_was))) stands
+    (sym (on-is id (AskCss ask) state (dom-on (AskCss ask) d s state stands was)
+    (css-taken (AskCss ask) d s state stands css_was))) stands
 
 pub styles-sent : (d : Desk) (s : PageSide) (state : State) (id : ℕ) (ask : CssAsk) (old new : List ℕ) → DeskStandsFor d s state
     → d.is_on ≡ true → d.css ≡ true
     → new ≡ old ++ frames_of_moves (css_step id ask state).moves
-    → new ≡ old ++ frames_of_moves (command_step id (css_agent ask) state).moves
+    → new ≡ old ++ frames_of_moves (command_step id (AskCss ask) state).moves
 styles-sent d s state id ask old new stands was css_was sent =
     sent ∙ ap (λ (done : Step). old ++ frames_of_moves done.moves)
-    (sym (on-is id (css_agent ask) state (dom-on (css_agent ask) d s state stands was)
-    (css-taken (css_agent ask) d s state stands css_was)))
+    (sym (on-is id (AskCss ask) state (dom-on (AskCss ask) d s state stands was)
+    (css-taken (AskCss ask) d s state stands css_was)))
 
 -- the text of a sheet, as a reply and as the move that it is
 text-frames : (id : ℕ) (o : Option SheetEntry)

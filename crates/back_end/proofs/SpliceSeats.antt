@@ -17,7 +17,7 @@ use Rattle.style_edits.specs.declared.splice.Splice.{Splice}
 use Rattle.style_edits.specs.Splices.{spliced_entry, after_by, after_splice, after_splices}
 use Rattle.cdp_messages.specs.declared.command.Why.{Why}
 use Rattle.cdp_messages.specs.Moves.{Move, replied, frames_of_moves}
-use Rattle.css_agent.specs.declared.edits.CssEdit.{CssEdit}
+use Rattle.cdp_messages.specs.declared.css_edit.CssEdit.{CssEdit}
 use Rattle.css_agent.specs.Edits.{CssDone, CssEdited, css_edited, css_splices, splice_moves, moves_with_reply, edit_moves, edit_splices}
 use Rattle.css_agent.specs.EditLaws.{HasEditTexts}
 use Rattle.css_agent.proofs.DoneLemmas.{css-leads, stored-all}
@@ -26,7 +26,7 @@ use Rattle.back_end.specs.declared.side.PageSide.{PageSide}
 use Rattle.back_end.specs.OwnMethods.{sheet_why}
 use Rattle.back_end.specs.Sheets.{AreBelow}
 use Rattle.back_end.specs.States.{Client, State, book_in}
-use Rattle.back_end.specs.Servers.{edits_sheets}
+use Rattle.cdp_messages.specs.declared.command.Command.TheVariants.{EditCss}
 use Rattle.back_end.specs.Steps.{Step, refusing, keeping, splice_steps, restyled_step, sheet_edit_step, command_step}
 use Rattle.back_end.specs.Seats.{DeskStandsFor, BothStandFor, HasNumbersLeft}
 use Rattle.undo_marks.specs.Marks.{Marks, noted_singly}
@@ -114,9 +114,9 @@ stored-below es all = at es (stored-all es all) where
 
 -- what the command comes to, while both domains are on
 step-is : (d : Desk) (s : PageSide) (state : State) (id : ℕ) (x : CssEdit) → DeskStandsFor d s state → d.is_on ≡ true → d.css ≡ true
-    → command_step id (edits_sheets x) state ≡ sheet_edit_step id x state
-step-is d s state id x stands on css = on-is id (edits_sheets x) state (dom-on (edits_sheets x) d s state stands on)
-    (css-taken (edits_sheets x) d s state stands css)
+    → command_step id (EditCss x) state ≡ sheet_edit_step id x state
+step-is d s state id x stands on css = on-is id (EditCss x) state (dom-on (EditCss x) d s state stands on)
+    (css-taken (EditCss x) d s state stands css)
 
 edited-here : (s : PageSide) (book : List SheetEntry) (x : CssEdit) (r : CssEdited) → s.sheets.entries ≡ book
     → css_edited s.sheets.entries x ≡ r → css_edited book x ≡ r
@@ -126,7 +126,7 @@ pub restyled-both : (d : Desk) (h h1 : Marks Inverse) (s s1 : PageSide) (state :
     → BothStandFor d h s state → HasNumbersLeft d s → HasEditTexts x
     → d.is_on ≡ true → d.css ≡ true → edit_splices (css_edited s.sheets.entries x) ≡ Ok (s1.sheets.entries, backs) → s1.page ≡ s.page
     → s1.sheets.next ≡ s.sheets.next
-    → h1 ≡ noted_singly (map (λ s. Sheet s) backs) h → BothStandFor d h1 s1 (command_step id (edits_sheets x) state).state
+    → h1 ≡ noted_singly (map (λ s. Sheet s) backs) h → BothStandFor d h1 s1 (command_step id (EditCss x) state).state
 restyled-both d h h1 s s1 state id x backs both room texts on css edited page_is next_is noted =
     let stands = both.stands in
     let made = did s.sheets.entries x s1.sheets.entries backs edited in
@@ -157,7 +157,7 @@ pub restyled-sent : (d : Desk) (s : PageSide) (state : State) (id : ℕ) (x : Cs
     → DeskStandsFor d s state → HasNumbersLeft d s → HasEditTexts x → d.is_on ≡ true → d.css ≡ true
     → edit_splices (css_edited s.sheets.entries x) ≡ Ok (new, backs)
     → after ≡ before ++ frames_of_moves (edit_moves id s.sheets.entries x)
-    → after ≡ before ++ frames_of_moves (command_step id (edits_sheets x) state).moves
+    → after ≡ before ++ frames_of_moves (command_step id (EditCss x) state).moves
 restyled-sent d s state id x new backs before after stands room texts on css h sent =
     let made = did s.sheets.entries x new backs h in
     let here : css_edited (book_in state) x ≡ Ok made.done = edited-here s (book_in state) x (Ok made.done) stands.sheets_are made.is in
@@ -176,7 +176,7 @@ restyled-sent d s state id x new backs before after stands room texts on css h s
 
 fault-is : (d : Desk) (s : PageSide) (state : State) (id : ℕ) (x : CssEdit) (f : SheetFault) → DeskStandsFor d s state → d.is_on ≡ true
     → d.css ≡ true
-    → css_edited s.sheets.entries x ≡ Err f → command_step id (edits_sheets x) state ≡ refusing (Some id) (sheet_why f) state
+    → css_edited s.sheets.entries x ≡ Err f → command_step id (EditCss x) state ≡ refusing (Some id) (sheet_why f) state
 fault-is d s state id x f stands on css h =
     step-is d s state id x stands on css
     ∙ ap (λ (r : CssEdited). restyled_step id r (css_splices (book_in state) x) state)
@@ -185,7 +185,7 @@ fault-is d s state id x f stands on css h =
 pub unrestyled-both : (d : Desk) (h : Marks Inverse) (s s1 : PageSide) (state : State) (id : ℕ) (x : CssEdit) (f : SheetFault)
     → BothStandFor d h s state → d.is_on ≡ true → d.css ≡ true
     → css_edited s.sheets.entries x ≡ Err f → s1.page ≡ s.page → s1.sheets ≡ s.sheets
-    → BothStandFor d h s1 (command_step id (edits_sheets x) state).state
+    → BothStandFor d h s1 (command_step id (EditCss x) state).state
 unrestyled-both d h s s1 state id x f both on css is page_is sheets_is =
     subst (λ (done : Step). BothStandFor d h s1 done.state) (sym (fault-is d s state id x f both.stands on css is))
     (record { stands = stayed-stands d d s s1 state refl refl refl refl page_is sheets_is both.stands; kept = both.kept })
@@ -193,7 +193,7 @@ unrestyled-both d h s s1 state id x f both on css is page_is sheets_is =
 pub unrestyled-sent : (d : Desk) (s : PageSide) (state : State) (id : ℕ) (x : CssEdit) (f : SheetFault) (before after : List ℕ)
     → DeskStandsFor d s state → d.is_on ≡ true → d.css ≡ true
     → css_edited s.sheets.entries x ≡ Err f → after ≡ before ++ frames_of_moves (refusing (Some id) (sheet_why f) state).moves
-    → after ≡ before ++ frames_of_moves (command_step id (edits_sheets x) state).moves
+    → after ≡ before ++ frames_of_moves (command_step id (EditCss x) state).moves
 unrestyled-sent d s state id x f before after stands on css h sent =
     sent ∙ ap (λ (done : Step). before ++ frames_of_moves done.moves) (sym (fault-is d s state id x f stands on css h))
 

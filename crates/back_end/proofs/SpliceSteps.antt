@@ -21,8 +21,8 @@ use Rattle.cdp_messages.specs.declared.effects.Effect.TheVariants.{NothingElse}
 use Rattle.cdp_messages.specs.Effects.{effect_of_method}
 use Rattle.cdp_messages.specs.Views.{ShownSheet, shows_sheet, sheets_with_text}
 use Rattle.cdp_messages.specs.Moves.{Move, rewritten, replied}
-use Rattle.css_agent.specs.declared.edits.CssEdit.{CssEdit}
-use Rattle.css_agent.specs.declared.edits.CssEdit.TheVariants as edit
+use Rattle.cdp_messages.specs.declared.css_edit.CssEdit.{CssEdit}
+use Rattle.cdp_messages.specs.declared.css_edit.CssEdit.TheVariants as edit
 use Rattle.css_agent.specs.Edits.{CssDone, CssEdited, css_edited, style_edit, one_splice, splices_on, style_splices, css_splices}
 use Rattle.css_agent.specs.Edits.{splice_moves, text_under}
 use Rattle.css_agent.specs.EditLaws.{HasEditTexts, AllTake, IsDone, css_edit_name}

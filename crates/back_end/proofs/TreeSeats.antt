@@ -27,15 +27,15 @@ use Rattle.page_tree.proofs.MoveLemmas.{move-leads}
 use Rattle.cdp_messages.specs.declared.command.Why.{Why}
 use Rattle.cdp_messages.specs.Moves.{Move as Told, frames_of_moves, move_text}
 use Rattle.pipe_frames.specs.Frames.{framed}
-use Rattle.back_end.specs.declared.dom_edits.DomEdit.{DomEdit}
-use Rattle.back_end.specs.declared.dom_edits.NodeEdit.{NodeEdit}
-use Rattle.back_end.specs.declared.dom_edits.NodeEdit.TheVariants.{One, MoveNode, CopyNode}
+use Rattle.cdp_messages.specs.declared.dom_edit.DomEdit.{DomEdit}
+use Rattle.back_end.specs.declared.node_edits.NodeEdit.{NodeEdit}
+use Rattle.back_end.specs.declared.node_edits.NodeEdit.TheVariants.{One, MoveNode, CopyNode}
 use Rattle.back_end.specs.declared.desk.Desk.{Desk}
 use Rattle.back_end.specs.declared.side.PageSide.{PageSide}
 use Rattle.back_end.specs.States.{State, page_nodes, HoldsNow}
 use Rattle.back_end.specs.OwnMethods.{edit_why}
 use Rattle.back_end.specs.Plans.{node_edit_fault, node_edit_plan, node_put}
-use Rattle.back_end.specs.Servers.{edits_tree}
+use Rattle.cdp_messages.specs.declared.command.Command.TheVariants.{EditDom}
 use Rattle.back_end.specs.Steps.{Step, refusing, idle, with_page, edit_step, push_step, serial_now, lowered, edit_named, keeping, plan_step}
 use Rattle.back_end.specs.Steps.{planned_by_client, put_answer, unless_fault, node_edit_step, command_step}
 use Rattle.dom_agent.specs.Laws.{RowsHaveUtf8}
@@ -281,16 +281,16 @@ named-begun state edit e h =
 
 pub edit-is : (d : Desk) (s : PageSide) (state : State) (id : ℕ) (edit : DomEdit) (r : Result NodeEdit Why) → DeskStandsFor d s state
     → d.is_on ≡ true → r ≡ edit_named (map.get d.agent.serials) (lowered edit)
-    → node_edit_step id r state ≡ command_step id (edits_tree edit) state
+    → node_edit_step id r state ≡ command_step id (EditDom edit) state
 edit-is d s state id edit r stands on is =
     ap (λ x. node_edit_step id x state) (sym (named-here d s state edit r stands is))
-    ∙ sym (on-is id (edits_tree edit) state (dom-on (edits_tree edit) d s state stands on) refl)
+    ∙ sym (on-is id (EditDom edit) state (dom-on (EditDom edit) d s state stands on) refl)
 
 pub named-both : {T E : Type 0} (result : Result T E) (d d1 : Desk) (h h1 : Marks Inverse) (s s1 : PageSide) (state : State) (id : ℕ)
     (edit : DomEdit) (e : NodeEdit) → DeskStandsFor d s state → d.is_on ≡ true
     → Ok e ≡ edit_named (map.get d.agent.serials) (lowered edit)
     → (is_some state.client.session.opened ≡ true → OnOk result (BothStandFor d1 h1 s1 (node_edit_step id (Ok e) state).state))
-    → OnOk result (BothStandFor d1 h1 s1 (command_step id (edits_tree edit) state).state)
+    → OnOk result (BothStandFor d1 h1 s1 (command_step id (EditDom edit) state).state)
 named-both result d d1 h h1 s s1 state id edit e stands on is done =
     subst (λ (x : Step). OnOk result (BothStandFor d1 h1 s1 x.state)) (edit-is d s state id edit (Ok e) stands on is)
     (done (named-begun state edit e (named-here d s state edit (Ok e) stands is)))
@@ -298,7 +298,7 @@ named-both result d d1 h h1 s s1 state id edit e stands on is done =
 -- one that names no node
 pub unnamed-both : (d : Desk) (h : Marks Inverse) (s : PageSide) (state : State) (id : ℕ) (edit : DomEdit) (why : Why)
     → BothStandFor d h s state → d.is_on ≡ true
-    → Err why ≡ edit_named (map.get d.agent.serials) (lowered edit) → BothStandFor d h s (command_step id (edits_tree edit) state).state
+    → Err why ≡ edit_named (map.get d.agent.serials) (lowered edit) → BothStandFor d h s (command_step id (EditDom edit) state).state
 unnamed-both d h s state id edit why both on is =
     subst (λ (x : Step). BothStandFor d h s x.state) (edit-is d s state id edit (Err why) both.stands on is) both
 
@@ -306,7 +306,7 @@ pub edited-sent : {T E : Type 0} (result : Result T E) (d : Desk) (s : PageSide)
     (old new : List ℕ) → DeskStandsFor d s state → d.is_on ≡ true
     → Ok e ≡ edit_named (map.get d.agent.serials) (lowered edit)
     → (is_some state.client.session.opened ≡ true → OnOk result (new ≡ old ++ frames_of_moves (node_edit_step id (Ok e) state).moves))
-    → OnOk result (new ≡ old ++ frames_of_moves (command_step id (edits_tree edit) state).moves)
+    → OnOk result (new ≡ old ++ frames_of_moves (command_step id (EditDom edit) state).moves)
 edited-sent result d s state id edit e old new stands on is done =
     subst (λ (x : Step). OnOk result (new ≡ old ++ frames_of_moves x.moves)) (edit-is d s state id edit (Ok e) stands on is)
     (done (named-begun state edit e (named-here d s state edit (Ok e) stands is)))

@@ -23,10 +23,10 @@ use Rattle.cdp_messages.specs.declared.down.ReplyBody.TheVariants.{Nothing, Node
 use Rattle.cdp_messages.specs.Moves.{replied, Course}
 use Rattle.sheet_reader.specs.declared.book.SheetEntry.{SheetEntry}
 use Rattle.dom_agent.proofs.StepLemmas.{is_small, ids-below}
-use Rattle.back_end.specs.declared.dom_edits.DomEdit.{DomEdit}
-use Rattle.back_end.specs.declared.dom_edits.DomEdit.TheVariants as dom
-use Rattle.back_end.specs.declared.dom_edits.NodeEdit.{NodeEdit}
-use Rattle.back_end.specs.declared.dom_edits.NodeEdit.TheVariants.{One, MoveNode, CopyNode}
+use Rattle.cdp_messages.specs.declared.dom_edit.DomEdit.{DomEdit}
+use Rattle.cdp_messages.specs.declared.dom_edit.DomEdit.TheVariants as dom
+use Rattle.back_end.specs.declared.node_edits.NodeEdit.{NodeEdit}
+use Rattle.back_end.specs.declared.node_edits.NodeEdit.TheVariants.{One, MoveNode, CopyNode}
 use Rattle.back_end.specs.OwnMethods.{edit_why}
 use Rattle.dom_agent.specs.Laws.{RowsHaveUtf8}
 use Rattle.undo_marks.specs.Changes.{after_all, AllTaken}

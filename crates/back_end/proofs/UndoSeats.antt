@@ -32,9 +32,10 @@ use Rattle.back_end.specs.declared.desk.Desk.{Desk}
 use Rattle.back_end.specs.declared.side.PageSide.{PageSide}
 use Rattle.back_end.specs.Sheets.{NumberedBook}
 use Rattle.back_end.specs.States.{State, book_in, TakesWell, saved_now, Keeps}
-use Rattle.back_end.specs.Servers.{Server, ends_group, undoes, redoes}
+use Rattle.cdp_messages.specs.declared.command.Command.{Command}
+use Rattle.cdp_messages.specs.declared.command.Command.TheVariants.{MarkUndoableState, Undo, Redo}
 use Rattle.back_end.specs.Steps.{Step, telling_first, idle, refusing, answering, with_marks, kept_step, kept_steps, splice_step, undo_edits}
-use Rattle.back_end.specs.Steps.{redo_edits, taken_step, needs_on, needs_css, server_step, command_step}
+use Rattle.back_end.specs.Steps.{redo_edits, taken_step, needs_on, needs_css, served_step, command_step}
 use Rattle.back_end.specs.Seats.{DeskStandsFor, BothStandFor}
 use Rattle.back_end.proofs.HistoryLemmas.{keeps-marked, undo-hands, redo-hands, undo-hands-none, redo-hands-none}
 use Rattle.back_end.proofs.SpliceSteps.{restyled}
@@ -328,73 +329,73 @@ pub redo-takes : (d : Desk) (h : Marks Inverse) (s : PageSide) (state : State) (
 redo-takes d h s state es out both = taken-here d s state es both.stands (redo-hands h es state both.kept out).taken
 
 -- a command of these that is carried out
-record IsTaking (server : Server) (out : Option (List Inverse)) (marks : Marks (Entry Saved Inverse)) (state : State) : Type 0 where
-  needs : needs_on server ≡ true
-  plain : needs_css server ≡ false
-  step : (id : ℕ) → server_step id server state ≡ taken_step id out marks state
+record IsTaking (command : Command) (out : Option (List Inverse)) (marks : Marks (Entry Saved Inverse)) (state : State) : Type 0 where
+  needs : needs_on command ≡ true
+  plain : needs_css command ≡ false
+  step : (id : ℕ) → served_step id command state ≡ taken_step id out marks state
 
 undo-is : (o : Option (List Inverse)) (state : State) → undo_edits state.client.marks ≡ o
-    → IsTaking undoes o (undone state.client.marks) state
+    → IsTaking Undo o (undone state.client.marks) state
 undo-is o state is = record { needs = refl; plain = refl; step = λ id. ap (λ x. taken_step id x (undone state.client.marks) state) is }
 
 redo-is : (o : Option (List Inverse)) (state : State) → redo_edits state.client.marks ≡ o
-    → IsTaking redoes o (redone state.client.marks) state
+    → IsTaking Redo o (redone state.client.marks) state
 redo-is o state is = record { needs = refl; plain = refl; step = λ id. ap (λ x. taken_step id x (redone state.client.marks) state) is }
 
-module _ (d : Desk) (s : PageSide) (state : State) (id : ℕ) (server : Server) (out : Option (List Inverse))
+module _ (d : Desk) (s : PageSide) (state : State) (id : ℕ) (command : Command) (out : Option (List Inverse))
     (marks : Marks (Entry Saved Inverse)) (before : DeskStandsFor d s state) (on : d.is_on ≡ true)
-    (is : IsTaking server out marks state) where
-  taking : command_step id server state ≡ taken_step id out marks state
-  taking = on-is id server state (dom-on server d s state before on) (ap (λ b. b && not state.client.css_on) is.plain) ∙ is.step id
+    (is : IsTaking command out marks state) where
+  taking : command_step id command state ≡ taken_step id out marks state
+  taking = on-is id command state (dom-on command d s state before on) (ap (λ b. b && not state.client.css_on) is.plain) ∙ is.step id
 
   -- there is nothing
-  nothing : out ≡ None → state.client.marks.crossed ≡ false → command_step id server state ≡ answering id (idle state)
+  nothing : out ≡ None → state.client.marks.crossed ≡ false → command_step id command state ≡ answering id (idle state)
   nothing none free =
       taking ∙ ap (λ (o : Option (List Inverse)). taken_step id o marks state) none
       ∙ ap (λ b. cond b (refusing (Some id) Crossed state) (answering id (idle state))) free
 
   -- since the history was emptied
-  emptied : out ≡ None → state.client.marks.crossed ≡ true → command_step id server state ≡ refusing (Some id) Crossed state
+  emptied : out ≡ None → state.client.marks.crossed ≡ true → command_step id command state ≡ refusing (Some id) Crossed state
   emptied none crossed =
       taking ∙ ap (λ (o : Option (List Inverse)). taken_step id o marks state) none
       ∙ ap (λ b. cond b (refusing (Some id) Crossed state) (answering id (idle state))) crossed
 
   -- the edits are carried out
   carried : (es : List Inverse) → out ≡ Some es
-      → command_step id server state
+      → command_step id command state
       ≡ answering id (record { state = with_marks marks (kept_steps es state).state; moves = (kept_steps es state).moves })
   carried es some = taking ∙ ap (λ (o : Option (List Inverse)). taken_step id o marks state) some
 
   nothing-both : (h : Marks Inverse) → out ≡ None → state.client.marks.crossed ≡ false → Keeps h state
-      → BothStandFor d h s (command_step id server state).state
+      → BothStandFor d h s (command_step id command state).state
   nothing-both h none free k = subst (λ (done : Step). BothStandFor d h s done.state) (sym (nothing none free))
       (record { stands = before; kept = k })
 
   nothing-sent : (old new : List ℕ) → out ≡ None → state.client.marks.crossed ≡ false → new ≡ old ++ framed (reply_text id Nothing)
-      → new ≡ old ++ frames_of_moves (command_step id server state).moves
+      → new ≡ old ++ frames_of_moves (command_step id command state).moves
   nothing-sent old new none free sent =
       sent ∙ ap (λ bs. old ++ bs) (sym (append-nil (framed (reply_text id Nothing)))) ∙ ap
       (λ (done : Step). old ++ frames_of_moves done.moves) (sym (nothing none free))
 
   emptied-both : (h : Marks Inverse) → out ≡ None → state.client.marks.crossed ≡ true → Keeps h state
-      → BothStandFor d h s (command_step id server state).state
+      → BothStandFor d h s (command_step id command state).state
   emptied-both h none crossed k = subst (λ (done : Step). BothStandFor d h s done.state) (sym (emptied none crossed))
       (record { stands = before; kept = k })
 
   emptied-sent : (old new : List ℕ) → out ≡ None → state.client.marks.crossed ≡ true
       → new ≡ old ++ frames_of_moves (refusing (Some id) Crossed state).moves
-      → new ≡ old ++ frames_of_moves (command_step id server state).moves
+      → new ≡ old ++ frames_of_moves (command_step id command state).moves
   emptied-sent old new none crossed sent = sent ∙ ap (λ (done : Step). old ++ frames_of_moves done.moves) (sym (emptied none crossed))
 
   carried-both : (d1 : Desk) (s1 : PageSide) (h1 : Marks Inverse) (es : List Inverse) → out ≡ Some es
       → DeskStandsFor d1 s1 (kept_steps es state).state
-      → Keeps h1 (with_marks marks (kept_steps es state).state) → BothStandFor d1 h1 s1 (command_step id server state).state
+      → Keeps h1 (with_marks marks (kept_steps es state).state) → BothStandFor d1 h1 s1 (command_step id command state).state
   carried-both d1 s1 h1 es some stands k =
       subst (λ (done : Step). BothStandFor d1 h1 s1 done.state) (sym (carried es some))
       (record { stands = marks-stands marks d1 s1 (kept_steps es state).state stands; kept = k })
 
   carried-sent : (es : List Inverse) (old middle new : List ℕ) → out ≡ Some es → middle ≡ old ++ frames_of_moves (kept_steps es state).moves
-      → new ≡ middle ++ framed (reply_text id Nothing) → new ≡ old ++ frames_of_moves (command_step id server state).moves
+      → new ≡ middle ++ framed (reply_text id Nothing) → new ≡ old ++ frames_of_moves (command_step id command state).moves
   carried-sent es old middle new some first last =
       answered-sent id (kept_steps es state).moves old middle new first last ∙ ap (λ (done : Step). old ++ frames_of_moves done.moves)
       (sym (carried es some))
@@ -422,13 +423,13 @@ pub undone-both : (d d1 : Desk) (h h1 : Marks Inverse) (s s1 : PageSide) (state 
     → BothStandFor d h s state → d.is_on ≡ true → handed_out h.past ≡ Some es
     → DeskStandsFor d1 s1 (kept_steps es state).state → saved_at s1 ≡ after_all page_after es (saved_at s) → s1.page.next ≡ s.page.next
     → backs ≡ back_all page_after way_back es (saved_at s) → h1 ≡ future_pushed backs (past_popped h)
-    → BothStandFor d1 h1 s1 (command_step id undoes state).state
+    → BothStandFor d1 h1 s1 (command_step id Undo state).state
 undone-both d d1 h h1 s s1 state id es backs both on out stands saved next backs_is h_is =
     let u = undo-hands h es state both.kept out in
     let after = (kept_steps es state).state in
     let same : h1 ≡ future_pushed (back_all page_after way_back es (saved_now state)) (past_popped h) =
     h_is ∙ ap (λ (l : List Inverse). future_pushed l (past_popped h)) (backs-here d s state es backs both.stands backs_is) in
-    carried-both d s state id undoes (Some es) (undone state.client.marks) both.stands on
+    carried-both d s state id Undo (Some es) (undone state.client.marks) both.stands on
     (undo-is (Some es) state u.edits) d1 s1 h1 es refl stands
     (subst (λ (x : Marks Inverse). Keeps x (with_marks (undone state.client.marks) after)) (sym same)
     (u.kept after (led-saved d d1 s s1 state es both.stands stands saved next) (led-next d d1 s s1 state es both.stands stands saved next)))
@@ -437,13 +438,13 @@ pub redone-both : (d d1 : Desk) (h h1 : Marks Inverse) (s s1 : PageSide) (state 
     → BothStandFor d h s state → d.is_on ≡ true → handed_out h.future ≡ Some es
     → DeskStandsFor d1 s1 (kept_steps es state).state → saved_at s1 ≡ after_all page_after es (saved_at s) → s1.page.next ≡ s.page.next
     → backs ≡ back_all page_after way_back es (saved_at s) → h1 ≡ past_pushed backs (future_popped h)
-    → BothStandFor d1 h1 s1 (command_step id redoes state).state
+    → BothStandFor d1 h1 s1 (command_step id Redo state).state
 redone-both d d1 h h1 s s1 state id es backs both on out stands saved next backs_is h_is =
     let u = redo-hands h es state both.kept out in
     let after = (kept_steps es state).state in
     let same : h1 ≡ past_pushed (back_all page_after way_back es (saved_now state)) (future_popped h) =
     h_is ∙ ap (λ (l : List Inverse). past_pushed l (future_popped h)) (backs-here d s state es backs both.stands backs_is) in
-    carried-both d s state id redoes (Some es) (redone state.client.marks) both.stands on
+    carried-both d s state id Redo (Some es) (redone state.client.marks) both.stands on
     (redo-is (Some es) state u.edits) d1 s1 h1 es refl stands
     (subst (λ (x : Marks Inverse). Keeps x (with_marks (redone state.client.marks) after)) (sym same)
     (u.kept after (led-saved d d1 s s1 state es both.stands stands saved next) (led-next d d1 s s1 state es both.stands stands saved next)))
@@ -451,85 +452,85 @@ redone-both d d1 h h1 s s1 state id es backs both on out stands saved next backs
 pub undone-sent : (d : Desk) (h : Marks Inverse) (s : PageSide) (state : State) (id : ℕ) (es : List Inverse) (old middle new : List ℕ)
     → BothStandFor d h s state → d.is_on ≡ true → handed_out h.past ≡ Some es
     → middle ≡ old ++ frames_of_moves (kept_steps es state).moves → new ≡ middle ++ framed (reply_text id Nothing)
-    → new ≡ old ++ frames_of_moves (command_step id undoes state).moves
+    → new ≡ old ++ frames_of_moves (command_step id Undo state).moves
 undone-sent d h s state id es old middle new both on out first last =
-    carried-sent d s state id undoes (Some es) (undone state.client.marks) both.stands on
+    carried-sent d s state id Undo (Some es) (undone state.client.marks) both.stands on
     (undo-is (Some es) state (undo-hands h es state both.kept out).edits) es old middle new refl first last
 
 pub redone-sent : (d : Desk) (h : Marks Inverse) (s : PageSide) (state : State) (id : ℕ) (es : List Inverse) (old middle new : List ℕ)
     → BothStandFor d h s state → d.is_on ≡ true → handed_out h.future ≡ Some es
     → middle ≡ old ++ frames_of_moves (kept_steps es state).moves → new ≡ middle ++ framed (reply_text id Nothing)
-    → new ≡ old ++ frames_of_moves (command_step id redoes state).moves
+    → new ≡ old ++ frames_of_moves (command_step id Redo state).moves
 redone-sent d h s state id es old middle new both on out first last =
-    carried-sent d s state id redoes (Some es) (redone state.client.marks) both.stands on
+    carried-sent d s state id Redo (Some es) (redone state.client.marks) both.stands on
     (redo-is (Some es) state (redo-hands h es state both.kept out).edits) es old middle new refl first last
 
 module _ (d : Desk) (h h1 : Marks Inverse) (s : PageSide) (state : State) (id : ℕ) (both : BothStandFor d h s state)
     (on : d.is_on ≡ true) where
   -- nothing is left to take back
   module _ (out : handed_out h.past ≡ None) where
-    pub unundone-both : h.crossed ≡ false → h1 ≡ past_popped h → BothStandFor d h1 s (command_step id undoes state).state
+    pub unundone-both : h.crossed ≡ false → h1 ≡ past_popped h → BothStandFor d h1 s (command_step id Undo state).state
     unundone-both free is =
         let u = undo-hands-none h state both.kept out in
-        nothing-both d s state id undoes None (undone state.client.marks) both.stands on (undo-is None state u.edits) h1 refl
+        nothing-both d s state id Undo None (undone state.client.marks) both.stands on (undo-is None state u.edits) h1 refl
         (sym u.crossed ∙ free) (subst (λ (x : Marks Inverse). Keeps x state) (sym is) u.kept)
 
     pub unundone-sent : h.crossed ≡ false → (old new : List ℕ) → new ≡ old ++ framed (reply_text id Nothing)
-        → new ≡ old ++ frames_of_moves (command_step id undoes state).moves
+        → new ≡ old ++ frames_of_moves (command_step id Undo state).moves
     unundone-sent free old new sent =
         let u = undo-hands-none h state both.kept out in
-        nothing-sent d s state id undoes None (undone state.client.marks) both.stands on (undo-is None state u.edits) old new refl
+        nothing-sent d s state id Undo None (undone state.client.marks) both.stands on (undo-is None state u.edits) old new refl
         (sym u.crossed ∙ free) sent
 
-    pub barred-undo-both : h.crossed ≡ true → h1 ≡ past_popped h → BothStandFor d h1 s (command_step id undoes state).state
+    pub barred-undo-both : h.crossed ≡ true → h1 ≡ past_popped h → BothStandFor d h1 s (command_step id Undo state).state
     barred-undo-both crossed is =
         let u = undo-hands-none h state both.kept out in
-        emptied-both d s state id undoes None (undone state.client.marks) both.stands on (undo-is None state u.edits) h1 refl
+        emptied-both d s state id Undo None (undone state.client.marks) both.stands on (undo-is None state u.edits) h1 refl
         (sym u.crossed ∙ crossed) (subst (λ (x : Marks Inverse). Keeps x state) (sym is) u.kept)
 
     pub barred-undo-sent : h.crossed ≡ true → (old new : List ℕ) → new ≡ old ++ frames_of_moves (refusing (Some id) Crossed state).moves
-        → new ≡ old ++ frames_of_moves (command_step id undoes state).moves
+        → new ≡ old ++ frames_of_moves (command_step id Undo state).moves
     barred-undo-sent crossed old new sent =
         let u = undo-hands-none h state both.kept out in
-        emptied-sent d s state id undoes None (undone state.client.marks) both.stands on (undo-is None state u.edits) old new refl
+        emptied-sent d s state id Undo None (undone state.client.marks) both.stands on (undo-is None state u.edits) old new refl
         (sym u.crossed ∙ crossed) sent
 
   -- or to do again
   module _ (out : handed_out h.future ≡ None) where
-    pub unredone-both : h.crossed ≡ false → h1 ≡ future_popped h → BothStandFor d h1 s (command_step id redoes state).state
+    pub unredone-both : h.crossed ≡ false → h1 ≡ future_popped h → BothStandFor d h1 s (command_step id Redo state).state
     unredone-both free is =
         let u = redo-hands-none h state both.kept out in
-        nothing-both d s state id redoes None (redone state.client.marks) both.stands on (redo-is None state u.edits) h1 refl
+        nothing-both d s state id Redo None (redone state.client.marks) both.stands on (redo-is None state u.edits) h1 refl
         (sym u.crossed ∙ free) (subst (λ (x : Marks Inverse). Keeps x state) (sym is) u.kept)
 
     pub unredone-sent : h.crossed ≡ false → (old new : List ℕ) → new ≡ old ++ framed (reply_text id Nothing)
-        → new ≡ old ++ frames_of_moves (command_step id redoes state).moves
+        → new ≡ old ++ frames_of_moves (command_step id Redo state).moves
     unredone-sent free old new sent =
         let u = redo-hands-none h state both.kept out in
-        nothing-sent d s state id redoes None (redone state.client.marks) both.stands on (redo-is None state u.edits) old new refl
+        nothing-sent d s state id Redo None (redone state.client.marks) both.stands on (redo-is None state u.edits) old new refl
         (sym u.crossed ∙ free) sent
 
-    pub barred-redo-both : h.crossed ≡ true → h1 ≡ future_popped h → BothStandFor d h1 s (command_step id redoes state).state
+    pub barred-redo-both : h.crossed ≡ true → h1 ≡ future_popped h → BothStandFor d h1 s (command_step id Redo state).state
     barred-redo-both crossed is =
         let u = redo-hands-none h state both.kept out in
-        emptied-both d s state id redoes None (redone state.client.marks) both.stands on (redo-is None state u.edits) h1 refl
+        emptied-both d s state id Redo None (redone state.client.marks) both.stands on (redo-is None state u.edits) h1 refl
         (sym u.crossed ∙ crossed) (subst (λ (x : Marks Inverse). Keeps x state) (sym is) u.kept)
 
     pub barred-redo-sent : h.crossed ≡ true → (old new : List ℕ) → new ≡ old ++ frames_of_moves (refusing (Some id) Crossed state).moves
-        → new ≡ old ++ frames_of_moves (command_step id redoes state).moves
+        → new ≡ old ++ frames_of_moves (command_step id Redo state).moves
     barred-redo-sent crossed old new sent =
         let u = redo-hands-none h state both.kept out in
-        emptied-sent d s state id redoes None (redone state.client.marks) both.stands on (redo-is None state u.edits) old new refl
+        emptied-sent d s state id Redo None (redone state.client.marks) both.stands on (redo-is None state u.edits) old new refl
         (sym u.crossed ∙ crossed) sent
 
 -- ---- a mark
 
 pub marked-both : (d : Desk) (h h1 : Marks Inverse) (s : PageSide) (state : State) (id : ℕ) → BothStandFor d h s state → d.is_on ≡ true
-    → h1 ≡ marked h → BothStandFor d h1 s (command_step id ends_group state).state
+    → h1 ≡ marked h → BothStandFor d h1 s (command_step id MarkUndoableState state).state
 marked-both d h h1 s state id both on is =
     let marks = marked state.client.marks in
     subst (λ (done : Step). BothStandFor d h1 s done.state)
-    (sym (on-is id ends_group state (dom-on ends_group d s state both.stands on) refl))
+    (sym (on-is id MarkUndoableState state (dom-on MarkUndoableState d s state both.stands on) refl))
     (record {
       stands = marks-stands marks d s state both.stands;
       kept = subst (λ (x : Marks Inverse). Keeps x (with_marks marks state)) (sym is) (keeps-marked h state both.kept);
@@ -537,7 +538,8 @@ marked-both d h h1 s state id both on is =
 
 pub marked-sent : (d : Desk) (s : PageSide) (state : State) (id : ℕ) (old new : List ℕ) → DeskStandsFor d s state → d.is_on ≡ true
     → new ≡ old ++ framed (reply_text id Nothing)
-    → new ≡ old ++ frames_of_moves (command_step id ends_group state).moves
+    → new ≡ old ++ frames_of_moves (command_step id MarkUndoableState state).moves
 marked-sent d s state id old new stands on sent =
     sent ∙ ap (λ bs. old ++ bs) (sym (append-nil (framed (reply_text id Nothing))))
-    ∙ ap (λ (done : Step). old ++ frames_of_moves done.moves) (sym (on-is id ends_group state (dom-on ends_group d s state stands on) refl))
+    ∙ ap (λ (done : Step). old ++ frames_of_moves done.moves)
+    (sym (on-is id MarkUndoableState state (dom-on MarkUndoableState d s state stands on) refl))

@@ -6,8 +6,8 @@ use Rattle.cdp_messages.specs.declared.command.Why.TheVariants.{UnknownNode}
 use Rattle.cdp_messages.specs.Moves.{frames_of_moves}
 use Rattle.dom_breakpoints.specs.Watched.{Watched}
 use Rattle.back_end.specs.States.{State, page_nodes}
-use Rattle.back_end.specs.Servers.{Server}
-use Rattle.back_end.specs.Steps.{Step, refusing, serial_now, watch_step, server_step, command_step, needs_css}
+use Rattle.cdp_messages.specs.declared.command.Command.{Command}
+use Rattle.back_end.specs.Steps.{Step, refusing, serial_now, watch_step, served_step, command_step, needs_css}
 use Rattle.back_end.specs.declared.desk.Desk.{Desk}
 use Rattle.back_end.specs.declared.side.PageSide.{PageSide}
 use Rattle.back_end.specs.Seats.{DeskStandsFor}
@@ -15,32 +15,32 @@ use Rattle.back_end.proofs.SeatLemmas.{on-is}
 use Rattle.back_end.proofs.SheetSeats.{dom-on}
 use Rattle.back_end.proofs.WatchSteps.{AddsOne, watches-are}
 
--- what changes the watches of a node, as a server
-pub record Changes (server : Server) (change : ℕ → Watched → Watched) (node : ℕ) : Type 0 where
-  pub step : (id : ℕ) (state : State) → server_step id server state ≡ watch_step id change (serial_now state node) state
-  pub plain : needs_css server ≡ false
+-- what changes the watches of a node, as a command
+pub record Changes (command : Command) (change : ℕ → Watched → Watched) (node : ℕ) : Type 0 where
+  pub step : (id : ℕ) (state : State) → served_step id command state ≡ watch_step id change (serial_now state node) state
+  pub plain : needs_css command ≡ false
   pub adds : AddsOne change
 
-module _ (d : Desk) (s : PageSide) (state : State) (id : ℕ) (server : Server) (change : ℕ → Watched → Watched) (node : ℕ)
-    (changes : Changes server change node) (stands : DeskStandsFor d s state) where
+module _ (d : Desk) (s : PageSide) (state : State) (id : ℕ) (command : Command) (change : ℕ → Watched → Watched) (node : ℕ)
+    (changes : Changes command change node) (stands : DeskStandsFor d s state) where
   step-is : (found : Option ℕ) → d.is_on ≡ true → found ≡ map.get d.agent.serials node
-      → command_step id server state ≡ watch_step id change found state
+      → command_step id command state ≡ watch_step id change found state
   step-is found was is =
-      on-is id server state (dom-on server d s state stands was) (ap (λ b. b && not state.client.css_on) changes.plain)
+      on-is id command state (dom-on command d s state stands was) (ap (λ b. b && not state.client.css_on) changes.plain)
       ∙ changes.step id state
       ∙ ap (λ o. watch_step id change o state) (sym (is ∙ stands.stands.serials_are node))
 
-  pub unknown-stands : d.is_on ≡ true → None ≡ map.get d.agent.serials node → DeskStandsFor d s (command_step id server state).state
+  pub unknown-stands : d.is_on ≡ true → None ≡ map.get d.agent.serials node → DeskStandsFor d s (command_step id command state).state
   unknown-stands was is = subst (λ (done : Step). DeskStandsFor d s done.state) (sym (step-is None was is)) stands
 
   pub unknown-sent : (old new : List ℕ) → d.is_on ≡ true → None ≡ map.get d.agent.serials node
       → new ≡ old ++ frames_of_moves (refusing (Some id) UnknownNode state).moves
-      → new ≡ old ++ frames_of_moves (command_step id server state).moves
+      → new ≡ old ++ frames_of_moves (command_step id command state).moves
   unknown-sent old new was is sent = sent ∙ ap (λ (done : Step). old ++ frames_of_moves done.moves) (sym (step-is None was is))
 
   pub changed-stands : (d1 : Desk) (serial : ℕ) → d.is_on ≡ true → Some serial ≡ map.get d.agent.serials node
       → d1.is_on ≡ d.is_on → d1.css ≡ d.css → d1.watches ≡ change serial d.watches → d1.agent ≡ d.agent
-      → DeskStandsFor d1 s (command_step id server state).state
+      → DeskStandsFor d1 s (command_step id command state).state
   changed-stands d1 serial was is on_is css_is watches_is agent_is =
       subst (λ (done : Step). DeskStandsFor d1 s done.state) (sym (step-is (Some serial) was is)) (record {
         now = watches-are change state node serial changes.adds (sym (is ∙ stands.stands.serials_are node)) stands.now;

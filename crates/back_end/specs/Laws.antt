@@ -14,11 +14,11 @@ use Rattle.cdp_messages.specs.Moves.{Move, change, clear, met, added, dropped, r
 use Rattle.cdp_messages.specs.Moves.{failed, Course}
 use Rattle.css_objects.specs.Sheets.{sheet_in}
 use Rattle.cdp_messages.specs.declared.command.Command.{Command}
-use Rattle.css_agent.specs.declared.asks.CssAsk.{CssAsk}
-use Rattle.css_agent.specs.declared.asks.CssAsk.TheVariants as css
+use Rattle.cdp_messages.specs.declared.css_ask.CssAsk.{CssAsk}
+use Rattle.cdp_messages.specs.declared.css_ask.CssAsk.TheVariants as css
 use Rattle.css_agent.specs.Asks.{css_ask_in}
-use Rattle.css_agent.specs.declared.edits.CssEdit.{CssEdit}
-use Rattle.css_agent.specs.declared.edits.CssEdit.TheVariants as style
+use Rattle.cdp_messages.specs.declared.css_edit.CssEdit.{CssEdit}
+use Rattle.cdp_messages.specs.declared.css_edit.CssEdit.TheVariants as style
 use Rattle.undo_marks.specs.Marks.{entry_count, undone, redone}
 use Rattle.undo_marks.specs.Changes.{HistoryEntry as Entry, AllTaken, page_undone, page_redone}
 use Rattle.undo_marks.specs.SavedEdits.{page_after, MeetsNoFault}
@@ -29,8 +29,9 @@ use Rattle.page_forms.specs.Sheets.{max_sheets}
 use Rattle.page_forms.specs.Pages.{CanLoadPage}
 use Rattle.back_end.specs.States.{State, IsState, view_of, saved_now}
 use Rattle.back_end.specs.Steps.{Step, Turn, acts, loads, frame_step, turn_step, undo_step, redo_step, undo_edits, redo_edits}
-use Rattle.back_end.specs.Servers.{Server, enables, disables, css_enables, css_disables, agent, css_agent, edits_tree, edits_sheets}
-use Rattle.back_end.specs.Servers.{ends_group, undoes, redoes, watches, unwatches, page_load, page_act, nobody, server_of}
+use Rattle.cdp_messages.specs.declared.command.Command.TheVariants.{DomEnable, DomDisable, CssEnable, CssDisable, AskDom, AskCss, EditDom}
+use Rattle.cdp_messages.specs.declared.command.Command.TheVariants.{EditCss, MarkUndoableState, Undo, Redo, SetBreakpoint, RemoveBreakpoint}
+use Rattle.cdp_messages.specs.declared.command.Command.TheVariants.{ReplayLoad, ReplayAct}
 use Rattle.back_end.specs.Texts.{PageHasTexts, ActHasTexts}
 
 -- ---- how many edits a history has
@@ -65,28 +66,27 @@ most_splices (style.SetRuleSelector sheet range selector) = 1
 most_splices (style.SetStyleSheetText sheet text) = 1
 most_splices (style.AddRule sheet rule_text location) = 1
 
--- how many edits a command comes to at most, by who serves it
-abbrev pub most_edits : Server → ℕ
-most_edits enables = 0
-most_edits disables = 0
-most_edits css_enables = 0
-most_edits css_disables = 0
-most_edits (agent ask) = 0
-most_edits (css_agent ask) = 0
-most_edits (edits_tree edit) = 2
-most_edits (edits_sheets edit) = most_splices edit
-most_edits ends_group = 0
-most_edits undoes = 0
-most_edits redoes = 0
-most_edits (watches node kind) = 0
-most_edits (unwatches node kind) = 0
-most_edits (page_load params) = 0
-most_edits (page_act params) = 0
-most_edits nobody = 0
+-- how many edits a command comes to at most
+abbrev pub most_edits : Command → ℕ
+most_edits DomEnable = 0
+most_edits DomDisable = 0
+most_edits (AskDom ask) = 0
+most_edits (EditDom edit) = 2
+most_edits MarkUndoableState = 0
+most_edits Undo = 0
+most_edits Redo = 0
+most_edits CssEnable = 0
+most_edits CssDisable = 0
+most_edits (AskCss ask) = 0
+most_edits (EditCss edit) = most_splices edit
+most_edits (SetBreakpoint node kind) = 0
+most_edits (RemoveBreakpoint node kind) = 0
+most_edits (ReplayLoad params) = 0
+most_edits (ReplayAct params) = 0
 
 -- how many a frame does
 abbrev pub edits_asked : Result Asked Refused → ℕ
-edits_asked (Ok a) = most_edits (server_of a.command)
+edits_asked (Ok a) = most_edits a.command
 edits_asked (Err r) = 0
 
 -- ---- room

@@ -15,8 +15,8 @@ use Rattle.page_forms.specs.declared.acts.Act.{Act}
 use Rattle.page_forms.specs.declared.acts.Act.TheVariants.{SetAttr, DropAttr, SetText, Insert, Remove, Move, AddSheet, DropSheet}
 use Rattle.page_forms.specs.declared.acts.Act.TheVariants.{ReplaceSheet}
 use Rattle.back_end.specs.declared.faults.ActFault.{ActFault}
-use Rattle.back_end.specs.declared.dom_edits.NodeEdit.{NodeEdit}
-use Rattle.back_end.specs.declared.dom_edits.NodeEdit.TheVariants.{One, MoveNode, CopyNode}
+use Rattle.back_end.specs.declared.node_edits.NodeEdit.{NodeEdit}
+use Rattle.back_end.specs.declared.node_edits.NodeEdit.TheVariants.{One, MoveNode, CopyNode}
 use Rattle.back_end.specs.declared.faults.ActFault.TheVariants.{Edit, Sheet}
 use Rattle.back_end.specs.Sheets.{SheetChange, leaves, comes}
 

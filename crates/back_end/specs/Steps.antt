@@ -32,10 +32,10 @@ use Rattle.sheet_reader.specs.declared.book.SheetEntry.{SheetEntry}
 use Rattle.cdp_messages.specs.Views.{ShownSheet, sheets_without, sheets_with_text}
 use Rattle.cdp_messages.specs.Moves.{Move, clear, met, rewritten, added, dropped, texted, replied, all_off, sheets_off, failed}
 use Rattle.cdp_messages.specs.Moves.{frames_of_moves}
-use Rattle.css_agent.specs.declared.asks.CssAsk.{CssAsk}
-use Rattle.css_agent.specs.declared.asks.CssAsk.TheVariants as css
+use Rattle.cdp_messages.specs.declared.css_ask.CssAsk.{CssAsk}
+use Rattle.cdp_messages.specs.declared.css_ask.CssAsk.TheVariants as css
 use Rattle.css_agent.specs.Asks.{css_outcome, answer_move, sheet_named}
-use Rattle.css_agent.specs.declared.edits.CssEdit.{CssEdit}
+use Rattle.cdp_messages.specs.declared.css_edit.CssEdit.{CssEdit}
 use Rattle.css_agent.specs.Edits.{CssEdited, css_edited, css_splices, text_under}
 use Rattle.style_edits.specs.declared.splice.Splice.{Splice}
 use Rattle.style_edits.specs.Splices.{after_splice}
@@ -56,17 +56,19 @@ use Rattle.undo_marks.specs.SavedEdits.{page_after, way_back}
 use Rattle.undo_marks.specs.declared.inverse_lists.Inverse.{Inverse}
 use Rattle.undo_marks.specs.declared.inverse_lists.Inverse.TheVariants as kept
 use Rattle.back_end.specs.declared.faults.ActFault.{ActFault}
-use Rattle.back_end.specs.declared.dom_edits.DomEdit.{DomEdit}
-use Rattle.back_end.specs.declared.dom_edits.DomEdit.TheVariants as tree
-use Rattle.back_end.specs.declared.dom_edits.NodeEdit.{NodeEdit}
-use Rattle.back_end.specs.declared.dom_edits.NodeEdit.TheVariants.{One, MoveNode, CopyNode}
+use Rattle.cdp_messages.specs.declared.dom_edit.DomEdit.{DomEdit}
+use Rattle.cdp_messages.specs.declared.dom_edit.DomEdit.TheVariants as tree
+use Rattle.back_end.specs.declared.node_edits.NodeEdit.{NodeEdit}
+use Rattle.back_end.specs.declared.node_edits.NodeEdit.TheVariants.{One, MoveNode, CopyNode}
 use Rattle.back_end.specs.Sheets.{shown_sheet, SheetChange, leaves, comes}
 use Rattle.back_end.specs.States.{Side, Client, State, page_nodes, book_in, loaded_side, saved_now}
 use Rattle.back_end.specs.Plans.{Plan, node_edit_fault, node_edit_plan, node_put, Deed, edits, restyles, one_edit, edit_fault, act_fault}
 use Rattle.back_end.specs.Plans.{act_plan}
 use Rattle.back_end.specs.OwnMethods.{edit_why, sheet_why, load_asked, act_judged, act_asked}
-use Rattle.back_end.specs.Servers.{Server, enables, disables, css_enables, css_disables, agent, css_agent, edits_tree, edits_sheets}
-use Rattle.back_end.specs.Servers.{ends_group, undoes, redoes, watches, unwatches, page_load, page_act, nobody, server_of}
+use Rattle.cdp_messages.specs.declared.command.Command.{Command}
+use Rattle.cdp_messages.specs.declared.command.Command.TheVariants.{DomEnable, DomDisable, CssEnable, CssDisable, AskDom, AskCss, EditDom}
+use Rattle.cdp_messages.specs.declared.command.Command.TheVariants.{EditCss, MarkUndoableState, Undo, Redo, SetBreakpoint, RemoveBreakpoint}
+use Rattle.cdp_messages.specs.declared.command.Command.TheVariants.{ReplayLoad, ReplayAct}
 
 -- what a step makes: the state after it, and what it tells the client
 pub record Step : Type 0 where
@@ -120,7 +122,7 @@ serial_now state id = serial_at state.client.session (page_nodes state) id
 
 -- ---- edits of the page
 
--- the watches that are left after an edit of that tree: those of a tree that goes are dropped
+-- the SetBreakpoint that are left after an edit of that tree: those of a tree that goes are dropped
 abbrev pub watches_left : TreeEdit → Branch PageRow → Watched → Watched
 watches_left (SetAttr node name value) tree w = w
 watches_left (DropAttr node name) tree w = w
@@ -388,42 +390,40 @@ ask_needs_on (GetAttributes id) = true
 ask_needs_on (DescribeNode id serial depth pierce) = false
 
 -- a command that is refused while DOM is off
-abbrev pub needs_on : Server → Bool
-needs_on enables = false
-needs_on disables = true
-needs_on css_enables = true
-needs_on css_disables = true
-needs_on (agent ask) = ask_needs_on ask
-needs_on (css_agent ask) = true
-needs_on (edits_tree edit) = true
-needs_on (edits_sheets edit) = true
-needs_on ends_group = true
-needs_on undoes = true
-needs_on redoes = true
-needs_on (watches node word) = true
-needs_on (unwatches node word) = true
-needs_on (page_load params) = false
-needs_on (page_act params) = false
-needs_on nobody = false
+abbrev pub needs_on : Command → Bool
+needs_on DomEnable = false
+needs_on DomDisable = true
+needs_on (AskDom ask) = ask_needs_on ask
+needs_on (EditDom edit) = true
+needs_on MarkUndoableState = true
+needs_on Undo = true
+needs_on Redo = true
+needs_on CssEnable = true
+needs_on CssDisable = true
+needs_on (AskCss ask) = true
+needs_on (EditCss edit) = true
+needs_on (SetBreakpoint node word) = true
+needs_on (RemoveBreakpoint node word) = true
+needs_on (ReplayLoad params) = false
+needs_on (ReplayAct params) = false
 
 -- a command that is refused while CSS is off
-abbrev pub needs_css : Server → Bool
-needs_css enables = false
-needs_css disables = false
-needs_css css_enables = false
-needs_css css_disables = true
-needs_css (agent ask) = false
-needs_css (css_agent ask) = true
-needs_css (edits_tree edit) = false
-needs_css (edits_sheets edit) = true
-needs_css ends_group = false
-needs_css undoes = false
-needs_css redoes = false
-needs_css (watches node word) = false
-needs_css (unwatches node word) = false
-needs_css (page_load params) = false
-needs_css (page_act params) = false
-needs_css nobody = false
+abbrev pub needs_css : Command → Bool
+needs_css DomEnable = false
+needs_css DomDisable = false
+needs_css (AskDom ask) = false
+needs_css (EditDom edit) = false
+needs_css MarkUndoableState = false
+needs_css Undo = false
+needs_css Redo = false
+needs_css CssEnable = false
+needs_css CssDisable = true
+needs_css (AskCss ask) = true
+needs_css (EditCss edit) = true
+needs_css (SetBreakpoint node word) = false
+needs_css (RemoveBreakpoint node word) = false
+needs_css (ReplayLoad params) = false
+needs_css (ReplayAct params) = false
 
 -- an ask that turns DOM on
 abbrev pub turns_on : DomAsk → Bool
@@ -436,13 +436,13 @@ turns_on (QuerySelectorAll id text) = false
 turns_on (GetAttributes id) = false
 turns_on (DescribeNode id serial depth pierce) = false
 
--- the client after what its agent was asked: one whose ask was refused is as before
+-- the client after what its AskDom was asked: one whose ask was refused is as before
 abbrev pub client_served : DomAsk → Outcome Session → Client → Client
 client_served ask (shows_root w b) client = record client { dom_on = client.dom_on || turns_on ask; session = w }
 client_served ask (served p body) client = record client { dom_on = client.dom_on || turns_on ask; session = p.state }
 client_served ask (refused why) client = client
 
--- the step on what the agent is asked
+-- the step on what the AskDom is asked
 abbrev pub agent_step : ℕ → DomAsk → State → Step
 agent_step id ask state =
     let outcome = session_outcome state.side.page ask state.client.session in
@@ -472,14 +472,14 @@ abbrev pub text_answer : ℕ → Option SheetEntry → Move
 text_answer id None = failed (record { id = Some id; why = NoSheet })
 text_answer id (Some e) = texted id e.id e.text
 
--- the move that answers what the agent is asked
+-- the move that answers what the AskDom is asked
 abbrev pub css_answer : ℕ → CssAsk → State → Move
 css_answer id (css.GetMatchedStyles node) state = node_answer id (css.GetMatchedStyles node) (element_named node state) state
 css_answer id (css.GetStyleSheetText sheet) state = text_answer id (sheet_named sheet (book_in state))
 css_answer id (css.CollectClassNames sheet) state =
     answer_move id (css_outcome state.side.page.tree (book_in state) 0 (css.CollectClassNames sheet))
 
--- the step on what the CSS agent is asked
+-- the step on what the CSS AskDom is asked
 abbrev pub css_step : ℕ → CssAsk → State → Step
 css_step id ask state = record { state = state; moves = css_answer id ask state ∷ [] }
 
@@ -581,7 +581,7 @@ restyled_step id (Ok done) splices state = replying id done.body
 abbrev pub sheet_edit_step : ℕ → CssEdit → State → Step
 sheet_edit_step id edit state = restyled_step id (css_edited (book_in state) edit) (css_splices (book_in state) edit) state
 
--- ---- watches
+-- ---- SetBreakpoint
 
 -- the kind of a watch, by the word of a message
 abbrev pub watch_kind : WatchWord → WatchKind
@@ -589,7 +589,7 @@ watch_kind word.Subtree = watch.Subtree
 watch_kind word.Attribute = watch.Attribute
 watch_kind word.Removed = watch.Removed
 
--- the watches are others, of a node that is known
+-- the SetBreakpoint are others, of a node that is known
 abbrev pub watch_step : ℕ → (ℕ → Watched → Watched) → Option ℕ → State → Step
 watch_step id change None state = refusing (Some id) UnknownNode state
 watch_step id change (Some node) state =
@@ -609,33 +609,35 @@ judged_step id act state = own_step acts id (act_judged state.side.page (book_in
 -- ---- a command
 
 -- the step on a command, where the domains are on that it needs
-abbrev pub server_step : ℕ → Server → State → Step
-server_step id enables state = record { state = with_client (record state.client { dom_on = true }) state; moves = replied id Nothing ∷ [] }
-server_step id disables state = record { state = with_client (client_reset false state.client) state; moves = all_off id ∷ [] }
-server_step id css_enables state = css_on_step id state
-server_step id css_disables state = css_off_step id state
-server_step id (agent ask) state = agent_step id ask state
-server_step id (css_agent ask) state = css_step id ask state
-server_step id (edits_tree edit) state = tree_edit_step id edit state
-server_step id (edits_sheets edit) state = sheet_edit_step id edit state
-server_step id ends_group state = mark_step id state
-server_step id undoes state = undo_step id state
-server_step id redoes state = redo_step id state
-server_step id (watches node word) state = watch_step id (with_watch (watch_kind word)) (serial_now state node) state
-server_step id (unwatches node word) state = watch_step id (without_watch (watch_kind word)) (serial_now state node) state
-server_step id (page_load params) state = own_step loads id (load_asked params) state
-server_step id (page_act params) state = own_step acts id (act_asked params state.side.page (book_in state)) state
-server_step id nobody state = refusing (Some id) NoMethod state
+abbrev pub served_step : ℕ → Command → State → Step
+served_step id DomEnable state = record {
+  state = with_client (record state.client { dom_on = true }) state;
+  moves = replied id Nothing ∷ [];
+}
+served_step id DomDisable state = record { state = with_client (client_reset false state.client) state; moves = all_off id ∷ [] }
+served_step id (AskDom ask) state = agent_step id ask state
+served_step id (EditDom edit) state = tree_edit_step id edit state
+served_step id MarkUndoableState state = mark_step id state
+served_step id Undo state = undo_step id state
+served_step id Redo state = redo_step id state
+served_step id CssEnable state = css_on_step id state
+served_step id CssDisable state = css_off_step id state
+served_step id (AskCss ask) state = css_step id ask state
+served_step id (EditCss edit) state = sheet_edit_step id edit state
+served_step id (SetBreakpoint node word) state = watch_step id (with_watch (watch_kind word)) (serial_now state node) state
+served_step id (RemoveBreakpoint node word) state = watch_step id (without_watch (watch_kind word)) (serial_now state node) state
+served_step id (ReplayLoad params) state = own_step loads id (load_asked params) state
+served_step id (ReplayAct params) state = own_step acts id (act_asked params state.side.page (book_in state)) state
 
 -- the step on a command: a refusal while DOM is off, where it needs it; and then one while CSS is off, where it needs that
-abbrev pub command_step : ℕ → Server → State → Step
-command_step id server state =
-    cond (needs_on server && not state.client.dom_on) (refusing (Some id) DomOff state)
-    (cond (needs_css server && not state.client.css_on) (refusing (Some id) CssOff state) (server_step id server state))
+abbrev pub command_step : ℕ → Command → State → Step
+command_step id command state =
+    cond (needs_on command && not state.client.dom_on) (refusing (Some id) DomOff state)
+    (cond (needs_css command && not state.client.css_on) (refusing (Some id) CssOff state) (served_step id command state))
 
 -- a refused frame changes nothing, and gets one error reply
 abbrev pub asked_step : Result Asked Refused → State → Step
-asked_step (Ok a) state = command_step a.id (server_of a.command) state
+asked_step (Ok a) state = command_step a.id a.command state
 asked_step (Err r) state = record { state = state; moves = failed r ∷ [] }
 
 -- the step on one frame; `own` says whether our own two methods are known

@@ -1,4 +1,4 @@
--- The texts of edits of a page; those of loads and acts stand where these are read.
+-- The texts of edits of a page and of commands; those of loads and acts stand where these are read.
 use Rattle.std.specs.Prelude.{ℕ, ⊤}
 use Rattle.std.specs.Str.{IsUtf8}
 use Rattle.node_tree.specs.Nodes.{Branch, alone}
@@ -6,10 +6,16 @@ use Rattle.page_tree.specs.Pages.{PageRow}
 use Rattle.page_tree.specs.EditFaults.{IsReady}
 use Rattle.page_tree.specs.declared.edits.TreeEdit.{TreeEdit}
 use Rattle.page_tree.specs.declared.edits.TreeEdit.TheVariants.{SetAttr, DropAttr, SetText, Attach, Detach}
-use Rattle.back_end.specs.declared.dom_edits.DomEdit.{DomEdit}
-use Rattle.back_end.specs.declared.dom_edits.DomEdit.TheVariants as dom
-use Rattle.back_end.specs.declared.dom_edits.NodeEdit.{NodeEdit}
-use Rattle.back_end.specs.declared.dom_edits.NodeEdit.TheVariants.{One, MoveNode, CopyNode}
+use Rattle.cdp_json.specs.Plain.{HasUtf8}
+use Rattle.cdp_messages.specs.declared.command.Command.{Command}
+use Rattle.cdp_messages.specs.declared.command.Command.TheVariants.{DomEnable, DomDisable, AskDom, EditDom, MarkUndoableState, Undo, Redo}
+use Rattle.cdp_messages.specs.declared.command.Command.TheVariants.{CssEnable, CssDisable, AskCss, EditCss, SetBreakpoint, RemoveBreakpoint}
+use Rattle.cdp_messages.specs.declared.command.Command.TheVariants.{ReplayLoad, ReplayAct}
+use Rattle.cdp_messages.specs.declared.dom_edit.DomEdit.{DomEdit}
+use Rattle.cdp_messages.specs.declared.dom_edit.DomEdit.TheVariants as dom
+use Rattle.back_end.specs.declared.node_edits.NodeEdit.{NodeEdit}
+use Rattle.back_end.specs.declared.node_edits.NodeEdit.TheVariants.{One, MoveNode, CopyNode}
+use Rattle.css_agent.specs.EditLaws.{HasEditTexts}
 use Rattle.dom_agent.specs.Laws.{RowsHaveUtf8}
 use Rattle.undo_marks.specs.declared.inverse_lists.Inverse.{Inverse}
 use Rattle.undo_marks.specs.declared.inverse_lists.Inverse.TheVariants.{Tree, Sheet}
@@ -36,6 +42,24 @@ HasTreeTexts (dom.SetNodeValue node value) = IsUtf8 value
 HasTreeTexts (dom.RemoveNode node) = ⊤
 HasTreeTexts (dom.MoveTo node target before) = ⊤
 HasTreeTexts (dom.CopyTo node target before) = ⊤
+
+-- the texts that a command brings into the page are
+abbrev pub HasServedTexts : Command → Type 0
+HasServedTexts DomEnable = ⊤
+HasServedTexts DomDisable = ⊤
+HasServedTexts (AskDom ask) = ⊤
+HasServedTexts (EditDom edit) = HasTreeTexts edit
+HasServedTexts MarkUndoableState = ⊤
+HasServedTexts Undo = ⊤
+HasServedTexts Redo = ⊤
+HasServedTexts CssEnable = ⊤
+HasServedTexts CssDisable = ⊤
+HasServedTexts (AskCss ask) = ⊤
+HasServedTexts (EditCss edit) = HasEditTexts edit
+HasServedTexts (SetBreakpoint node kind) = ⊤
+HasServedTexts (RemoveBreakpoint node kind) = ⊤
+HasServedTexts (ReplayLoad params) = HasUtf8 params
+HasServedTexts (ReplayAct params) = HasUtf8 params
 
 -- An edit with nodes by their serials: one alone attaches no tree of its own, and its texts are UTF-8.
 abbrev pub IsPlainEdit : NodeEdit → Type 0

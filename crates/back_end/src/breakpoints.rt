@@ -2,7 +2,7 @@
 ghost use Rattle.std.specs.Prelude.{◌≡◌, ◌++◌, OnOk};
 ghost use Rattle.cdp_messages.specs.Moves.{frames_of_moves};
 ghost use Rattle.back_end.specs.States.{State};
-ghost use Rattle.back_end.specs.Servers as server;
+ghost use Rattle.cdp_messages.specs.declared.command.Command.TheVariants as commands;
 ghost use Rattle.back_end.specs.Steps.{command_step};
 ghost use Rattle.back_end.specs.Steps as steps;
 ghost use Rattle.back_end.specs.Seats.{DeskStandsFor, HasNumbersLeft};
@@ -35,9 +35,10 @@ impl Desk {
         out: &mut Vec<u8>,
     ) -> Result<(), AllocError>
         ensures stands { (state : State) → DeskStandsFor self.old side.old state
-            → OnOk result (DeskStandsFor self.new side.new (command_step id (server.watches node kind) state).state) }
+            → OnOk result (DeskStandsFor self.new side.new (command_step id (commands.SetBreakpoint node kind) state).state) }
         ensures sent { (state : State) → DeskStandsFor self.old side.old state
-            → OnOk result (out.new.items ≡ out.old.items ++ frames_of_moves (command_step id (server.watches node kind) state).moves) }
+            → OnOk result (out.new.items ≡ out.old.items
+            ++ frames_of_moves (command_step id (commands.SetBreakpoint node kind) state).moves) }
     {
         // The clauses alone speak of the page.
         let _ = side;
@@ -61,9 +62,10 @@ impl Desk {
         out: &mut Vec<u8>,
     ) -> Result<(), AllocError>
         ensures stands { (state : State) → DeskStandsFor self.old side.old state
-            → OnOk result (DeskStandsFor self.new side.new (command_step id (server.unwatches node kind) state).state) }
+            → OnOk result (DeskStandsFor self.new side.new (command_step id (commands.RemoveBreakpoint node kind) state).state) }
         ensures sent { (state : State) → DeskStandsFor self.old side.old state
-            → OnOk result (out.new.items ≡ out.old.items ++ frames_of_moves (command_step id (server.unwatches node kind) state).moves) }
+            → OnOk result (out.new.items ≡ out.old.items
+            ++ frames_of_moves (command_step id (commands.RemoveBreakpoint node kind) state).moves) }
     {
         // The clauses alone speak of the page.
         let _ = side;

@@ -5,13 +5,12 @@ ghost use Rattle.cdp_messages.specs.DomAsks.{fits_ask};
 ghost use Rattle.cdp_messages.specs.Asked.{fits_command};
 ghost use Rattle.cdp_messages.specs.Moves.{frames_of_moves};
 ghost use Rattle.back_end.specs.States.{State};
-ghost use Rattle.back_end.specs.Servers.{by_agent, by_part, server_of, HasServedTexts};
-ghost use Rattle.back_end.specs.Servers as server;
-ghost use Rattle.back_end.specs.Steps.{ask_needs_on, command_step, frame_step, refusing, server_step};
+ghost use Rattle.back_end.specs.Texts.{HasServedTexts};
+ghost use Rattle.cdp_messages.specs.declared.command.Command.TheVariants as commands;
+ghost use Rattle.back_end.specs.Steps.{ask_needs_on, command_step, frame_step, refusing, served_step};
 ghost use Rattle.back_end.specs.Steps as steps;
 ghost use Rattle.back_end.specs.Seats.{BothStandFor, DeskStandsFor, HasNumbersLeft, edits_in};
 
-use crate::parts::SeatPart;
 use crate::side::PageSide;
 use cdp_messages::{
     Command, DomAsk, ReadErr, Refused, ReplyBody, Why, read_command, write_refused, write_reply,
@@ -105,7 +104,7 @@ impl Desk {
         }
     }
 
-    /// Answers a command; one that nothing serves has an unknown method.
+    /// Answers a command.
     fn answer(
         &mut self,
         history: &mut History,
@@ -115,58 +114,35 @@ impl Desk {
         out: &mut Vec<u8>,
     ) -> Result<(), AllocError>
         requires command { fits_command command ≡ true }
-        requires texts { HasServedTexts (server_of command) }
+        requires texts { HasServedTexts command }
         requires room { HasNumbersLeft self.old side.old }
         requires few { edits_in history.old < 2 ^ 30 }
         requires standing { ∥ ((state : State) × BothStandFor self.old history.old side.old state) ∥₁ }
         ensures stands { (state : State) → BothStandFor self.old history.old side.old state
-            → OnOk result (BothStandFor self.new history.new side.new (command_step id (server_of command) state).state) }
+            → OnOk result (BothStandFor self.new history.new side.new (command_step id command state).state) }
         ensures sent { (state : State) → BothStandFor self.old history.old side.old state
-            → OnOk result (out.new.items ≡ out.old.items ++ frames_of_moves (command_step id (server_of command) state).moves) }
+            → OnOk result (out.new.items ≡ out.old.items ++ frames_of_moves (command_step id command state).moves) }
     {
-        match SeatPart::of_command(command) {
-            SeatPart::Enables => self.enable(side, id, out),
-            SeatPart::Disables => self.disable(history, side, id, out),
-            SeatPart::CssEnables => self.enable_css(side, id, out),
-            SeatPart::CssDisables => self.disable_css(side, id, out),
-            SeatPart::Styles { ask } => self.answer_styles(side, id, &ask, out),
-            SeatPart::TreeEdits { edit } => self.answer_tree_edit(history, side, id, edit, out),
-            SeatPart::SheetEdits { edit } => self.answer_sheet_edit(history, side, id, &edit, out),
-            SeatPart::EndsGroup => self.end_group(history, side, id, out),
-            SeatPart::Undoes => self.undo(history, side, id, out),
-            SeatPart::Redoes => self.redo(history, side, id, out),
-            SeatPart::Watches { node, kind } => self.watch(side, id, node, kind, out),
-            SeatPart::Unwatches { node, kind } => self.unwatch(side, id, node, kind, out),
-            SeatPart::Loads { params } => self.answer_load(
-                history,
-                side,
-                id,
-                params.as_value(),
-                out,
-            ),
-            SeatPart::Acts { params } => self.answer_act(history, side, id, params.as_value(), out),
-            SeatPart::Others { ask } => self.answer_by_agent(side, id, ask, out),
-        }
-    }
-
-    /// Answers what the agent is asked, if it is asked something.
-    fn answer_by_agent(
-        &mut self,
-        side: &mut PageSide,
-        id: u64,
-        ask: Option<DomAsk>,
-        out: &mut Vec<u8>,
-    ) -> Result<(), AllocError>
-        requires ask { IfSome ask (λ a. fits_ask a ≡ true) }
-        requires room { HasNumbersLeft self.old side.old }
-        ensures stands { (state : State) → DeskStandsFor self.old side.old state
-            → OnOk result (DeskStandsFor self.new side.new (command_step id (by_agent ask) state).state) }
-        ensures sent { (state : State) → DeskStandsFor self.old side.old state
-            → OnOk result (out.new.items ≡ out.old.items ++ frames_of_moves (command_step id (by_agent ask) state).moves) }
-    {
-        match ask {
-            Some(ask) => self.ask_agent(side, id, &ask, out),
-            None => self.refuse(id, Why::NoMethod, out),
+        match command {
+            Command::DomEnable => self.enable(side, id, out),
+            Command::DomDisable => self.disable(history, side, id, out),
+            Command::AskDom(ask) => self.ask_agent(side, id, &ask, out),
+            Command::EditDom(edit) => self.answer_tree_edit(history, side, id, edit, out),
+            Command::MarkUndoableState => self.end_group(history, side, id, out),
+            Command::Undo => self.undo(history, side, id, out),
+            Command::Redo => self.redo(history, side, id, out),
+            Command::CssEnable => self.enable_css(side, id, out),
+            Command::CssDisable => self.disable_css(side, id, out),
+            Command::AskCss(ask) => self.answer_styles(side, id, &ask, out),
+            Command::EditCss(edit) => self.answer_sheet_edit(history, side, id, &edit, out),
+            Command::SetBreakpoint { node, kind } => self.watch(side, id, node, kind, out),
+            Command::RemoveBreakpoint { node, kind } => self.unwatch(side, id, node, kind, out),
+            Command::ReplayLoad { params } => {
+                self.answer_load(history, side, id, params.as_value(), out)
+            }
+            Command::ReplayAct { params } => {
+                self.answer_act(history, side, id, params.as_value(), out)
+            }
         }
     }
 
@@ -180,9 +156,9 @@ impl Desk {
     /// `DOM.enable`
     fn enable(&mut self, side: &mut PageSide, id: u64, out: &mut Vec<u8>) -> Result<(), AllocError>
         ensures stands { (state : State) → DeskStandsFor self.old side.old state
-            → OnOk result (DeskStandsFor self.new side.new (server_step id server.enables state).state) }
+            → OnOk result (DeskStandsFor self.new side.new (served_step id commands.DomEnable state).state) }
         ensures sent { (state : State)
-            → OnOk result (out.new.items ≡ out.old.items ++ frames_of_moves (server_step id server.enables state).moves) }
+            → OnOk result (out.new.items ≡ out.old.items ++ frames_of_moves (served_step id commands.DomEnable state).moves) }
     {
         // The clauses alone speak of the page.
         let _ = side;
@@ -200,9 +176,9 @@ impl Desk {
         out: &mut Vec<u8>,
     ) -> Result<(), AllocError>
         ensures stands { (state : State) → BothStandFor self.old history.old side.old state
-            → OnOk result (BothStandFor self.new history.new side.new (command_step id server.disables state).state) }
+            → OnOk result (BothStandFor self.new history.new side.new (command_step id commands.DomDisable state).state) }
         ensures sent { (state : State) → DeskStandsFor self.old side.old state
-            → OnOk result (out.new.items ≡ out.old.items ++ frames_of_moves (command_step id server.disables state).moves) }
+            → OnOk result (out.new.items ≡ out.old.items ++ frames_of_moves (command_step id commands.DomDisable state).moves) }
     {
         if !self.is_on {
             return self.refuse(id, Why::DomOff, out);
@@ -240,9 +216,9 @@ impl Desk {
         requires ask { fits_ask ask.now ≡ true }
         requires room { HasNumbersLeft self.old side.old }
         ensures stands { (state : State) → DeskStandsFor self.old side.old state
-            → OnOk result (DeskStandsFor self.new side.new (command_step id (server.agent ask.now) state).state) }
+            → OnOk result (DeskStandsFor self.new side.new (command_step id (commands.AskDom ask.now) state).state) }
         ensures sent { (state : State) → DeskStandsFor self.old side.old state
-            → OnOk result (out.new.items ≡ out.old.items ++ frames_of_moves (command_step id (server.agent ask.now) state).moves) }
+            → OnOk result (out.new.items ≡ out.old.items ++ frames_of_moves (command_step id (commands.AskDom ask.now) state).moves) }
     {
         if self.is_refused(ask) {
             return self.refuse(id, Why::DomOff, out);

@@ -3,11 +3,10 @@
 
 mod breakpoints;
 mod desk;
-mod dom_edits;
 mod faults;
 mod laws;
+mod node_edits;
 mod own;
-mod parts;
 mod pauses;
 mod pushes;
 mod script;

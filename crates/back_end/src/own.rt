@@ -7,7 +7,7 @@ ghost use Rattle.page_forms.specs.Pages.{loaded_page, CanLoadPage};
 ghost use Rattle.cdp_messages.specs.Answers.{Commands};
 ghost use Rattle.cdp_messages.specs.Moves.{frames_of_moves};
 ghost use Rattle.back_end.specs.OwnMethods.{act_why, edit_why, sheet_why, load_why, load_asked, act_read, Finds};
-ghost use Rattle.back_end.specs.Servers as server;
+ghost use Rattle.cdp_messages.specs.declared.command.Command.TheVariants as commands;
 ghost use Rattle.back_end.specs.States.{State};
 ghost use Rattle.back_end.specs.Steps.{command_step, judged_step};
 ghost use Rattle.back_end.specs.Texts.{PageHasTexts, ActHasTexts};
@@ -130,10 +130,11 @@ impl Desk {
         requires texts { HasUtf8 (view params.now) }
         requires room { HasNumbersLeft self.old side.old }
         ensures stands { (state : State) → BothStandFor self.old history.old side.old state
-            → OnOk result (BothStandFor self.new history.new side.new (command_step id (server.page_load (view params.now)) state).state) }
+            → OnOk result (BothStandFor self.new history.new side.new
+            (command_step id (commands.ReplayLoad (view params.now)) state).state) }
         ensures sent { (state : State) → DeskStandsFor self.old side.old state
             → OnOk result (out.new.items ≡ out.old.items
-            ++ frames_of_moves (command_step id (server.page_load (view params.now)) state).moves) }
+            ++ frames_of_moves (command_step id (commands.ReplayLoad (view params.now)) state).moves) }
     {
         match asked_page(self.alloc, params) {
             Ok(page) => {
@@ -158,10 +159,11 @@ impl Desk {
         requires texts { HasUtf8 (view params.now) }
         requires room { HasNumbersLeft self.old side.old }
         ensures stands { (state : State) → BothStandFor self.old history.old side.old state
-            → OnOk result (BothStandFor self.new history.new side.new (command_step id (server.page_act (view params.now)) state).state) }
+            → OnOk result (BothStandFor self.new history.new side.new
+            (command_step id (commands.ReplayAct (view params.now)) state).state) }
         ensures sent { (state : State) → DeskStandsFor self.old side.old state
             → OnOk result (out.new.items ≡ out.old.items
-            ++ frames_of_moves (command_step id (server.page_act (view params.now)) state).moves) }
+            ++ frames_of_moves (command_step id (commands.ReplayAct (view params.now)) state).moves) }
     {
         match asked_act(self.alloc, params) {
             Ok(act) => self.answer_changed(history, side, id, act, out),

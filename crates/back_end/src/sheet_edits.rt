@@ -5,15 +5,14 @@ ghost use Rattle.css_agent.specs.EditLaws.{HasEditTexts};
 ghost use Rattle.undo_marks.specs.Marks.{noted_singly};
 ghost use Rattle.undo_marks.specs.declared.inverse_lists.Inverse.TheVariants as kept;
 ghost use Rattle.back_end.specs.States.{State};
-ghost use Rattle.back_end.specs.Servers as server;
+ghost use Rattle.cdp_messages.specs.declared.command.Command.TheVariants as commands;
 ghost use Rattle.back_end.specs.Steps.{command_step};
 ghost use Rattle.back_end.specs.Seats.{BothStandFor, DeskStandsFor, HasNumbersLeft};
 
 use crate::desk::Desk;
 use crate::own::sheet_why;
 use crate::side::PageSide;
-use cdp_messages::Why;
-use css_agent::CssEdit;
+use cdp_messages::{CssEdit, Why};
 use std::alloc::AllocError;
 use style_edits::{SheetErr, Splice};
 use undo_marks::{History, Inverse};
@@ -41,9 +40,9 @@ impl Desk {
         requires texts { HasEditTexts edit.now }
         requires room { HasNumbersLeft self.old side.old }
         ensures stands { (state : State) → BothStandFor self.old history.old side.old state
-            → OnOk result (BothStandFor self.new history.new side.new (command_step id (server.edits_sheets edit.now) state).state) }
+            → OnOk result (BothStandFor self.new history.new side.new (command_step id (commands.EditCss edit.now) state).state) }
         ensures sent { (state : State) → DeskStandsFor self.old side.old state
-            → OnOk result (out.new.items ≡ out.old.items ++ frames_of_moves (command_step id (server.edits_sheets edit.now) state).moves) }
+            → OnOk result (out.new.items ≡ out.old.items ++ frames_of_moves (command_step id (commands.EditCss edit.now) state).moves) }
     {
         if !self.is_on {
             return self.refuse(id, Why::DomOff, out);

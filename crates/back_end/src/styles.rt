@@ -5,18 +5,17 @@ ghost use Rattle.node_tree.specs.Nodes.{alone};
 ghost use Rattle.node_tree.specs.Labels.{is_element};
 ghost use Rattle.page_tree.specs.Pages.{find_in};
 ghost use Rattle.cdp_messages.specs.Moves.{frames_of_moves};
-ghost use Rattle.css_agent.specs.declared.asks.CssAsk.TheVariants.{GetMatchedStyles};
+ghost use Rattle.cdp_messages.specs.declared.css_ask.CssAsk.TheVariants.{GetMatchedStyles};
 ghost use Rattle.dom_agent.specs.Keepers.{binding_keeper};
 ghost use Rattle.dom_agent.specs.Requests.{known_node};
 ghost use Rattle.back_end.specs.States.{State};
-ghost use Rattle.back_end.specs.Servers as server;
+ghost use Rattle.cdp_messages.specs.declared.command.Command.TheVariants as commands;
 ghost use Rattle.back_end.specs.Steps.{command_step, css_step, element_serial};
 ghost use Rattle.back_end.specs.Seats.{DeskStandsFor};
 
 use crate::desk::Desk;
 use crate::side::PageSide;
-use cdp_messages::{ReplyBody, Why, write_reply};
-use css_agent::CssAsk;
+use cdp_messages::{CssAsk, ReplyBody, Why, write_reply};
 use node_binding::find_in;
 use page_tree::{Kind, Page};
 use std::alloc::AllocError;
@@ -39,9 +38,9 @@ impl Desk {
         out: &mut Vec<u8>,
     ) -> Result<(), AllocError>
         ensures stands { (state : State) → DeskStandsFor self.old side.old state
-            → OnOk result (DeskStandsFor self.new side.new (command_step id server.css_enables state).state) }
+            → OnOk result (DeskStandsFor self.new side.new (command_step id commands.CssEnable state).state) }
         ensures sent { (state : State) → DeskStandsFor self.old side.old state
-            → OnOk result (out.new.items ≡ out.old.items ++ frames_of_moves (command_step id server.css_enables state).moves) }
+            → OnOk result (out.new.items ≡ out.old.items ++ frames_of_moves (command_step id commands.CssEnable state).moves) }
     {
         if !self.is_on {
             return self.refuse(id, Why::DomOff, out);
@@ -58,9 +57,9 @@ impl Desk {
         out: &mut Vec<u8>,
     ) -> Result<(), AllocError>
         ensures stands { (state : State) → DeskStandsFor self.old side.old state
-            → OnOk result (DeskStandsFor self.new side.new (command_step id server.css_disables state).state) }
+            → OnOk result (DeskStandsFor self.new side.new (command_step id commands.CssDisable state).state) }
         ensures sent { (state : State) → DeskStandsFor self.old side.old state
-            → OnOk result (out.new.items ≡ out.old.items ++ frames_of_moves (command_step id server.css_disables state).moves) }
+            → OnOk result (out.new.items ≡ out.old.items ++ frames_of_moves (command_step id commands.CssDisable state).moves) }
     {
         if !self.is_on {
             return self.refuse(id, Why::DomOff, out);
@@ -138,9 +137,9 @@ impl Desk {
         out: &mut Vec<u8>,
     ) -> Result<(), AllocError>
         ensures stands { (state : State) → DeskStandsFor self.old side.old state
-            → OnOk result (DeskStandsFor self.new side.new (command_step id (server.css_agent ask.now) state).state) }
+            → OnOk result (DeskStandsFor self.new side.new (command_step id (commands.AskCss ask.now) state).state) }
         ensures sent { (state : State) → DeskStandsFor self.old side.old state
-            → OnOk result (out.new.items ≡ out.old.items ++ frames_of_moves (command_step id (server.css_agent ask.now) state).moves) }
+            → OnOk result (out.new.items ≡ out.old.items ++ frames_of_moves (command_step id (commands.AskCss ask.now) state).moves) }
     {
         if !self.is_on {
             return self.refuse(id, Why::DomOff, out);

@@ -7,20 +7,20 @@ ghost use Rattle.undo_marks.specs.Marks.{noted, noted_singly};
 ghost use Rattle.undo_marks.specs.SavedEdits.{saved_of, page_after, way_back};
 ghost use Rattle.undo_marks.specs.declared.inverse_lists.Inverse.TheVariants as kept;
 ghost use Rattle.cdp_messages.specs.Moves.{frames_of_moves};
-ghost use Rattle.back_end.specs.declared.dom_edits.NodeEdit.TheVariants.{MoveNode, CopyNode};
+ghost use Rattle.back_end.specs.declared.node_edits.NodeEdit.TheVariants.{MoveNode, CopyNode};
 ghost use Rattle.back_end.specs.States.{State};
 ghost use Rattle.back_end.specs.Plans.{node_edit_fault, node_edit_plan, node_put};
-ghost use Rattle.back_end.specs.Servers as server;
+ghost use Rattle.cdp_messages.specs.declared.command.Command.TheVariants as commands;
 ghost use Rattle.back_end.specs.Texts.{EditHasTexts, HasTreeTexts, IsPlainEdit};
 ghost use Rattle.back_end.specs.Steps.{command_step, edit_step, idle, node_edit_step, plan_step, put_answer};
 ghost use Rattle.back_end.specs.Seats.{BothStandFor, CanPushAny, DeskStandsFor, HasNumbersLeft};
 
 use crate::desk::Desk;
-use crate::dom_edits::{DomEdit, NodeEdit};
+use crate::node_edits::{NodeEdit, lowered};
 use crate::own::edit_why;
 use crate::side::PageSide;
 use crate::trees::copied_tree;
-use cdp_messages::{ReplyBody, Why, write_reply};
+use cdp_messages::{DomEdit, ReplyBody, Why, write_reply};
 use page_tree::TreeEdit;
 use std::alloc::AllocError;
 use undo_marks::{History, Inverse};
@@ -223,15 +223,15 @@ impl Desk {
         requires texts { HasTreeTexts edit }
         requires room { HasNumbersLeft self.old side.old }
         ensures stands { (state : State) → BothStandFor self.old history.old side.old state
-            → OnOk result (BothStandFor self.new history.new side.new (command_step id (server.edits_tree edit) state).state) }
+            → OnOk result (BothStandFor self.new history.new side.new (command_step id (commands.EditDom edit) state).state) }
         ensures sent { (state : State) → DeskStandsFor self.old side.old state
-            → OnOk result (out.new.items ≡ out.old.items ++ frames_of_moves (command_step id (server.edits_tree edit) state).moves) }
+            → OnOk result (out.new.items ≡ out.old.items ++ frames_of_moves (command_step id (commands.EditDom edit) state).moves) }
     {
         if !self.is_on {
             return self.refuse(id, Why::DomOff, out);
         }
-        let edit = edit.lowered(self.alloc)?;
-        match edit.named(&self.agent) {
+        let edit = lowered(self.alloc, edit)?;
+        match NodeEdit::named(edit, &self.agent) {
             Ok(edit) => self.answer_node_edit(history, side, id, edit, out),
             Err(why) => self.refuse(id, why, out),
         }

@@ -5,7 +5,7 @@ ghost use Rattle.undo_marks.specs.Changes.{AllTaken, after_all, back_all};
 ghost use Rattle.undo_marks.specs.SavedEdits.{saved_of, saved_sheet, page_after, way_back, TakesSheet};
 ghost use Rattle.cdp_messages.specs.Moves.{frames_of_moves};
 ghost use Rattle.back_end.specs.States.{State, TakesWell};
-ghost use Rattle.back_end.specs.Servers as server;
+ghost use Rattle.cdp_messages.specs.declared.command.Command.TheVariants as commands;
 ghost use Rattle.back_end.specs.Steps.{command_step, kept_step, kept_steps, splice_step};
 ghost use Rattle.back_end.specs.Seats.{BothStandFor, DeskStandsFor, HasNumbersLeft, edits_in};
 
@@ -26,9 +26,9 @@ impl Desk {
         out: &mut Vec<u8>,
     ) -> Result<(), AllocError>
         ensures stands { (state : State) → BothStandFor self.old history.old side.old state
-            → OnOk result (BothStandFor self.new history.new side.new (command_step id server.ends_group state).state) }
+            → OnOk result (BothStandFor self.new history.new side.new (command_step id commands.MarkUndoableState state).state) }
         ensures sent { (state : State) → DeskStandsFor self.old side.old state
-            → OnOk result (out.new.items ≡ out.old.items ++ frames_of_moves (command_step id server.ends_group state).moves) }
+            → OnOk result (out.new.items ≡ out.old.items ++ frames_of_moves (command_step id commands.MarkUndoableState state).moves) }
     {
         // The clauses alone speak of the page.
         let _ = side;
@@ -142,9 +142,9 @@ impl Desk {
         requires few { edits_in history.old < 2 ^ 30 }
         requires standing { ∥ ((state : State) × BothStandFor self.old history.old side.old state) ∥₁ }
         ensures stands { (state : State) → BothStandFor self.old history.old side.old state
-            → OnOk result (BothStandFor self.new history.new side.new (command_step id server.undoes state).state) }
+            → OnOk result (BothStandFor self.new history.new side.new (command_step id commands.Undo state).state) }
         ensures sent { (state : State) → BothStandFor self.old history.old side.old state
-            → OnOk result (out.new.items ≡ out.old.items ++ frames_of_moves (command_step id server.undoes state).moves) }
+            → OnOk result (out.new.items ≡ out.old.items ++ frames_of_moves (command_step id commands.Undo state).moves) }
     {
         if !self.is_on {
             return self.refuse(id, Why::DomOff, out);
@@ -172,9 +172,9 @@ impl Desk {
         requires few { edits_in history.old < 2 ^ 30 }
         requires standing { ∥ ((state : State) × BothStandFor self.old history.old side.old state) ∥₁ }
         ensures stands { (state : State) → BothStandFor self.old history.old side.old state
-            → OnOk result (BothStandFor self.new history.new side.new (command_step id server.redoes state).state) }
+            → OnOk result (BothStandFor self.new history.new side.new (command_step id commands.Redo state).state) }
         ensures sent { (state : State) → BothStandFor self.old history.old side.old state
-            → OnOk result (out.new.items ≡ out.old.items ++ frames_of_moves (command_step id server.redoes state).moves) }
+            → OnOk result (out.new.items ≡ out.old.items ++ frames_of_moves (command_step id commands.Redo state).moves) }
     {
         if !self.is_on {
             return self.refuse(id, Why::DomOff, out);

@@ -7,7 +7,7 @@
 // and the numbers in the spelling that are written here.
 use crate::row_parts::{Answer, first_word};
 use cdp_messages::{
-    Asked, DomAsk, Down, DownErr, ReadErr, ReplyBody, Text, read_command, read_down, read_result,
+    Asked, Command, Down, DownErr, ReadErr, ReplyBody, Text, read_command, read_down, read_result,
     read_root, write_event, write_refused, write_reply,
 };
 use serde_json::Value;
@@ -41,7 +41,7 @@ fn read_up(alloc: Global, frame: &[u8], own: bool, answer: &mut Answer) -> Resul
 /// The id of a command, and what the DOM agent is asked by it.
 fn push_asked(asked: Asked, answer: &mut Answer) {
     answer.push_number(asked.id);
-    if let Some(ask) = DomAsk::of_command(asked.command) {
+    if let Command::AskDom(ask) = asked.command {
         answer.push(" ");
         answer.push_debug(&ask);
     }

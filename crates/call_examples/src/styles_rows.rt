@@ -7,8 +7,8 @@ ghost use Rattle.css_agent.specs.Asks.{NodeIsThere};
 
 use crate::match_rows::page_of;
 use crate::row_parts::{Answer, number_or_zero, text_or_empty, value_of};
-use cdp_messages::Text;
-use css_agent::{CssAgent, CssAsk};
+use cdp_messages::{CssAsk, Text};
+use css_agent::CssAgent;
 use page_tree::Page;
 use serde_json::Value;
 use sheet_reader::{Origin, SheetBook};

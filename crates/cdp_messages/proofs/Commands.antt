@@ -19,13 +19,13 @@ use Rattle.cdp_json.proofs.LookupLaws.{then_ok_some, same_ok, other_name, no_loo
 use Rattle.cdp_json.proofs.LookupLaws.{object_with_faithful}
 use Rattle.cdp_json.proofs.RowLaws.{ends_lawful, and_need_lawful, and_may_lawful, object_lawful}
 use Rattle.cdp_messages.specs.declared.command.Command.{Command}
-use Rattle.cdp_messages.specs.declared.command.Command.TheVariants.{DomEnable, DomDisable, GetDocument, RequestChildNodes, PushByPath}
-use Rattle.cdp_messages.specs.declared.command.Command.TheVariants.{PushBySerials, QuerySelector, QuerySelectorAll, GetAttributes}
-use Rattle.cdp_messages.specs.declared.command.Command.TheVariants.{DescribeNode, SetAttributeValue, RemoveAttribute, SetNodeValue}
-use Rattle.cdp_messages.specs.declared.command.Command.TheVariants.{RemoveNode, MoveTo, CopyTo, MarkUndoableState, Undo, Redo, CssEnable}
-use Rattle.cdp_messages.specs.declared.command.Command.TheVariants.{CssDisable, GetMatchedStyles, GetStyleSheetText, CollectClassNames}
-use Rattle.cdp_messages.specs.declared.command.Command.TheVariants.{SetStyleTexts, SetRuleSelector, SetStyleSheetText, AddRule}
-use Rattle.cdp_messages.specs.declared.command.Command.TheVariants.{SetBreakpoint, RemoveBreakpoint, ReplayLoad, ReplayAct}
+use Rattle.cdp_messages.specs.declared.command.Command.TheVariants.{DomEnable, DomDisable, CssEnable, CssDisable, AskDom, EditDom, AskCss}
+use Rattle.cdp_messages.specs.declared.command.Command.TheVariants.{EditCss, MarkUndoableState, Undo, Redo, SetBreakpoint, RemoveBreakpoint}
+use Rattle.cdp_messages.specs.declared.command.Command.TheVariants.{ReplayLoad, ReplayAct}
+use Rattle.cdp_messages.specs.declared.dom_ask.DomAsk.TheVariants as ask
+use Rattle.cdp_messages.specs.declared.dom_edit.DomEdit.TheVariants as tree
+use Rattle.cdp_messages.specs.declared.css_ask.CssAsk.TheVariants as css
+use Rattle.cdp_messages.specs.declared.css_edit.CssEdit.TheVariants as style
 use Rattle.cdp_messages.specs.declared.command.Asked.{Asked}
 use Rattle.cdp_messages.specs.declared.command.Refused.{Refused}
 use Rattle.cdp_messages.specs.declared.command.Param.{Param}
@@ -269,40 +269,55 @@ kept_again m makes is (array ds) f = absurd cc
 command_again : (c : Command) → fits_command c ≡ true → then_ok (params_of (Some (parameters c))) (command_by (method_of c)) ≡ Ok c
 command_again DomEnable f = refl
 command_again DomDisable f = refl
-command_again (GetDocument depth pierce) f = read_again depth_fields_faithful (λ x. GetDocument x.0 x.1.0) (depth, (pierce, tt)) f
-command_again (RequestChildNodes node depth pierce) f = read_again children_fields_faithful (λ x. RequestChildNodes x.0 x.1.0 x.1.1.0)
+command_again (AskDom (ask.GetDocument depth pierce)) f =
+    read_again depth_fields_faithful (λ x. AskDom (ask.GetDocument x.0 x.1.0)) (depth, (pierce, tt)) f
+command_again (AskDom (ask.RequestChildNodes node depth pierce)) f =
+    read_again children_fields_faithful (λ x. AskDom (ask.RequestChildNodes x.0 x.1.0 x.1.1.0))
     (node, (depth, (pierce, tt))) f
-command_again (PushByPath path) f = read_again path_field_faithful (λ x. PushByPath x.0) (path, tt) f
-command_again (PushBySerials serials) f = read_again serials_field_faithful (λ x. PushBySerials x.0) (serials, tt) f
-command_again (QuerySelector node selector) f = read_again query_fields_faithful (λ x. QuerySelector x.0 x.1.0) (node, (selector, tt)) f
-command_again (QuerySelectorAll node selector) f = read_again query_fields_faithful (λ x. QuerySelectorAll x.0 x.1.0)
+command_again (AskDom (ask.PushByPath path)) f = read_again path_field_faithful (λ x. AskDom (ask.PushByPath x.0)) (path, tt) f
+command_again (AskDom (ask.PushBySerials serials)) f =
+    read_again serials_field_faithful (λ x. AskDom (ask.PushBySerials x.0)) (serials, tt) f
+command_again (AskDom (ask.QuerySelector node selector)) f =
+    read_again query_fields_faithful (λ x. AskDom (ask.QuerySelector x.0 x.1.0)) (node, (selector, tt)) f
+command_again (AskDom (ask.QuerySelectorAll node selector)) f =
+    read_again query_fields_faithful (λ x. AskDom (ask.QuerySelectorAll x.0 x.1.0))
     (node, (selector, tt)) f
-command_again (GetAttributes node) f = read_again node_field_faithful (λ x. GetAttributes x.0) (node, tt) f
-command_again (DescribeNode id serial depth pierce) f = read_again describe_fields_faithful (λ x. DescribeNode x.0 x.1.0 x.1.1.0 x.1.1.1.0)
+command_again (AskDom (ask.GetAttributes node)) f = read_again node_field_faithful (λ x. AskDom (ask.GetAttributes x.0)) (node, tt) f
+command_again (AskDom (ask.DescribeNode id serial depth pierce)) f =
+    read_again describe_fields_faithful (λ x. AskDom (ask.DescribeNode x.0 x.1.0 x.1.1.0 x.1.1.1.0))
     (id, (serial, (depth, (pierce, tt)))) f
-command_again (SetAttributeValue node name value) f = read_again attribute_fields_faithful (λ x. SetAttributeValue x.0 x.1.0 x.1.1.0)
+command_again (EditDom (tree.SetAttributeValue node name value)) f =
+    read_again attribute_fields_faithful (λ x. EditDom (tree.SetAttributeValue x.0 x.1.0 x.1.1.0))
     (node, (name, (value, tt))) f
-command_again (RemoveAttribute node name) f = read_again name_fields_faithful (λ x. RemoveAttribute x.0 x.1.0) (node, (name, tt)) f
-command_again (SetNodeValue node value) f = read_again value_fields_faithful (λ x. SetNodeValue x.0 x.1.0) (node, (value, tt)) f
-command_again (RemoveNode node) f = read_again node_field_faithful (λ x. RemoveNode x.0) (node, tt) f
-command_again (MoveTo node target before) f = read_again move_fields_faithful (λ x. MoveTo x.0 x.1.0 x.1.1.0)
+command_again (EditDom (tree.RemoveAttribute node name)) f =
+    read_again name_fields_faithful (λ x. EditDom (tree.RemoveAttribute x.0 x.1.0)) (node, (name, tt)) f
+command_again (EditDom (tree.SetNodeValue node value)) f =
+    read_again value_fields_faithful (λ x. EditDom (tree.SetNodeValue x.0 x.1.0)) (node, (value, tt)) f
+command_again (EditDom (tree.RemoveNode node)) f = read_again node_field_faithful (λ x. EditDom (tree.RemoveNode x.0)) (node, tt) f
+command_again (EditDom (tree.MoveTo node target before)) f = read_again move_fields_faithful (λ x. EditDom (tree.MoveTo x.0 x.1.0 x.1.1.0))
     (node, (target, (before, tt))) f
-command_again (CopyTo node target before) f = read_again move_fields_faithful (λ x. CopyTo x.0 x.1.0 x.1.1.0)
+command_again (EditDom (tree.CopyTo node target before)) f = read_again move_fields_faithful (λ x. EditDom (tree.CopyTo x.0 x.1.0 x.1.1.0))
     (node, (target, (before, tt))) f
 command_again MarkUndoableState f = refl
 command_again Undo f = refl
 command_again Redo f = refl
 command_again CssEnable f = refl
 command_again CssDisable f = refl
-command_again (GetMatchedStyles node) f = read_again node_field_faithful (λ x. GetMatchedStyles x.0) (node, tt) f
-command_again (GetStyleSheetText sheet) f = read_again sheet_field_faithful (λ x. GetStyleSheetText x.0) (sheet, tt) f
-command_again (CollectClassNames sheet) f = read_again sheet_field_faithful (λ x. CollectClassNames x.0) (sheet, tt) f
-command_again (SetStyleTexts edits) f = read_again edits_field_faithful (λ x. SetStyleTexts x.0) (edits, tt) f
-command_again (SetRuleSelector sheet range selector) f = read_again selector_fields_faithful (λ x. SetRuleSelector x.0 x.1.0 x.1.1.0)
+command_again (AskCss (css.GetMatchedStyles node)) f = read_again node_field_faithful (λ x. AskCss (css.GetMatchedStyles x.0)) (node, tt) f
+command_again (AskCss (css.GetStyleSheetText sheet)) f =
+    read_again sheet_field_faithful (λ x. AskCss (css.GetStyleSheetText x.0)) (sheet, tt) f
+command_again (AskCss (css.CollectClassNames sheet)) f =
+    read_again sheet_field_faithful (λ x. AskCss (css.CollectClassNames x.0)) (sheet, tt) f
+command_again (EditCss (style.SetStyleTexts edits)) f =
+    read_again edits_field_faithful (λ x. EditCss (style.SetStyleTexts x.0)) (edits, tt) f
+command_again (EditCss (style.SetRuleSelector sheet range selector)) f =
+    read_again selector_fields_faithful (λ x. EditCss (style.SetRuleSelector x.0 x.1.0 x.1.1.0))
     (sheet, (range, (selector, tt))) f
-command_again (SetStyleSheetText sheet text) f = read_again sheet_text_fields_faithful (λ x. SetStyleSheetText x.0 x.1.0)
+command_again (EditCss (style.SetStyleSheetText sheet text)) f =
+    read_again sheet_text_fields_faithful (λ x. EditCss (style.SetStyleSheetText x.0 x.1.0))
     (sheet, (text, tt)) f
-command_again (AddRule sheet rule_text location) f = read_again rule_fields_faithful (λ x. AddRule x.0 x.1.0 x.1.1.0)
+command_again (EditCss (style.AddRule sheet rule_text location)) f =
+    read_again rule_fields_faithful (λ x. EditCss (style.AddRule x.0 x.1.0 x.1.1.0))
     (sheet, (rule_text, (location, tt))) f
 command_again (SetBreakpoint node kind) f = read_again watch_fields_faithful (λ x. SetBreakpoint x.0 x.1.0) (node, (kind, tt)) f
 command_again (RemoveBreakpoint node kind) f = read_again watch_fields_faithful (λ x. RemoveBreakpoint x.0 x.1.0) (node, (kind, tt)) f
@@ -370,45 +385,58 @@ made m k c is e = subst (IsOf m) (same_ok k c e) is
 command_fits : (m : Method) (ms : Members) (c : Command) → command_by m ms ≡ Ok c → IsOf m c
 command_fits method.DomEnable ms c e = made method.DomEnable DomEnable c (record { method_is = refl; fits = refl }) e
 command_fits method.DomDisable ms c e = made method.DomDisable DomDisable c (record { method_is = refl; fits = refl }) e
-command_fits method.GetDocument ms c e = read_fits depth_fields_faithful method.GetDocument (λ x. GetDocument x.0 x.1.0) (λ x. refl) ms c e
+command_fits method.GetDocument ms c e =
+    read_fits depth_fields_faithful method.GetDocument (λ x. AskDom (ask.GetDocument x.0 x.1.0)) (λ x. refl) ms c e
 command_fits method.RequestChildNodes ms c e = read_fits children_fields_faithful method.RequestChildNodes
-    (λ x. RequestChildNodes x.0 x.1.0 x.1.1.0) (λ x. refl) ms c e
-command_fits method.PushByPath ms c e = read_fits path_field_faithful method.PushByPath (λ x. PushByPath x.0) (λ x. refl) ms c e
-command_fits method.PushBySerials ms c e = read_fits serials_field_faithful method.PushBySerials (λ x. PushBySerials x.0) (λ x. refl) ms c e
-command_fits method.QuerySelector ms c e = read_fits query_fields_faithful method.QuerySelector (λ x. QuerySelector x.0 x.1.0)
+    (λ x. AskDom (ask.RequestChildNodes x.0 x.1.0 x.1.1.0)) (λ x. refl) ms c e
+command_fits method.PushByPath ms c e =
+    read_fits path_field_faithful method.PushByPath (λ x. AskDom (ask.PushByPath x.0)) (λ x. refl) ms c e
+command_fits method.PushBySerials ms c e =
+    read_fits serials_field_faithful method.PushBySerials (λ x. AskDom (ask.PushBySerials x.0)) (λ x. refl) ms c e
+command_fits method.QuerySelector ms c e = read_fits query_fields_faithful method.QuerySelector (λ x. AskDom (ask.QuerySelector x.0 x.1.0))
     (λ x. refl) ms c e
-command_fits method.QuerySelectorAll ms c e = read_fits query_fields_faithful method.QuerySelectorAll (λ x. QuerySelectorAll x.0 x.1.0)
+command_fits method.QuerySelectorAll ms c e =
+    read_fits query_fields_faithful method.QuerySelectorAll (λ x. AskDom (ask.QuerySelectorAll x.0 x.1.0))
     (λ x. refl) ms c e
-command_fits method.GetAttributes ms c e = read_fits node_field_faithful method.GetAttributes (λ x. GetAttributes x.0) (λ x. refl) ms c e
+command_fits method.GetAttributes ms c e =
+    read_fits node_field_faithful method.GetAttributes (λ x. AskDom (ask.GetAttributes x.0)) (λ x. refl) ms c e
 command_fits method.DescribeNode ms c e = read_fits describe_fields_faithful method.DescribeNode
-    (λ x. DescribeNode x.0 x.1.0 x.1.1.0 x.1.1.1.0) (λ x. refl) ms c e
+    (λ x. AskDom (ask.DescribeNode x.0 x.1.0 x.1.1.0 x.1.1.1.0)) (λ x. refl) ms c e
 command_fits method.SetAttributeValue ms c e = read_fits attribute_fields_faithful method.SetAttributeValue
-    (λ x. SetAttributeValue x.0 x.1.0 x.1.1.0) (λ x. refl) ms c e
-command_fits method.RemoveAttribute ms c e = read_fits name_fields_faithful method.RemoveAttribute (λ x. RemoveAttribute x.0 x.1.0)
+    (λ x. EditDom (tree.SetAttributeValue x.0 x.1.0 x.1.1.0)) (λ x. refl) ms c e
+command_fits method.RemoveAttribute ms c e =
+    read_fits name_fields_faithful method.RemoveAttribute (λ x. EditDom (tree.RemoveAttribute x.0 x.1.0))
     (λ x. refl) ms c e
-command_fits method.SetNodeValue ms c e = read_fits value_fields_faithful method.SetNodeValue (λ x. SetNodeValue x.0 x.1.0)
+command_fits method.SetNodeValue ms c e = read_fits value_fields_faithful method.SetNodeValue (λ x. EditDom (tree.SetNodeValue x.0 x.1.0))
     (λ x. refl) ms c e
-command_fits method.RemoveNode ms c e = read_fits node_field_faithful method.RemoveNode (λ x. RemoveNode x.0) (λ x. refl) ms c e
-command_fits method.MoveTo ms c e = read_fits move_fields_faithful method.MoveTo (λ x. MoveTo x.0 x.1.0 x.1.1.0) (λ x. refl) ms c e
-command_fits method.CopyTo ms c e = read_fits move_fields_faithful method.CopyTo (λ x. CopyTo x.0 x.1.0 x.1.1.0) (λ x. refl) ms c e
+command_fits method.RemoveNode ms c e =
+    read_fits node_field_faithful method.RemoveNode (λ x. EditDom (tree.RemoveNode x.0)) (λ x. refl) ms c e
+command_fits method.MoveTo ms c e =
+    read_fits move_fields_faithful method.MoveTo (λ x. EditDom (tree.MoveTo x.0 x.1.0 x.1.1.0)) (λ x. refl) ms c e
+command_fits method.CopyTo ms c e =
+    read_fits move_fields_faithful method.CopyTo (λ x. EditDom (tree.CopyTo x.0 x.1.0 x.1.1.0)) (λ x. refl) ms c e
 command_fits method.MarkUndoableState ms c e = made method.MarkUndoableState MarkUndoableState c
     (record { method_is = refl; fits = refl }) e
 command_fits method.Undo ms c e = made method.Undo Undo c (record { method_is = refl; fits = refl }) e
 command_fits method.Redo ms c e = made method.Redo Redo c (record { method_is = refl; fits = refl }) e
 command_fits method.CssEnable ms c e = made method.CssEnable CssEnable c (record { method_is = refl; fits = refl }) e
 command_fits method.CssDisable ms c e = made method.CssDisable CssDisable c (record { method_is = refl; fits = refl }) e
-command_fits method.GetMatchedStyles ms c e = read_fits node_field_faithful method.GetMatchedStyles (λ x. GetMatchedStyles x.0)
+command_fits method.GetMatchedStyles ms c e = read_fits node_field_faithful method.GetMatchedStyles (λ x. AskCss (css.GetMatchedStyles x.0))
     (λ x. refl) ms c e
-command_fits method.GetStyleSheetText ms c e = read_fits sheet_field_faithful method.GetStyleSheetText (λ x. GetStyleSheetText x.0)
+command_fits method.GetStyleSheetText ms c e =
+    read_fits sheet_field_faithful method.GetStyleSheetText (λ x. AskCss (css.GetStyleSheetText x.0))
     (λ x. refl) ms c e
-command_fits method.CollectClassNames ms c e = read_fits sheet_field_faithful method.CollectClassNames (λ x. CollectClassNames x.0)
+command_fits method.CollectClassNames ms c e =
+    read_fits sheet_field_faithful method.CollectClassNames (λ x. AskCss (css.CollectClassNames x.0))
     (λ x. refl) ms c e
-command_fits method.SetStyleTexts ms c e = read_fits edits_field_faithful method.SetStyleTexts (λ x. SetStyleTexts x.0) (λ x. refl) ms c e
+command_fits method.SetStyleTexts ms c e =
+    read_fits edits_field_faithful method.SetStyleTexts (λ x. EditCss (style.SetStyleTexts x.0)) (λ x. refl) ms c e
 command_fits method.SetRuleSelector ms c e = read_fits selector_fields_faithful method.SetRuleSelector
-    (λ x. SetRuleSelector x.0 x.1.0 x.1.1.0) (λ x. refl) ms c e
+    (λ x. EditCss (style.SetRuleSelector x.0 x.1.0 x.1.1.0)) (λ x. refl) ms c e
 command_fits method.SetStyleSheetText ms c e = read_fits sheet_text_fields_faithful method.SetStyleSheetText
-    (λ x. SetStyleSheetText x.0 x.1.0) (λ x. refl) ms c e
-command_fits method.AddRule ms c e = read_fits rule_fields_faithful method.AddRule (λ x. AddRule x.0 x.1.0 x.1.1.0) (λ x. refl) ms c e
+    (λ x. EditCss (style.SetStyleSheetText x.0 x.1.0)) (λ x. refl) ms c e
+command_fits method.AddRule ms c e =
+    read_fits rule_fields_faithful method.AddRule (λ x. EditCss (style.AddRule x.0 x.1.0 x.1.1.0)) (λ x. refl) ms c e
 command_fits method.SetBreakpoint ms c e = read_fits watch_fields_faithful method.SetBreakpoint (λ x. SetBreakpoint x.0 x.1.0)
     (λ x. refl) ms c e
 command_fits method.RemoveBreakpoint ms c e = read_fits watch_fields_faithful method.RemoveBreakpoint (λ x. RemoveBreakpoint x.0 x.1.0)
@@ -520,32 +548,37 @@ asks_are_asked own id method params session c p s shallow utf8 =
 pub parameters_are_plain : ParametersArePlain
 parameters_are_plain DomEnable f other = refl
 parameters_are_plain DomDisable f other = refl
-parameters_are_plain (GetDocument depth pierce) f other = depth_fields_faithful.plain (depth, (pierce, tt)) f
-parameters_are_plain (RequestChildNodes node depth pierce) f other = children_fields_faithful.plain (node, (depth, (pierce, tt))) f
-parameters_are_plain (PushByPath path) f other = path_field_faithful.plain (path, tt) f
-parameters_are_plain (PushBySerials serials) f other = serials_field_faithful.plain (serials, tt) f
-parameters_are_plain (QuerySelector node selector) f other = query_fields_faithful.plain (node, (selector, tt)) f
-parameters_are_plain (QuerySelectorAll node selector) f other = query_fields_faithful.plain (node, (selector, tt)) f
-parameters_are_plain (GetAttributes node) f other = node_field_faithful.plain (node, tt) f
-parameters_are_plain (DescribeNode id serial depth pierce) f other = describe_fields_faithful.plain (id, (serial, (depth, (pierce, tt)))) f
-parameters_are_plain (SetAttributeValue node name value) f other = attribute_fields_faithful.plain (node, (name, (value, tt))) f
-parameters_are_plain (RemoveAttribute node name) f other = name_fields_faithful.plain (node, (name, tt)) f
-parameters_are_plain (SetNodeValue node value) f other = value_fields_faithful.plain (node, (value, tt)) f
-parameters_are_plain (RemoveNode node) f other = node_field_faithful.plain (node, tt) f
-parameters_are_plain (MoveTo node target before) f other = move_fields_faithful.plain (node, (target, (before, tt))) f
-parameters_are_plain (CopyTo node target before) f other = move_fields_faithful.plain (node, (target, (before, tt))) f
+parameters_are_plain (AskDom (ask.GetDocument depth pierce)) f other = depth_fields_faithful.plain (depth, (pierce, tt)) f
+parameters_are_plain (AskDom (ask.RequestChildNodes node depth pierce)) f other =
+    children_fields_faithful.plain (node, (depth, (pierce, tt))) f
+parameters_are_plain (AskDom (ask.PushByPath path)) f other = path_field_faithful.plain (path, tt) f
+parameters_are_plain (AskDom (ask.PushBySerials serials)) f other = serials_field_faithful.plain (serials, tt) f
+parameters_are_plain (AskDom (ask.QuerySelector node selector)) f other = query_fields_faithful.plain (node, (selector, tt)) f
+parameters_are_plain (AskDom (ask.QuerySelectorAll node selector)) f other = query_fields_faithful.plain (node, (selector, tt)) f
+parameters_are_plain (AskDom (ask.GetAttributes node)) f other = node_field_faithful.plain (node, tt) f
+parameters_are_plain (AskDom (ask.DescribeNode id serial depth pierce)) f other =
+    describe_fields_faithful.plain (id, (serial, (depth, (pierce, tt)))) f
+parameters_are_plain (EditDom (tree.SetAttributeValue node name value)) f other =
+    attribute_fields_faithful.plain (node, (name, (value, tt))) f
+parameters_are_plain (EditDom (tree.RemoveAttribute node name)) f other = name_fields_faithful.plain (node, (name, tt)) f
+parameters_are_plain (EditDom (tree.SetNodeValue node value)) f other = value_fields_faithful.plain (node, (value, tt)) f
+parameters_are_plain (EditDom (tree.RemoveNode node)) f other = node_field_faithful.plain (node, tt) f
+parameters_are_plain (EditDom (tree.MoveTo node target before)) f other = move_fields_faithful.plain (node, (target, (before, tt))) f
+parameters_are_plain (EditDom (tree.CopyTo node target before)) f other = move_fields_faithful.plain (node, (target, (before, tt))) f
 parameters_are_plain MarkUndoableState f other = refl
 parameters_are_plain Undo f other = refl
 parameters_are_plain Redo f other = refl
 parameters_are_plain CssEnable f other = refl
 parameters_are_plain CssDisable f other = refl
-parameters_are_plain (GetMatchedStyles node) f other = node_field_faithful.plain (node, tt) f
-parameters_are_plain (GetStyleSheetText sheet) f other = sheet_field_faithful.plain (sheet, tt) f
-parameters_are_plain (CollectClassNames sheet) f other = sheet_field_faithful.plain (sheet, tt) f
-parameters_are_plain (SetStyleTexts edits) f other = edits_field_faithful.plain (edits, tt) f
-parameters_are_plain (SetRuleSelector sheet range selector) f other = selector_fields_faithful.plain (sheet, (range, (selector, tt))) f
-parameters_are_plain (SetStyleSheetText sheet text) f other = sheet_text_fields_faithful.plain (sheet, (text, tt)) f
-parameters_are_plain (AddRule sheet rule_text location) f other = rule_fields_faithful.plain (sheet, (rule_text, (location, tt))) f
+parameters_are_plain (AskCss (css.GetMatchedStyles node)) f other = node_field_faithful.plain (node, tt) f
+parameters_are_plain (AskCss (css.GetStyleSheetText sheet)) f other = sheet_field_faithful.plain (sheet, tt) f
+parameters_are_plain (AskCss (css.CollectClassNames sheet)) f other = sheet_field_faithful.plain (sheet, tt) f
+parameters_are_plain (EditCss (style.SetStyleTexts edits)) f other = edits_field_faithful.plain (edits, tt) f
+parameters_are_plain (EditCss (style.SetRuleSelector sheet range selector)) f other =
+    selector_fields_faithful.plain (sheet, (range, (selector, tt))) f
+parameters_are_plain (EditCss (style.SetStyleSheetText sheet text)) f other = sheet_text_fields_faithful.plain (sheet, (text, tt)) f
+parameters_are_plain (EditCss (style.AddRule sheet rule_text location)) f other =
+    rule_fields_faithful.plain (sheet, (rule_text, (location, tt))) f
 parameters_are_plain (SetBreakpoint node kind) f other = watch_fields_faithful.plain (node, (kind, tt)) f
 parameters_are_plain (RemoveBreakpoint node kind) f other = watch_fields_faithful.plain (node, (kind, tt)) f
 parameters_are_plain (ReplayLoad params) f other = absurd cc

@@ -1,7 +1,6 @@
 mod AttributeLists
 pub mod Commands
 pub mod Depths
-pub mod DomAskLaws
 mod Floats
 mod FrameBytes
 mod FieldsRead

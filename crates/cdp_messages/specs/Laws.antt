@@ -18,8 +18,6 @@ use Rattle.cdp_messages.specs.declared.command.Command.{Command}
 use Rattle.cdp_messages.specs.declared.command.Asked.{Asked}
 use Rattle.cdp_messages.specs.declared.command.Refused.{Refused}
 use Rattle.cdp_messages.specs.Methods.{is_own}
-use Rattle.cdp_messages.specs.declared.dom_ask.DomAsk.{DomAsk}
-use Rattle.cdp_messages.specs.DomAsks.{as_command, dom_ask_in}
 use Rattle.cdp_messages.specs.declared.down.ReplyBody.{ReplyBody}
 use Rattle.cdp_messages.specs.declared.down.ReplyBody.TheVariants.{Nothing, Root, Node, NodeId, NodeIds, Attributes, ClassNames, SheetText}
 use Rattle.cdp_messages.specs.declared.down.ReplyBody.TheVariants.{Styles, Selectors, Rule, Matched}
@@ -70,10 +68,6 @@ CommandsAreNamed = (own : Bool) (method : List ℕ) (params session : Option Dat
 -- what any bytes ask has an id below 2^53, and its parameters in their ranges
 abbrev pub AsksFit : Type 0
 AsksFit = (own : Bool) (bytes : List ℕ) (a : Asked) → asked bytes own ≡ Ok a → (is_counted a.id ≡ true) × (fits_command a.command ≡ true)
-
--- what the agent is asked is the command that it was, for each that it serves
-abbrev pub DomAsksAreCommands : Type 0
-DomAsksAreCommands = (c : Command) (a : DomAsk) → dom_ask_in c ≡ Some a → c ≡ as_command a
 
 -- no text of plain JSON has a zero byte
 abbrev pub TextsHaveNoZero : Type 0

@@ -6,13 +6,17 @@ use Rattle.cdp_json.specs.Kinds.{Kind, whole, text, flag, through, list_of, as_d
 use Rattle.cdp_json.specs.Fields.{field_of}
 use Rattle.cdp_json.specs.Lookups.{then_ok, optional, Lookups, no_lookups, look_for, may_look_for, object_with}
 use Rattle.cdp_messages.specs.declared.command.Command.{Command}
-use Rattle.cdp_messages.specs.declared.command.Command.TheVariants.{DomEnable, DomDisable, GetDocument, RequestChildNodes, PushByPath}
-use Rattle.cdp_messages.specs.declared.command.Command.TheVariants.{PushBySerials, QuerySelector, QuerySelectorAll, GetAttributes}
-use Rattle.cdp_messages.specs.declared.command.Command.TheVariants.{DescribeNode, SetAttributeValue, RemoveAttribute, SetNodeValue}
-use Rattle.cdp_messages.specs.declared.command.Command.TheVariants.{RemoveNode, MoveTo, CopyTo, MarkUndoableState, Undo, Redo, CssEnable}
-use Rattle.cdp_messages.specs.declared.command.Command.TheVariants.{CssDisable, GetMatchedStyles, GetStyleSheetText, CollectClassNames}
-use Rattle.cdp_messages.specs.declared.command.Command.TheVariants.{SetStyleTexts, SetRuleSelector, SetStyleSheetText, AddRule}
-use Rattle.cdp_messages.specs.declared.command.Command.TheVariants.{SetBreakpoint, RemoveBreakpoint, ReplayLoad, ReplayAct}
+use Rattle.cdp_messages.specs.declared.command.Command.TheVariants.{DomEnable, DomDisable, CssEnable, CssDisable, AskDom, EditDom, AskCss}
+use Rattle.cdp_messages.specs.declared.command.Command.TheVariants.{EditCss, MarkUndoableState, Undo, Redo, SetBreakpoint, RemoveBreakpoint}
+use Rattle.cdp_messages.specs.declared.command.Command.TheVariants.{ReplayLoad, ReplayAct}
+use Rattle.cdp_messages.specs.declared.dom_ask.DomAsk.{DomAsk}
+use Rattle.cdp_messages.specs.declared.dom_ask.DomAsk.TheVariants as ask
+use Rattle.cdp_messages.specs.declared.dom_edit.DomEdit.{DomEdit}
+use Rattle.cdp_messages.specs.declared.dom_edit.DomEdit.TheVariants as tree
+use Rattle.cdp_messages.specs.declared.css_ask.CssAsk.{CssAsk}
+use Rattle.cdp_messages.specs.declared.css_ask.CssAsk.TheVariants as css
+use Rattle.cdp_messages.specs.declared.css_edit.CssEdit.{CssEdit}
+use Rattle.cdp_messages.specs.declared.css_edit.CssEdit.TheVariants as style
 use Rattle.cdp_messages.specs.declared.command.Param.{Param}
 use Rattle.cdp_messages.specs.declared.command.Param.TheVariants as param
 use Rattle.cdp_messages.specs.declared.command.Why.{Why}
@@ -175,32 +179,32 @@ reads_with fields makes ms = then_ok (fields.gets ms) (λ x. Ok (makes x))
 abbrev pub command_by : Method → Members → Result Command Why
 command_by method.DomEnable ms = Ok DomEnable
 command_by method.DomDisable ms = Ok DomDisable
-command_by method.GetDocument ms = reads_with depth_fields (λ x. GetDocument x.0 x.1.0) ms
-command_by method.RequestChildNodes ms = reads_with children_fields (λ x. RequestChildNodes x.0 x.1.0 x.1.1.0) ms
-command_by method.PushByPath ms = reads_with path_field (λ x. PushByPath x.0) ms
-command_by method.PushBySerials ms = reads_with serials_field (λ x. PushBySerials x.0) ms
-command_by method.QuerySelector ms = reads_with query_fields (λ x. QuerySelector x.0 x.1.0) ms
-command_by method.QuerySelectorAll ms = reads_with query_fields (λ x. QuerySelectorAll x.0 x.1.0) ms
-command_by method.GetAttributes ms = reads_with node_field (λ x. GetAttributes x.0) ms
-command_by method.DescribeNode ms = reads_with describe_fields (λ x. DescribeNode x.0 x.1.0 x.1.1.0 x.1.1.1.0) ms
-command_by method.SetAttributeValue ms = reads_with attribute_fields (λ x. SetAttributeValue x.0 x.1.0 x.1.1.0) ms
-command_by method.RemoveAttribute ms = reads_with name_fields (λ x. RemoveAttribute x.0 x.1.0) ms
-command_by method.SetNodeValue ms = reads_with value_fields (λ x. SetNodeValue x.0 x.1.0) ms
-command_by method.RemoveNode ms = reads_with node_field (λ x. RemoveNode x.0) ms
-command_by method.MoveTo ms = reads_with move_fields (λ x. MoveTo x.0 x.1.0 x.1.1.0) ms
-command_by method.CopyTo ms = reads_with move_fields (λ x. CopyTo x.0 x.1.0 x.1.1.0) ms
+command_by method.GetDocument ms = reads_with depth_fields (λ x. AskDom (ask.GetDocument x.0 x.1.0)) ms
+command_by method.RequestChildNodes ms = reads_with children_fields (λ x. AskDom (ask.RequestChildNodes x.0 x.1.0 x.1.1.0)) ms
+command_by method.PushByPath ms = reads_with path_field (λ x. AskDom (ask.PushByPath x.0)) ms
+command_by method.PushBySerials ms = reads_with serials_field (λ x. AskDom (ask.PushBySerials x.0)) ms
+command_by method.QuerySelector ms = reads_with query_fields (λ x. AskDom (ask.QuerySelector x.0 x.1.0)) ms
+command_by method.QuerySelectorAll ms = reads_with query_fields (λ x. AskDom (ask.QuerySelectorAll x.0 x.1.0)) ms
+command_by method.GetAttributes ms = reads_with node_field (λ x. AskDom (ask.GetAttributes x.0)) ms
+command_by method.DescribeNode ms = reads_with describe_fields (λ x. AskDom (ask.DescribeNode x.0 x.1.0 x.1.1.0 x.1.1.1.0)) ms
+command_by method.SetAttributeValue ms = reads_with attribute_fields (λ x. EditDom (tree.SetAttributeValue x.0 x.1.0 x.1.1.0)) ms
+command_by method.RemoveAttribute ms = reads_with name_fields (λ x. EditDom (tree.RemoveAttribute x.0 x.1.0)) ms
+command_by method.SetNodeValue ms = reads_with value_fields (λ x. EditDom (tree.SetNodeValue x.0 x.1.0)) ms
+command_by method.RemoveNode ms = reads_with node_field (λ x. EditDom (tree.RemoveNode x.0)) ms
+command_by method.MoveTo ms = reads_with move_fields (λ x. EditDom (tree.MoveTo x.0 x.1.0 x.1.1.0)) ms
+command_by method.CopyTo ms = reads_with move_fields (λ x. EditDom (tree.CopyTo x.0 x.1.0 x.1.1.0)) ms
 command_by method.MarkUndoableState ms = Ok MarkUndoableState
 command_by method.Undo ms = Ok Undo
 command_by method.Redo ms = Ok Redo
 command_by method.CssEnable ms = Ok CssEnable
 command_by method.CssDisable ms = Ok CssDisable
-command_by method.GetMatchedStyles ms = reads_with node_field (λ x. GetMatchedStyles x.0) ms
-command_by method.GetStyleSheetText ms = reads_with sheet_field (λ x. GetStyleSheetText x.0) ms
-command_by method.CollectClassNames ms = reads_with sheet_field (λ x. CollectClassNames x.0) ms
-command_by method.SetStyleTexts ms = reads_with edits_field (λ x. SetStyleTexts x.0) ms
-command_by method.SetRuleSelector ms = reads_with set_selector_fields (λ x. SetRuleSelector x.0 x.1.0 x.1.1.0) ms
-command_by method.SetStyleSheetText ms = reads_with sheet_text_fields (λ x. SetStyleSheetText x.0 x.1.0) ms
-command_by method.AddRule ms = reads_with add_rule_fields (λ x. AddRule x.0 x.1.0 x.1.1.0) ms
+command_by method.GetMatchedStyles ms = reads_with node_field (λ x. AskCss (css.GetMatchedStyles x.0)) ms
+command_by method.GetStyleSheetText ms = reads_with sheet_field (λ x. AskCss (css.GetStyleSheetText x.0)) ms
+command_by method.CollectClassNames ms = reads_with sheet_field (λ x. AskCss (css.CollectClassNames x.0)) ms
+command_by method.SetStyleTexts ms = reads_with edits_field (λ x. EditCss (style.SetStyleTexts x.0)) ms
+command_by method.SetRuleSelector ms = reads_with set_selector_fields (λ x. EditCss (style.SetRuleSelector x.0 x.1.0 x.1.1.0)) ms
+command_by method.SetStyleSheetText ms = reads_with sheet_text_fields (λ x. EditCss (style.SetStyleSheetText x.0 x.1.0)) ms
+command_by method.AddRule ms = reads_with add_rule_fields (λ x. EditCss (style.AddRule x.0 x.1.0 x.1.1.0)) ms
 command_by method.SetBreakpoint ms = reads_with watch_fields (λ x. SetBreakpoint x.0 x.1.0) ms
 command_by method.RemoveBreakpoint ms = reads_with watch_fields (λ x. RemoveBreakpoint x.0 x.1.0) ms
 command_by method.ReplayLoad ms = Ok (ReplayLoad (object ms))
@@ -218,36 +222,53 @@ pub record Form : Type 0 where
 abbrev pub form : {T : Type 0} → Method → Lookups Why T → T → Form
 form m fields x = record { method = m; parameters = object (fields.puts x); fits = fields.fits x }
 
+-- what the DOM agent is asked, as it is written
+abbrev pub dom_ask_form : DomAsk → Form
+dom_ask_form (ask.GetDocument depth pierce) = form method.GetDocument depth_fields (depth, (pierce, tt))
+dom_ask_form (ask.RequestChildNodes node depth pierce) = form method.RequestChildNodes children_fields (node, (depth, (pierce, tt)))
+dom_ask_form (ask.PushByPath path) = form method.PushByPath path_field (path, tt)
+dom_ask_form (ask.PushBySerials serials) = form method.PushBySerials serials_field (serials, tt)
+dom_ask_form (ask.QuerySelector node selector) = form method.QuerySelector query_fields (node, (selector, tt))
+dom_ask_form (ask.QuerySelectorAll node selector) = form method.QuerySelectorAll query_fields (node, (selector, tt))
+dom_ask_form (ask.GetAttributes node) = form method.GetAttributes node_field (node, tt)
+dom_ask_form (ask.DescribeNode id serial depth pierce) = form method.DescribeNode describe_fields (id, (serial, (depth, (pierce, tt))))
+
+-- a client's edit of the tree, as it is written
+abbrev pub dom_edit_form : DomEdit → Form
+dom_edit_form (tree.SetAttributeValue node name value) = form method.SetAttributeValue attribute_fields (node, (name, (value, tt)))
+dom_edit_form (tree.RemoveAttribute node name) = form method.RemoveAttribute name_fields (node, (name, tt))
+dom_edit_form (tree.SetNodeValue node value) = form method.SetNodeValue value_fields (node, (value, tt))
+dom_edit_form (tree.RemoveNode node) = form method.RemoveNode node_field (node, tt)
+dom_edit_form (tree.MoveTo node target before) = form method.MoveTo move_fields (node, (target, (before, tt)))
+dom_edit_form (tree.CopyTo node target before) = form method.CopyTo move_fields (node, (target, (before, tt)))
+
+-- what the CSS agent is asked, as it is written
+abbrev pub css_ask_form : CssAsk → Form
+css_ask_form (css.GetMatchedStyles node) = form method.GetMatchedStyles node_field (node, tt)
+css_ask_form (css.GetStyleSheetText sheet) = form method.GetStyleSheetText sheet_field (sheet, tt)
+css_ask_form (css.CollectClassNames sheet) = form method.CollectClassNames sheet_field (sheet, tt)
+
+-- a client's edit of sheets, as it is written
+abbrev pub css_edit_form : CssEdit → Form
+css_edit_form (style.SetStyleTexts edits) = form method.SetStyleTexts edits_field (edits, tt)
+css_edit_form (style.SetRuleSelector sheet range selector) =
+    form method.SetRuleSelector set_selector_fields (sheet, (range, (selector, tt)))
+css_edit_form (style.SetStyleSheetText sheet text) = form method.SetStyleSheetText sheet_text_fields (sheet, (text, tt))
+css_edit_form (style.AddRule sheet rule_text location) = form method.AddRule add_rule_fields (sheet, (rule_text, (location, tt)))
+
 -- each command, as it is written
 abbrev pub parameters_form : Command → Form
 parameters_form DomEnable = form method.DomEnable no_lookups tt
 parameters_form DomDisable = form method.DomDisable no_lookups tt
-parameters_form (GetDocument depth pierce) = form method.GetDocument depth_fields (depth, (pierce, tt))
-parameters_form (RequestChildNodes node depth pierce) = form method.RequestChildNodes children_fields (node, (depth, (pierce, tt)))
-parameters_form (PushByPath path) = form method.PushByPath path_field (path, tt)
-parameters_form (PushBySerials serials) = form method.PushBySerials serials_field (serials, tt)
-parameters_form (QuerySelector node selector) = form method.QuerySelector query_fields (node, (selector, tt))
-parameters_form (QuerySelectorAll node selector) = form method.QuerySelectorAll query_fields (node, (selector, tt))
-parameters_form (GetAttributes node) = form method.GetAttributes node_field (node, tt)
-parameters_form (DescribeNode id serial depth pierce) = form method.DescribeNode describe_fields (id, (serial, (depth, (pierce, tt))))
-parameters_form (SetAttributeValue node name value) = form method.SetAttributeValue attribute_fields (node, (name, (value, tt)))
-parameters_form (RemoveAttribute node name) = form method.RemoveAttribute name_fields (node, (name, tt))
-parameters_form (SetNodeValue node value) = form method.SetNodeValue value_fields (node, (value, tt))
-parameters_form (RemoveNode node) = form method.RemoveNode node_field (node, tt)
-parameters_form (MoveTo node target before) = form method.MoveTo move_fields (node, (target, (before, tt)))
-parameters_form (CopyTo node target before) = form method.CopyTo move_fields (node, (target, (before, tt)))
+parameters_form (AskDom a) = dom_ask_form a
+parameters_form (EditDom e) = dom_edit_form e
 parameters_form MarkUndoableState = form method.MarkUndoableState no_lookups tt
 parameters_form Undo = form method.Undo no_lookups tt
 parameters_form Redo = form method.Redo no_lookups tt
 parameters_form CssEnable = form method.CssEnable no_lookups tt
 parameters_form CssDisable = form method.CssDisable no_lookups tt
-parameters_form (GetMatchedStyles node) = form method.GetMatchedStyles node_field (node, tt)
-parameters_form (GetStyleSheetText sheet) = form method.GetStyleSheetText sheet_field (sheet, tt)
-parameters_form (CollectClassNames sheet) = form method.CollectClassNames sheet_field (sheet, tt)
-parameters_form (SetStyleTexts edits) = form method.SetStyleTexts edits_field (edits, tt)
-parameters_form (SetRuleSelector sheet range selector) = form method.SetRuleSelector set_selector_fields (sheet, (range, (selector, tt)))
-parameters_form (SetStyleSheetText sheet text) = form method.SetStyleSheetText sheet_text_fields (sheet, (text, tt))
-parameters_form (AddRule sheet rule_text location) = form method.AddRule add_rule_fields (sheet, (rule_text, (location, tt)))
+parameters_form (AskCss a) = css_ask_form a
+parameters_form (EditCss e) = css_edit_form e
 parameters_form (SetBreakpoint node kind) = form method.SetBreakpoint watch_fields (node, (kind, tt))
 parameters_form (RemoveBreakpoint node kind) = form method.RemoveBreakpoint watch_fields (node, (kind, tt))
 parameters_form (ReplayLoad params) = record { method = method.ReplayLoad; parameters = params; fits = is_object params }

@@ -2,94 +2,24 @@
 ghost use Rattle.std.specs.Prelude.{◌≡◌};
 ghost use Rattle.cdp_messages.specs.declared.command.CommandErr.TheVariants as command_err;
 
-use crate::edits::TextEdits;
+use crate::css_ask::CssAsk;
+use crate::css_edit::CssEdit;
+use crate::dom_ask::DomAsk;
+use crate::dom_edit::DomEdit;
 use crate::kept::Json;
-use crate::numbers::Numbers;
-use css_objects::SourceRange;
-use node_tree::Text;
 use std::alloc::{AllocError, AllocFailed};
 
 /// A command with its parameters; `None` stands for one that is absent.
-///
-/// `depth` counts levels, and -1 stands for all; absent it counts as 1. `pierce` has no effect.
 #[derive(Drop)]
 pub enum Command {
     /// `DOM.enable`
     DomEnable,
     /// `DOM.disable`
     DomDisable,
-    /// `DOM.getDocument`
-    GetDocument {
-        depth: Option<i64>,
-        pierce: Option<bool>,
-    },
-    /// `DOM.requestChildNodes`: the node is named by its id.
-    RequestChildNodes {
-        node: u64,
-        depth: Option<i64>,
-        pierce: Option<bool>,
-    },
-    /// `DOM.pushNodeByPathToFrontend`: the path has an index and a node name for each level below the document.
-    PushByPath {
-        path: Text,
-    },
-    /// `DOM.pushNodesByBackendIdsToFrontend`: the nodes are named by their serials.
-    PushBySerials {
-        serials: Numbers,
-    },
-    /// `DOM.querySelector`
-    QuerySelector {
-        node: u64,
-        selector: Text,
-    },
-    /// `DOM.querySelectorAll`
-    QuerySelectorAll {
-        node: u64,
-        selector: Text,
-    },
-    /// `DOM.getAttributes`
-    GetAttributes {
-        node: u64,
-    },
-    /// `DOM.describeNode`: the node is named by its id, or else by its serial.
-    DescribeNode {
-        node: Option<u64>,
-        serial: Option<u64>,
-        depth: Option<i64>,
-        pierce: Option<bool>,
-    },
-    /// `DOM.setAttributeValue`
-    SetAttributeValue {
-        node: u64,
-        name: Text,
-        value: Text,
-    },
-    /// `DOM.removeAttribute`
-    RemoveAttribute {
-        node: u64,
-        name: Text,
-    },
-    /// `DOM.setNodeValue`
-    SetNodeValue {
-        node: u64,
-        value: Text,
-    },
-    /// `DOM.removeNode`
-    RemoveNode {
-        node: u64,
-    },
-    /// `DOM.moveTo`: last in the target where `before` is absent.
-    MoveTo {
-        node: u64,
-        target: u64,
-        before: Option<u64>,
-    },
-    /// `DOM.copyTo`: last in the target where `before` is absent.
-    CopyTo {
-        node: u64,
-        target: u64,
-        before: Option<u64>,
-    },
+    /// A command that the DOM agent serves.
+    AskDom(DomAsk),
+    /// A client's edit of the tree.
+    EditDom(DomEdit),
     /// `DOM.markUndoableState`
     MarkUndoableState,
     /// `DOM.undo`
@@ -100,57 +30,18 @@ pub enum Command {
     CssEnable,
     /// `CSS.disable`
     CssDisable,
-    /// `CSS.getMatchedStylesForNode`
-    GetMatchedStyles {
-        node: u64,
-    },
-    /// `CSS.getStyleSheetText`
-    GetStyleSheetText {
-        sheet: Text,
-    },
-    /// `CSS.collectClassNames`
-    CollectClassNames {
-        sheet: Text,
-    },
-    /// `CSS.setStyleTexts`
-    SetStyleTexts {
-        edits: TextEdits,
-    },
-    /// `CSS.setRuleSelector`
-    SetRuleSelector {
-        sheet: Text,
-        range: SourceRange,
-        selector: Text,
-    },
-    /// `CSS.setStyleSheetText`
-    SetStyleSheetText {
-        sheet: Text,
-        text: Text,
-    },
-    /// `CSS.addRule`
-    AddRule {
-        sheet: Text,
-        rule_text: Text,
-        location: SourceRange,
-    },
+    /// A command of the domain CSS that edits nothing.
+    AskCss(CssAsk),
+    /// A client's edit of sheets.
+    EditCss(CssEdit),
     /// `DOMDebugger.setDOMBreakpoint`
-    SetBreakpoint {
-        node: u64,
-        kind: WatchWord,
-    },
+    SetBreakpoint { node: u64, kind: WatchWord },
     /// `DOMDebugger.removeDOMBreakpoint`
-    RemoveBreakpoint {
-        node: u64,
-        kind: WatchWord,
-    },
+    RemoveBreakpoint { node: u64, kind: WatchWord },
     /// `Replay.load`, one of our own two methods: the page.
-    ReplayLoad {
-        params: Json,
-    },
+    ReplayLoad { params: Json },
     /// `Replay.act`, one of our own two methods: the change.
-    ReplayAct {
-        params: Json,
-    },
+    ReplayAct { params: Json },
 }
 
 /// What a breakpoint watches of a node.

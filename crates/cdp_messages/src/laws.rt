@@ -1,6 +1,6 @@
 // The laws of the messages, which make no call.
 ghost use Rattle.cdp_messages.specs.Laws.{AsksAreAsked, AsksFit, CommandsAreAsked, ParametersAreRead, ParametersArePlain, CommandsAreNamed};
-ghost use Rattle.cdp_messages.specs.Laws.{DomAsksAreCommands, RepliesAreRead, RepliesAreShallow, EventsAreRead, EventsAreShallow};
+ghost use Rattle.cdp_messages.specs.Laws.{RepliesAreRead, RepliesAreShallow, EventsAreRead, EventsAreShallow};
 ghost use Rattle.cdp_messages.specs.Laws.{EventsAreUtf8, ShownChildrenFit, RefusalsAreRead, ResultsAreRead, MessagesAreRead, FaultsAreRead};
 ghost use Rattle.cdp_messages.specs.Laws.{ObjectsAreEmpty, MessagesAreSpelled, ResultsAreSpelled, OneMessage, OneResult, TextsHaveNoZero};
 ghost use Rattle.cdp_messages.specs.Laws.{RepliesAreUtf8, ShownTreesFit, ValuesAreRead, SpellingsAreRead};
@@ -13,7 +13,6 @@ pub fn spell_law()
     ensures commands { CommandsAreAsked }
     ensures named { CommandsAreNamed }
     ensures asks_fit { AsksFit }
-    ensures dom_asks { DomAsksAreCommands }
     ensures replies { RepliesAreRead }
     ensures shallow { RepliesAreShallow }
     ensures events { EventsAreRead }

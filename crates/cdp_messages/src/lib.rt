@@ -3,7 +3,10 @@
 #![tactic(auto)]
 
 mod command;
+mod css_ask;
+mod css_edit;
 mod dom_ask;
+mod dom_edit;
 mod down;
 mod edits;
 mod effects;
@@ -33,11 +36,14 @@ mod tree_write;
 mod write;
 
 pub use command::{Asked, Command, CommandErr, Param, ReadErr, Refused, WatchWord, Why};
+pub use css_ask::CssAsk;
+pub use css_edit::CssEdit;
 pub use css_objects::{
     Header, Inherited, Listed, Matched, Rule, RuleMatch, RuleSelectors, SelectorValue, SheetOrigin,
     SourceRange, Style, StyleProperty, Weight,
 };
 pub use dom_ask::DomAsk;
+pub use dom_edit::DomEdit;
 pub use down::{Down, DownErr, Event, PauseData, ReplyBody};
 pub use edits::{TextEdit, TextEdits};
 pub use effects::Effect;

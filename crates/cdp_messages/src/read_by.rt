@@ -7,6 +7,10 @@ ghost use Rattle.cdp_messages.specs.Parameters.{command_by};
 ghost use Rattle.cdp_messages.specs.Answers.{Commands};
 
 use crate::command::{Command, CommandErr, Param, Why};
+use crate::css_ask::CssAsk;
+use crate::css_edit::CssEdit;
+use crate::dom_ask::DomAsk;
+use crate::dom_edit::DomEdit;
 use crate::kept::Json;
 use crate::method::Method;
 use crate::parameters::{
@@ -20,7 +24,7 @@ fn get_document(params: &Map<String, Value>) -> Result<Command, Why>
 {
     let depth = depth_or_none(params, Param::Depth)?;
     let pierce = flag_or_none(params, Param::Pierce)?;
-    Ok(Command::GetDocument { depth, pierce })
+    Ok(Command::AskDom(DomAsk::GetDocument { depth, pierce }))
 }
 
 fn request_child_nodes(params: &Map<String, Value>) -> Result<Command, Why>
@@ -29,25 +33,25 @@ fn request_child_nodes(params: &Map<String, Value>) -> Result<Command, Why>
     let node = whole(params, Param::NodeId)?;
     let depth = depth_or_none(params, Param::Depth)?;
     let pierce = flag_or_none(params, Param::Pierce)?;
-    Ok(Command::RequestChildNodes {
+    Ok(Command::AskDom(DomAsk::RequestChildNodes {
         node,
         depth,
         pierce,
-    })
+    }))
 }
 
 fn push_by_path(alloc: Global, params: &Map<String, Value>) -> Result<Command, CommandErr>
     ensures { Commands result (command_by method.PushByPath (members_view params.now.entries)) }
 {
     let path = text(alloc, params, Param::Path)?;
-    Ok(Command::PushByPath { path })
+    Ok(Command::AskDom(DomAsk::PushByPath { path }))
 }
 
 fn push_by_serials(alloc: Global, params: &Map<String, Value>) -> Result<Command, CommandErr>
     ensures { Commands result (command_by method.PushBySerials (members_view params.now.entries)) }
 {
     let serials = wholes(alloc, params, Param::BackendNodeIds)?;
-    Ok(Command::PushBySerials { serials })
+    Ok(Command::AskDom(DomAsk::PushBySerials { serials }))
 }
 
 fn query_selector(alloc: Global, params: &Map<String, Value>) -> Result<Command, CommandErr>
@@ -55,7 +59,7 @@ fn query_selector(alloc: Global, params: &Map<String, Value>) -> Result<Command,
 {
     let node = whole(params, Param::NodeId)?;
     let selector = text(alloc, params, Param::Selector)?;
-    Ok(Command::QuerySelector { node, selector })
+    Ok(Command::AskDom(DomAsk::QuerySelector { node, selector }))
 }
 
 fn query_selector_all(alloc: Global, params: &Map<String, Value>) -> Result<Command, CommandErr>
@@ -63,14 +67,14 @@ fn query_selector_all(alloc: Global, params: &Map<String, Value>) -> Result<Comm
 {
     let node = whole(params, Param::NodeId)?;
     let selector = text(alloc, params, Param::Selector)?;
-    Ok(Command::QuerySelectorAll { node, selector })
+    Ok(Command::AskDom(DomAsk::QuerySelectorAll { node, selector }))
 }
 
 fn get_attributes(params: &Map<String, Value>) -> Result<Command, Why>
     ensures { result ≡ command_by method.GetAttributes (members_view params.now.entries) }
 {
     let node = whole(params, Param::NodeId)?;
-    Ok(Command::GetAttributes { node })
+    Ok(Command::AskDom(DomAsk::GetAttributes { node }))
 }
 
 fn describe_node(params: &Map<String, Value>) -> Result<Command, Why>
@@ -83,12 +87,12 @@ fn describe_node(params: &Map<String, Value>) -> Result<Command, Why>
     }
     let depth = depth_or_none(params, Param::Depth)?;
     let pierce = flag_or_none(params, Param::Pierce)?;
-    Ok(Command::DescribeNode {
+    Ok(Command::AskDom(DomAsk::DescribeNode {
         node,
         serial,
         depth,
         pierce,
-    })
+    }))
 }
 
 fn set_attribute_value(alloc: Global, params: &Map<String, Value>) -> Result<Command, CommandErr>
@@ -97,7 +101,7 @@ fn set_attribute_value(alloc: Global, params: &Map<String, Value>) -> Result<Com
     let node = whole(params, Param::NodeId)?;
     let name = text(alloc, params, Param::Name)?;
     let value = text(alloc, params, Param::Value)?;
-    Ok(Command::SetAttributeValue { node, name, value })
+    Ok(Command::EditDom(DomEdit::SetAttributeValue { node, name, value }))
 }
 
 fn remove_attribute(alloc: Global, params: &Map<String, Value>) -> Result<Command, CommandErr>
@@ -105,7 +109,7 @@ fn remove_attribute(alloc: Global, params: &Map<String, Value>) -> Result<Comman
 {
     let node = whole(params, Param::NodeId)?;
     let name = text(alloc, params, Param::Name)?;
-    Ok(Command::RemoveAttribute { node, name })
+    Ok(Command::EditDom(DomEdit::RemoveAttribute { node, name }))
 }
 
 fn set_node_value(alloc: Global, params: &Map<String, Value>) -> Result<Command, CommandErr>
@@ -113,14 +117,14 @@ fn set_node_value(alloc: Global, params: &Map<String, Value>) -> Result<Command,
 {
     let node = whole(params, Param::NodeId)?;
     let value = text(alloc, params, Param::Value)?;
-    Ok(Command::SetNodeValue { node, value })
+    Ok(Command::EditDom(DomEdit::SetNodeValue { node, value }))
 }
 
 fn remove_node(params: &Map<String, Value>) -> Result<Command, Why>
     ensures { result ≡ command_by method.RemoveNode (members_view params.now.entries) }
 {
     let node = whole(params, Param::NodeId)?;
-    Ok(Command::RemoveNode { node })
+    Ok(Command::EditDom(DomEdit::RemoveNode { node }))
 }
 
 fn move_to(params: &Map<String, Value>) -> Result<Command, Why>
@@ -129,11 +133,11 @@ fn move_to(params: &Map<String, Value>) -> Result<Command, Why>
     let node = whole(params, Param::NodeId)?;
     let target = whole(params, Param::TargetNodeId)?;
     let before = whole_or_none(params, Param::InsertBeforeNodeId)?;
-    Ok(Command::MoveTo {
+    Ok(Command::EditDom(DomEdit::MoveTo {
         node,
         target,
         before,
-    })
+    }))
 }
 
 fn copy_to(params: &Map<String, Value>) -> Result<Command, Why>
@@ -142,39 +146,39 @@ fn copy_to(params: &Map<String, Value>) -> Result<Command, Why>
     let node = whole(params, Param::NodeId)?;
     let target = whole(params, Param::TargetNodeId)?;
     let before = whole_or_none(params, Param::InsertBeforeNodeId)?;
-    Ok(Command::CopyTo {
+    Ok(Command::EditDom(DomEdit::CopyTo {
         node,
         target,
         before,
-    })
+    }))
 }
 
 fn get_matched_styles(params: &Map<String, Value>) -> Result<Command, Why>
     ensures { result ≡ command_by method.GetMatchedStyles (members_view params.now.entries) }
 {
     let node = whole(params, Param::NodeId)?;
-    Ok(Command::GetMatchedStyles { node })
+    Ok(Command::AskCss(CssAsk::GetMatchedStyles { node }))
 }
 
 fn get_style_sheet_text(alloc: Global, params: &Map<String, Value>) -> Result<Command, CommandErr>
     ensures { Commands result (command_by method.GetStyleSheetText (members_view params.now.entries)) }
 {
     let sheet = text(alloc, params, Param::StyleSheetId)?;
-    Ok(Command::GetStyleSheetText { sheet })
+    Ok(Command::AskCss(CssAsk::GetStyleSheetText { sheet }))
 }
 
 fn collect_class_names(alloc: Global, params: &Map<String, Value>) -> Result<Command, CommandErr>
     ensures { Commands result (command_by method.CollectClassNames (members_view params.now.entries)) }
 {
     let sheet = text(alloc, params, Param::StyleSheetId)?;
-    Ok(Command::CollectClassNames { sheet })
+    Ok(Command::AskCss(CssAsk::CollectClassNames { sheet }))
 }
 
 fn set_style_texts(alloc: Global, params: &Map<String, Value>) -> Result<Command, CommandErr>
     ensures { Commands result (command_by method.SetStyleTexts (members_view params.now.entries)) }
 {
     let edits = edits(alloc, params, Param::Edits)?;
-    Ok(Command::SetStyleTexts { edits })
+    Ok(Command::EditCss(CssEdit::SetStyleTexts { edits }))
 }
 
 fn set_rule_selector(alloc: Global, params: &Map<String, Value>) -> Result<Command, CommandErr>
@@ -183,11 +187,11 @@ fn set_rule_selector(alloc: Global, params: &Map<String, Value>) -> Result<Comma
     let sheet = text(alloc, params, Param::StyleSheetId)?;
     let range = place(params, Param::Range)?;
     let selector = text(alloc, params, Param::Selector)?;
-    Ok(Command::SetRuleSelector {
+    Ok(Command::EditCss(CssEdit::SetRuleSelector {
         sheet,
         range,
         selector,
-    })
+    }))
 }
 
 fn set_style_sheet_text(alloc: Global, params: &Map<String, Value>) -> Result<Command, CommandErr>
@@ -195,7 +199,7 @@ fn set_style_sheet_text(alloc: Global, params: &Map<String, Value>) -> Result<Co
 {
     let sheet = text(alloc, params, Param::StyleSheetId)?;
     let text = text(alloc, params, Param::Text)?;
-    Ok(Command::SetStyleSheetText { sheet, text })
+    Ok(Command::EditCss(CssEdit::SetStyleSheetText { sheet, text }))
 }
 
 fn add_rule(alloc: Global, params: &Map<String, Value>) -> Result<Command, CommandErr>
@@ -204,11 +208,11 @@ fn add_rule(alloc: Global, params: &Map<String, Value>) -> Result<Command, Comma
     let sheet = text(alloc, params, Param::StyleSheetId)?;
     let rule_text = text(alloc, params, Param::RuleText)?;
     let location = place(params, Param::Location)?;
-    Ok(Command::AddRule {
+    Ok(Command::EditCss(CssEdit::AddRule {
         sheet,
         rule_text,
         location,
-    })
+    }))
 }
 
 fn set_breakpoint(params: &Map<String, Value>) -> Result<Command, Why>

@@ -20,8 +20,8 @@ use Rattle.style_edits.proofs.FoundForms.{style_found, selector_found, text_foun
 use Rattle.cdp_messages.specs.declared.down.ReplyBody.{ReplyBody}
 use Rattle.cdp_messages.specs.declared.down.ReplyBody.TheVariants as body
 use Rattle.cdp_messages.specs.declared.edits.TextEdit.{TextEdit}
-use Rattle.css_agent.specs.declared.edits.CssEdit.{CssEdit}
-use Rattle.css_agent.specs.declared.edits.CssEdit.TheVariants as edit
+use Rattle.cdp_messages.specs.declared.css_edit.CssEdit.{CssEdit}
+use Rattle.cdp_messages.specs.declared.css_edit.CssEdit.TheVariants as edit
 use Rattle.css_agent.specs.Edits.{number_named, line_range, style_edit, told_at, CssDone, css_done, styles_done, one_done, css_edited}
 use Rattle.css_agent.specs.Edits.{one_splice, splices_on, style_splices, css_splices}
 use Rattle.css_agent.specs.EditLaws.{HasEditText, HasEditTexts, edit_count, AllTake, back_splices}

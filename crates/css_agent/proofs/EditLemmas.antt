@@ -12,7 +12,7 @@ use Rattle.pipe_frames.specs.Frames.{framed}
 use Rattle.cdp_messages.specs.Events.{sheet_changed}
 use Rattle.cdp_messages.specs.Moves.{Move, replied, move_text, frames_of_moves}
 use Rattle.cdp_messages.specs.Replies.{event}
-use Rattle.css_agent.specs.declared.edits.CssEdit.{CssEdit}
+use Rattle.cdp_messages.specs.declared.css_edit.CssEdit.{CssEdit}
 use Rattle.css_agent.specs.Told.{changed_message, message_frame, message_frames}
 use Rattle.css_agent.specs.Edits.{CssDone, CssEdited, css_edited, css_splices, splice_moves, moves_with_reply, edit_moves}
 use Rattle.css_agent.specs.EditLaws.{back_splices}

@@ -28,25 +28,18 @@ use Rattle.style_edits.specs.EditedRules.{place_by, edited_rule, rules_on, edite
 use Rattle.style_edits.proofs.BookForms.{entry_id}
 use Rattle.style_edits.proofs.SpliceForms.{stored_after}
 use Rattle.style_edits.proofs.FoundForms.{style_found, selector_found, text_found, rule_found}
-use Rattle.cdp_messages.specs.declared.command.Command.TheVariants.{DomEnable, DomDisable, GetDocument, RequestChildNodes, PushByPath}
-use Rattle.cdp_messages.specs.declared.command.Command.TheVariants.{PushBySerials, QuerySelector, QuerySelectorAll, GetAttributes}
-use Rattle.cdp_messages.specs.declared.command.Command.TheVariants.{DescribeNode, SetAttributeValue, RemoveAttribute, SetNodeValue}
-use Rattle.cdp_messages.specs.declared.command.Command.TheVariants.{RemoveNode, MoveTo, CopyTo, MarkUndoableState, Undo, Redo, CssEnable}
-use Rattle.cdp_messages.specs.declared.command.Command.TheVariants.{CssDisable, GetMatchedStyles, GetStyleSheetText, CollectClassNames}
-use Rattle.cdp_messages.specs.declared.command.Command.TheVariants.{SetStyleTexts, SetRuleSelector, SetStyleSheetText, AddRule}
-use Rattle.cdp_messages.specs.declared.command.Command.TheVariants.{SetBreakpoint, RemoveBreakpoint, ReplayLoad, ReplayAct}
 use Rattle.cdp_messages.specs.declared.down.ReplyBody.{ReplyBody}
 use Rattle.cdp_messages.specs.declared.down.ReplyBody.TheVariants as body
 use Rattle.cdp_messages.specs.declared.edits.TextEdit.{TextEdit}
 use Rattle.cdp_messages.specs.Laws.{answers, BodyHasUtf8}
 use Rattle.cdp_messages.specs.Replies.{fits_body}
 use Rattle.cdp_messages.specs.Moves.{IsPlainReply}
-use Rattle.css_agent.specs.declared.edits.CssEdit.{CssEdit}
-use Rattle.css_agent.specs.declared.edits.CssEdit.TheVariants as edit
+use Rattle.cdp_messages.specs.declared.css_edit.CssEdit.{CssEdit}
+use Rattle.cdp_messages.specs.declared.css_edit.CssEdit.TheVariants as edit
 use Rattle.css_agent.specs.RuleObjects.{told_rule}
 use Rattle.css_agent.specs.Edits.{number_named, line_range, style_edit, found_at, empty_rule, told_at, CssDone, css_done, one_done}
 use Rattle.css_agent.specs.Edits.{css_edited, splices_on, style_splices, css_splices}
-use Rattle.css_agent.specs.EditLaws.{HasEditTexts, css_edit_name, edit_count, TellsStyles, IsDone, EditsAreDone, EditsAreNamed}
+use Rattle.css_agent.specs.EditLaws.{HasEditTexts, css_edit_name, edit_count, TellsStyles, IsDone, EditsAreDone}
 use Rattle.css_agent.proofs.SheetNames.{rules-named}
 use Rattle.css_agent.proofs.TellableStyles.{both, sheet-number, IsTold, prelude-fits, style-fits, rule-fits, rule-utf8, stored-told}
 use Rattle.css_agent.proofs.TellableStyles.{entry-stored, rule-at}
@@ -243,40 +236,3 @@ edits-done book x d all texts h =
       answers = told.answers;
       styles = told.styles;
     }
-
-pub edits-named : EditsAreNamed
-edits-named DomEnable x h = absurd cc
-edits-named DomDisable x h = absurd cc
-edits-named (GetDocument depth pierce) x h = absurd cc
-edits-named (RequestChildNodes node depth pierce) x h = absurd cc
-edits-named (PushByPath path) x h = absurd cc
-edits-named (PushBySerials serials) x h = absurd cc
-edits-named (QuerySelector node selector) x h = absurd cc
-edits-named (QuerySelectorAll node selector) x h = absurd cc
-edits-named (GetAttributes node) x h = absurd cc
-edits-named (DescribeNode id serial depth pierce) x h = absurd cc
-edits-named (SetAttributeValue node name value) x h = absurd cc
-edits-named (RemoveAttribute node name) x h = absurd cc
-edits-named (SetNodeValue node value) x h = absurd cc
-edits-named (RemoveNode node) x h = absurd cc
-edits-named (MoveTo node target before) x h = absurd cc
-edits-named (CopyTo node target before) x h = absurd cc
-edits-named MarkUndoableState x h = absurd cc
-edits-named Undo x h = absurd cc
-edits-named Redo x h = absurd cc
-edits-named CssEnable x h = absurd cc
-edits-named CssDisable x h = absurd cc
-edits-named (GetMatchedStyles id) x h = absurd cc
-edits-named (GetStyleSheetText sheet) x h = absurd cc
-edits-named (CollectClassNames sheet) x h = absurd cc
-edits-named (SetStyleTexts edits) x h = let same : edit.SetStyleTexts edits ≡ x = cc in ap (λ (y : CssEdit). css_edit_name y) same
-edits-named (SetRuleSelector sheet range selector) x h = let same : edit.SetRuleSelector sheet range selector
-    ≡ x = cc in ap (λ (y : CssEdit). css_edit_name y) same
-edits-named (SetStyleSheetText sheet text) x h = let same : edit.SetStyleSheetText sheet text
-    ≡ x = cc in ap (λ (y : CssEdit). css_edit_name y) same
-edits-named (AddRule sheet rule_text location) x h = let same : edit.AddRule sheet rule_text location
-    ≡ x = cc in ap (λ (y : CssEdit). css_edit_name y) same
-edits-named (SetBreakpoint node kind) x h = absurd cc
-edits-named (RemoveBreakpoint node kind) x h = absurd cc
-edits-named (ReplayLoad params) x h = absurd cc
-edits-named (ReplayAct params) x h = absurd cc

@@ -8,57 +8,21 @@ use Rattle.page_tree.specs.Zippers.{zipper_at}
 use Rattle.sheet_reader.specs.declared.book.SheetEntry.{SheetEntry}
 use Rattle.sheet_reader.specs.Books.{entry_of}
 use Rattle.cdp_messages.specs.declared.command.Command.{Command}
-use Rattle.cdp_messages.specs.declared.command.Command.TheVariants.{DomEnable, DomDisable, GetDocument, RequestChildNodes, PushByPath}
-use Rattle.cdp_messages.specs.declared.command.Command.TheVariants.{PushBySerials, QuerySelector, QuerySelectorAll, GetAttributes}
-use Rattle.cdp_messages.specs.declared.command.Command.TheVariants.{DescribeNode, SetAttributeValue, RemoveAttribute, SetNodeValue}
-use Rattle.cdp_messages.specs.declared.command.Command.TheVariants.{RemoveNode, MoveTo, CopyTo, MarkUndoableState, Undo, Redo, CssEnable}
-use Rattle.cdp_messages.specs.declared.command.Command.TheVariants.{CssDisable, GetMatchedStyles, GetStyleSheetText, CollectClassNames}
-use Rattle.cdp_messages.specs.declared.command.Command.TheVariants.{SetStyleTexts, SetRuleSelector, SetStyleSheetText, AddRule}
-use Rattle.cdp_messages.specs.declared.command.Command.TheVariants.{SetBreakpoint, RemoveBreakpoint, ReplayLoad, ReplayAct}
+use Rattle.cdp_messages.specs.declared.command.Command.TheVariants.{AskCss}
 use Rattle.cdp_messages.specs.declared.command.Why.{Why}
 use Rattle.cdp_messages.specs.declared.command.Why.TheVariants.{NoSheet}
 use Rattle.cdp_messages.specs.declared.down.ReplyBody.{ReplyBody}
 use Rattle.cdp_messages.specs.declared.down.ReplyBody.TheVariants as body
 use Rattle.cdp_messages.specs.Moves.{Move, replied, failed}
-use Rattle.css_agent.specs.declared.asks.CssAsk.{CssAsk}
-use Rattle.css_agent.specs.declared.asks.CssAsk.TheVariants as ask
+use Rattle.cdp_messages.specs.declared.css_ask.CssAsk.{CssAsk}
+use Rattle.cdp_messages.specs.declared.css_ask.CssAsk.TheVariants as ask
 use Rattle.css_agent.specs.ClassNames.{class_names}
 use Rattle.css_agent.specs.MatchedStyles.{matched_styles}
 
 -- what the agent is asked by a command, if it is one that edits nothing
 abbrev pub css_ask_in : Command → Option CssAsk
-css_ask_in DomEnable = None
-css_ask_in DomDisable = None
-css_ask_in (GetDocument depth pierce) = None
-css_ask_in (RequestChildNodes node depth pierce) = None
-css_ask_in (PushByPath path) = None
-css_ask_in (PushBySerials serials) = None
-css_ask_in (QuerySelector node selector) = None
-css_ask_in (QuerySelectorAll node selector) = None
-css_ask_in (GetAttributes node) = None
-css_ask_in (DescribeNode id serial depth pierce) = None
-css_ask_in (SetAttributeValue node name value) = None
-css_ask_in (RemoveAttribute node name) = None
-css_ask_in (SetNodeValue node value) = None
-css_ask_in (RemoveNode node) = None
-css_ask_in (MoveTo node target before) = None
-css_ask_in (CopyTo node target before) = None
-css_ask_in MarkUndoableState = None
-css_ask_in Undo = None
-css_ask_in Redo = None
-css_ask_in CssEnable = None
-css_ask_in CssDisable = None
-css_ask_in (GetMatchedStyles id) = Some (ask.GetMatchedStyles id)
-css_ask_in (GetStyleSheetText sheet) = Some (ask.GetStyleSheetText sheet)
-css_ask_in (CollectClassNames sheet) = Some (ask.CollectClassNames sheet)
-css_ask_in (SetStyleTexts edits) = None
-css_ask_in (SetRuleSelector sheet range selector) = None
-css_ask_in (SetStyleSheetText sheet text) = None
-css_ask_in (AddRule sheet rule_text location) = None
-css_ask_in (SetBreakpoint node kind) = None
-css_ask_in (RemoveBreakpoint node kind) = None
-css_ask_in (ReplayLoad params) = None
-css_ask_in (ReplayAct params) = None
+css_ask_in (AskCss a) = Some a
+css_ask_in _ = None
 
 -- the sheet of the book whose id has this text, if it has one
 abbrev pub sheet_named : List ℕ → List SheetEntry → Option SheetEntry

@@ -1,8 +1,8 @@
 -- What always holds of a client's edit of sheets that has no fault.
-use Rattle.std.specs.Prelude.{◌≡◌, ℕ, List, [], ◌∷◌, All, codes, length, Option, Some, true, Ok, ⊤}
+use Rattle.std.specs.Prelude.{◌≡◌, ℕ, List, [], ◌∷◌, All, length, true, Ok, ⊤}
 use Rattle.std.specs.Str.{IsUtf8}
 use Rattle.cdp_json.specs.Kinds.{is_counted}
-use Rattle.cdp_messages.specs.declared.command.Command.{Command}
+use Rattle.cdp_messages.specs.declared.command.Command.TheVariants.{EditCss}
 use Rattle.cdp_messages.specs.declared.down.ReplyBody.{ReplyBody}
 use Rattle.cdp_messages.specs.declared.down.ReplyBody.TheVariants as body
 use Rattle.cdp_messages.specs.declared.edits.TextEdit.{TextEdit}
@@ -13,9 +13,9 @@ use Rattle.sheet_reader.specs.declared.book.SheetEntry.{SheetEntry}
 use Rattle.sheet_reader.specs.Books.{IsStored}
 use Rattle.style_edits.specs.declared.splice.Splice.{Splice}
 use Rattle.style_edits.specs.Splices.{after_splice, back_splice, after_splices, TakesSplice}
-use Rattle.css_agent.specs.declared.edits.CssEdit.{CssEdit}
-use Rattle.css_agent.specs.declared.edits.CssEdit.TheVariants as edit
-use Rattle.css_agent.specs.Edits.{css_edit_in, CssDone, css_edited, css_splices}
+use Rattle.cdp_messages.specs.declared.css_edit.CssEdit.{CssEdit}
+use Rattle.cdp_messages.specs.declared.css_edit.CssEdit.TheVariants as edit
+use Rattle.css_agent.specs.Edits.{CssDone, css_edited, css_splices}
 
 -- ---- of the command
 
@@ -32,10 +32,7 @@ HasEditTexts (edit.AddRule sheet rule_text location) = IsUtf8 rule_text
 
 -- its method's name
 abbrev pub css_edit_name : CssEdit → List ℕ
-css_edit_name (edit.SetStyleTexts edits) = codes "CSS.setStyleTexts"
-css_edit_name (edit.SetRuleSelector sheet range selector) = codes "CSS.setRuleSelector"
-css_edit_name (edit.SetStyleSheetText sheet text) = codes "CSS.setStyleSheetText"
-css_edit_name (edit.AddRule sheet rule_text location) = codes "CSS.addRule"
+css_edit_name x = method_name (EditCss x)
 
 -- how many edits it makes
 abbrev pub edit_count : CssEdit → ℕ
@@ -98,7 +95,3 @@ pub record IsDone (book : List SheetEntry) (x : CssEdit) (d : CssDone) : Type 0 
 abbrev pub EditsAreDone : Type 0
 EditsAreDone =
     (book : List SheetEntry) (x : CssEdit) (d : CssDone) → All IsStored book → HasEditTexts x → css_edited book x ≡ Ok d → IsDone book x d
-
--- the edit that a command is has the command's method
-abbrev pub EditsAreNamed : Type 0
-EditsAreNamed = (c : Command) (x : CssEdit) → css_edit_in c ≡ Some x → method_name c ≡ css_edit_name x

@@ -1,6 +1,6 @@
 -- What each command of the domain CSS that edits sheets comes to: the book after it, the splices that lead back and the result, or the
 -- first fault. Only the sheets' ids, origins and texts count.
-use Rattle.std.specs.Prelude.{ℕ, List, [], ◌∷◌, ◌++◌, map, Option, Some, None, option_map, option_and_then, unwrap_or, Result, Ok, Err}
+use Rattle.std.specs.Prelude.{ℕ, List, [], ◌∷◌, ◌++◌, map, Option, Some, option_map, option_and_then, unwrap_or, Result, Ok, Err}
 use Rattle.std.specs.List.{slice_get}
 use Rattle.css_objects.specs.declared.ranges.SourceRange.{SourceRange}
 use Rattle.css_objects.specs.declared.rules.Rule.{Rule}
@@ -17,56 +17,13 @@ use Rattle.style_edits.specs.declared.splice.Splice.{Splice}
 use Rattle.style_edits.specs.Splices.{after_splice}
 use Rattle.style_edits.specs.Edits.{Found, style_splice, selector_splice, text_splice, rule_splice, edited, EditsOutcome, styles_edited}
 use Rattle.style_edits.specs.EditedRules.{edited_rule, edited_rules}
-use Rattle.cdp_messages.specs.declared.command.Command.{Command}
-use Rattle.cdp_messages.specs.declared.command.Command.TheVariants.{DomEnable, DomDisable, GetDocument, RequestChildNodes, PushByPath}
-use Rattle.cdp_messages.specs.declared.command.Command.TheVariants.{PushBySerials, QuerySelector, QuerySelectorAll, GetAttributes}
-use Rattle.cdp_messages.specs.declared.command.Command.TheVariants.{DescribeNode, SetAttributeValue, RemoveAttribute, SetNodeValue}
-use Rattle.cdp_messages.specs.declared.command.Command.TheVariants.{RemoveNode, MoveTo, CopyTo, MarkUndoableState, Undo, Redo, CssEnable}
-use Rattle.cdp_messages.specs.declared.command.Command.TheVariants.{CssDisable, GetMatchedStyles, GetStyleSheetText, CollectClassNames}
-use Rattle.cdp_messages.specs.declared.command.Command.TheVariants.{SetStyleTexts, SetRuleSelector, SetStyleSheetText, AddRule}
-use Rattle.cdp_messages.specs.declared.command.Command.TheVariants.{SetBreakpoint, RemoveBreakpoint, ReplayLoad, ReplayAct}
 use Rattle.cdp_messages.specs.declared.down.ReplyBody.{ReplyBody}
 use Rattle.cdp_messages.specs.declared.down.ReplyBody.TheVariants as body
 use Rattle.cdp_messages.specs.declared.edits.TextEdit.{TextEdit}
 use Rattle.cdp_messages.specs.Moves.{Move, rewritten, replied}
-use Rattle.css_agent.specs.declared.edits.CssEdit.{CssEdit}
-use Rattle.css_agent.specs.declared.edits.CssEdit.TheVariants as edit
+use Rattle.cdp_messages.specs.declared.css_edit.CssEdit.{CssEdit}
+use Rattle.cdp_messages.specs.declared.css_edit.CssEdit.TheVariants as edit
 use Rattle.css_agent.specs.RuleObjects.{told_rule}
-
--- the edit that a command is, if it is one
-abbrev pub css_edit_in : Command → Option CssEdit
-css_edit_in DomEnable = None
-css_edit_in DomDisable = None
-css_edit_in (GetDocument depth pierce) = None
-css_edit_in (RequestChildNodes node depth pierce) = None
-css_edit_in (PushByPath path) = None
-css_edit_in (PushBySerials serials) = None
-css_edit_in (QuerySelector node selector) = None
-css_edit_in (QuerySelectorAll node selector) = None
-css_edit_in (GetAttributes node) = None
-css_edit_in (DescribeNode id serial depth pierce) = None
-css_edit_in (SetAttributeValue node name value) = None
-css_edit_in (RemoveAttribute node name) = None
-css_edit_in (SetNodeValue node value) = None
-css_edit_in (RemoveNode node) = None
-css_edit_in (MoveTo node target before) = None
-css_edit_in (CopyTo node target before) = None
-css_edit_in MarkUndoableState = None
-css_edit_in Undo = None
-css_edit_in Redo = None
-css_edit_in CssEnable = None
-css_edit_in CssDisable = None
-css_edit_in (GetMatchedStyles id) = None
-css_edit_in (GetStyleSheetText sheet) = None
-css_edit_in (CollectClassNames sheet) = None
-css_edit_in (SetStyleTexts edits) = Some (edit.SetStyleTexts edits)
-css_edit_in (SetRuleSelector sheet range selector) = Some (edit.SetRuleSelector sheet range selector)
-css_edit_in (SetStyleSheetText sheet text) = Some (edit.SetStyleSheetText sheet text)
-css_edit_in (AddRule sheet rule_text location) = Some (edit.AddRule sheet rule_text location)
-css_edit_in (SetBreakpoint node kind) = None
-css_edit_in (RemoveBreakpoint node kind) = None
-css_edit_in (ReplayLoad params) = None
-css_edit_in (ReplayAct params) = None
 
 -- ---- from a command's words to those of edits
 

@@ -6,12 +6,10 @@ ghost use Rattle.css_agent.specs.Told.{turn_messages, event_messages, message_fr
 ghost use Rattle.css_agent.specs.Asks.{NodeIsThere, css_outcome, answer_move};
 ghost use Rattle.css_agent.specs.Edits.{css_edited, edit_splices, edit_moves};
 
-use crate::asks::CssAsk;
 use crate::edit_outcomes::{Done, css_edited};
-use crate::edits::CssEdit;
 use crate::frames::{answer, tell_edit, tell_sheets_if};
 use crate::outcomes::css_outcome;
-use cdp_messages::{Event, write_event};
+use cdp_messages::{CssAsk, CssEdit, Event, write_event};
 use page_tree::Page;
 use sheet_reader::SheetBook;
 use std::alloc::{AllocError, Global};

@@ -6,8 +6,7 @@ ghost use Rattle.css_agent.specs.Edits.{css_done, one_done, styles_set, selector
 
 use crate::edit_words::{line_range, sheet_number, style_edits};
 use crate::edited_rules::{styles_at, told_at};
-use crate::edits::CssEdit;
-use cdp_messages::{Listed, ReplyBody, TextEdit};
+use cdp_messages::{CssEdit, Listed, ReplyBody, TextEdit};
 use css_objects::SourceRange;
 use sheet_reader::SheetBook;
 use std::alloc::{AllocError, Global};

@@ -2,12 +2,10 @@
 #![tactic(auto)]
 
 mod agent;
-mod asks;
 mod class_names;
 mod edit_outcomes;
 mod edit_words;
 mod edited_rules;
-mod edits;
 mod frames;
 mod headers;
 mod laws;
@@ -19,8 +17,6 @@ mod styles;
 mod units;
 
 pub use agent::CssAgent;
-pub use asks::CssAsk;
-pub use edits::CssEdit;
 pub use headers::told_header;
 pub use laws::edit_law;
 pub use outcomes::sheet_named;

@@ -7,10 +7,9 @@ ghost use Rattle.css_agent.specs.ClassNames.{class_names};
 ghost use Rattle.css_agent.specs.MatchedStyles.{matched_styles};
 ghost use Rattle.css_agent.specs.Asks.{if_sheet, sheet_named, NodeIsThere, css_outcome};
 
-use crate::asks::CssAsk;
 use crate::class_names::class_names;
 use crate::matched_styles::matched_styles;
-use cdp_messages::{Listed, ReplyBody, Why};
+use cdp_messages::{CssAsk, Listed, ReplyBody, Why};
 use css_objects::sheet_in;
 use page_tree::{NodeRef, Page};
 use sheet_reader::{SheetBook, SheetEntry};

@@ -16,7 +16,8 @@ use Rattle.cdp_json.specs.Plain.{is_plain, HasUtf8}
 use Rattle.cdp_json.proofs.ReadBack.{IsUtf8-compact_text}
 use Rattle.css_objects.specs.Sheets.{sheet_text}
 use Rattle.pipe_frames.specs.Frames.{IsText}
-use Rattle.cdp_messages.specs.declared.command.Command.TheVariants.{GetStyleSheetText}
+use Rattle.cdp_messages.specs.declared.command.Command.TheVariants.{AskCss}
+use Rattle.cdp_messages.specs.declared.css_ask.CssAsk.TheVariants as css
 use Rattle.cdp_messages.specs.Asked.{command_value, command_text, asked_value, asked}
 use Rattle.cdp_messages.proofs.Commands.{ask_plain}
 use Rattle.cdp_messages.proofs.Messages.{json_of-compact_text}
@@ -107,11 +108,12 @@ fetcher-asks count sheet few fits = sent-fetch count sheet (fetch-small count fe
 
 -- what the back end reads in a fetch
 value_asked : (id sheet : ℕ) → is_counted id ≡ true
-    → asked_value false (Some (fetch_value id sheet)) ≡ Ok (record { id = id; command = GetStyleSheetText (sheet_text sheet) })
+    → asked_value false (Some (fetch_value id sheet)) ≡ Ok (record { id = id; command = AskCss (css.GetStyleSheetText (sheet_text sheet)) })
 value_asked id sheet small = rw small
 
 pub fetcher-asked : (count sheet : ℕ) → count + 1 ≤ most_fetches → sheet < 2 ^ 64
-    → asked (front_fetcher.text count sheet) false ≡ Ok (record { id = 2 ^ 30 + count; command = GetStyleSheetText (sheet_text sheet) })
+    → asked (front_fetcher.text count sheet) false
+    ≡ Ok (record { id = 2 ^ 30 + count; command = AskCss (css.GetStyleSheetText (sheet_text sheet)) })
 fetcher-asked count sheet few fits =
     let id : ℕ = 2 ^ 30 + count in
     let c : is_counted id ≡ true = lt-ltb id (2 ^ 53) (fetch-small count few) in

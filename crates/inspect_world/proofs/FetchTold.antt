@@ -13,7 +13,7 @@ use Rattle.cdp_json.specs.declared.fields.Field.TheVariants.{Is}
 use Rattle.cdp_json.specs.Lookups.{then_ok, required, with_later}
 use Rattle.css_objects.specs.Sheets.{sheet_text, is_sheet, is_text_of, sheet_in}
 use Rattle.cdp_messages.specs.declared.command.Command.{Command}
-use Rattle.cdp_messages.specs.declared.command.Command.TheVariants.{GetStyleSheetText}
+use Rattle.cdp_messages.specs.declared.command.Command.TheVariants.{AskCss}
 use Rattle.cdp_messages.specs.declared.command.Why.{Why}
 use Rattle.cdp_messages.specs.declared.command.Param.TheVariants as param
 use Rattle.cdp_messages.specs.declared.command.Why.TheVariants.{BadParam, NoSession, DomOff, CssOff, NoSheet}
@@ -26,10 +26,9 @@ use Rattle.cdp_messages.specs.Views.{ShownSheet, shown_text}
 use Rattle.sheet_reader.specs.declared.book.SheetEntry.{SheetEntry}
 use Rattle.sheet_reader.specs.Books.{entry_of}
 use Rattle.css_agent.specs.Asks.{sheet_named}
-use Rattle.css_agent.specs.declared.asks.CssAsk.TheVariants as css
+use Rattle.cdp_messages.specs.declared.css_ask.CssAsk.TheVariants as css
 use Rattle.front_mirror.specs.declared.replies.Ask.{Ask}
 use Rattle.back_end.specs.States.{State, book_in}
-use Rattle.back_end.specs.Servers.{css_agent}
 use Rattle.back_end.specs.Steps.{Step, refusing, text_answer, command_step, asked_step, frame_step}
 use Rattle.back_end.specs.Sheets.{as_book}
 use Rattle.inspect_world.specs.Fits as fits
@@ -77,7 +76,7 @@ pub record TextAsked (frame : List ℕ) (id sheet : ℕ) : Type 0 where
   pub text : List ℕ
   pub names : sheet_told text ≡ Some sheet
   pub session : Option Data
-  pub asks : asked frame false ≡ asked_by id (unless_session session (Ok (GetStyleSheetText text)))
+  pub asks : asked frame false ≡ asked_by id (unless_session session (Ok (AskCss (css.GetStyleSheetText text))))
 
 -- the method and the parameters of a fetch
 record FetchParts (id : ℕ) (method : List ℕ) (params : Option Data) (sheet : ℕ) : Type 0 where
@@ -114,13 +113,13 @@ fetch-parts id method params sheet false false is e = absurd cc
 
 -- the command that they are
 fetch-command : (id : ℕ) (method : List ℕ) (params session : Option Data) (sheet : ℕ) → (p : FetchParts id method params sheet)
-    → command_of false method params session ≡ unless_session session (Ok (GetStyleSheetText p.text))
+    → command_of false method params session ≡ unless_session session (Ok (AskCss (css.GetStyleSheetText p.text)))
 fetch-command id method params session sheet p =
     ap (λ m. command_of false m params session) p.method_is
     ∙ ap (λ ps. then_ok ps (λ ms. unless_session session (command_for false (codes "CSS.getStyleSheetText") ms))) p.params_are
     ∙ ap (λ f. unless_session session
     (then_ok (then_ok (required (BadParam param.StyleSheetId) f) (with_later (λ _. Ok tt) p.members))
-    (λ x. Ok (GetStyleSheetText x.0)))) p.text_is
+    (λ x. Ok (AskCss (css.GetStyleSheetText x.0))))) p.text_is
 
 pub text-asked : (frame : List ℕ) (ask : Ask) (sheet : ℕ) → ask_of_frame frame ≡ Some ask → ask.sheet ≡ Some sheet
     → TextAsked frame ask.id sheet
@@ -177,7 +176,7 @@ named-id text sheet book e told named =
     entry-id n.0 book e n.2 ∙ told-same n.0 sheet text n.1 told
 
 answered-asked : (id sheet : ℕ) (state : State) (text : List ℕ) (session : Option Data) → sheet_told text ≡ Some sheet
-    → FetchAnswered id sheet state (asked_step (asked_by id (unless_session session (Ok (GetStyleSheetText text)))) state)
+    → FetchAnswered id sheet state (asked_step (asked_by id (unless_session session (Ok (AskCss (css.GetStyleSheetText text))))) state)
 answered-asked id sheet state text (Some session) told = not_told NoSession
 answered-asked id sheet state text None told =
     answered-on id sheet state.client.dom_on state.client.css_on state
@@ -195,7 +194,7 @@ fetch-answered frame ask sheet state is fetches =
 pub shown-told : (id sheet : ℕ) (text : List ℕ) (state : State) → state.client.dom_on ≡ true → state.client.css_on ≡ true → sheet < 2 ^ 53
     → is_sheet sheet ≡ true
     → shown_text sheet state.side.sheets ≡ Some text
-    → command_step id (css_agent (css.GetStyleSheetText (sheet_text sheet))) state
+    → command_step id (AskCss (css.GetStyleSheetText (sheet_text sheet))) state
     ≡ record { state = state; moves = texted id sheet text ∷ [] }
 shown-told id sheet text state dom css small is shown =
     let e : IsEntryOf sheet text (book_in state) = book-entry sheet text state.side.sheets shown in

@@ -9,25 +9,26 @@ use Rattle.cdp_messages.specs.declared.command.Refused.{Refused}
 use Rattle.cdp_messages.specs.declared.command.Why.{Why}
 use Rattle.cdp_messages.specs.declared.command.Why.TheVariants.{DomOff, CssOff}
 use Rattle.cdp_messages.specs.declared.command.Command.{Command}
-use Rattle.cdp_messages.specs.declared.command.Command.TheVariants.{DomEnable, DomDisable, GetDocument, RequestChildNodes, PushByPath}
-use Rattle.cdp_messages.specs.declared.command.Command.TheVariants.{PushBySerials, QuerySelector, QuerySelectorAll, GetAttributes}
-use Rattle.cdp_messages.specs.declared.command.Command.TheVariants.{DescribeNode, SetAttributeValue, RemoveAttribute, SetNodeValue}
-use Rattle.cdp_messages.specs.declared.command.Command.TheVariants.{RemoveNode, MoveTo, CopyTo, MarkUndoableState, Undo, Redo, CssEnable}
-use Rattle.cdp_messages.specs.declared.command.Command.TheVariants.{CssDisable, GetMatchedStyles, GetStyleSheetText, CollectClassNames}
-use Rattle.cdp_messages.specs.declared.command.Command.TheVariants.{SetStyleTexts, SetRuleSelector, SetStyleSheetText, AddRule}
-use Rattle.cdp_messages.specs.declared.command.Command.TheVariants.{SetBreakpoint, RemoveBreakpoint, ReplayLoad, ReplayAct}
+use Rattle.cdp_messages.specs.declared.dom_ask.DomAsk.{DomAsk}
+use Rattle.cdp_messages.specs.declared.dom_edit.DomEdit.{DomEdit}
+use Rattle.cdp_messages.specs.declared.css_edit.CssEdit.{CssEdit}
+use Rattle.cdp_messages.specs.declared.command.Command.TheVariants.{DomEnable, DomDisable, CssEnable, CssDisable, AskDom, EditDom, AskCss}
+use Rattle.cdp_messages.specs.declared.command.Command.TheVariants.{EditCss, MarkUndoableState, Undo, Redo, SetBreakpoint, RemoveBreakpoint}
+use Rattle.cdp_messages.specs.declared.command.Command.TheVariants.{ReplayLoad, ReplayAct}
+use Rattle.cdp_messages.specs.declared.dom_ask.DomAsk.TheVariants as ask
+use Rattle.cdp_messages.specs.declared.dom_edit.DomEdit.TheVariants as tree
+use Rattle.cdp_messages.specs.declared.css_edit.CssEdit.TheVariants as style
 use Rattle.cdp_messages.specs.declared.down.ReplyBody.{ReplyBody}
 use Rattle.cdp_messages.specs.declared.down.ReplyBody.TheVariants as body
 use Rattle.cdp_messages.specs.Asked.{asked, method_name}
 use Rattle.cdp_messages.specs.Laws.{answers}
 use Rattle.cdp_messages.specs.Moves.{Move, change, clear, met, added, dropped, rewritten, root, texted, replied, all_off, sheets_off}
 use Rattle.cdp_messages.specs.Moves.{failed}
-use Rattle.css_agent.specs.declared.asks.CssAsk.TheVariants as css
+use Rattle.cdp_messages.specs.declared.css_ask.CssAsk.TheVariants as css
 use Rattle.front_mirror.specs.declared.replies.MatchedReply.{MatchedReply}
 use Rattle.front_mirror.specs.Front.{matched_told}
 use Rattle.front_mirror.specs.Laws.{matched_after}
 use Rattle.back_end.specs.States.{State}
-use Rattle.back_end.specs.Servers.{server_of}
 use Rattle.back_end.specs.Steps.{Step, refusing, element_named, node_answer, command_step, asked_step, frame_step}
 use Rattle.back_end.specs.Laws.{reply_ids, MayAnswerAll, IsAnswered}
 use Rattle.inspect_world.specs.RunStates.{ToldStyles, told_styles, styles_of_element, if_named, styles_asked, styles_answered}
@@ -115,41 +116,50 @@ styles-on id node state true true (Err why) = refl
 other : (c : Command) (ms : List Move) → Never (method_name c) → MayAnswerAll (method_name c) ms → styles_in ms ≡ []
 other c ms never may = ap (map kept_styles) (no-styles (method_name c) ms never may)
 
-styles-command : (id : ℕ) (c : Command) (state : State) (ms : List Move) → ms ≡ (command_step id (server_of c) state).moves
+-- nothing that the DOM agent is asked, and no edit, has a result of matched styles
+ask-never : (a : DomAsk) → Never (method_name (AskDom a))
+ask-never (ask.GetDocument depth pierce) m e = absurd cc
+ask-never (ask.RequestChildNodes node depth pierce) m e = absurd cc
+ask-never (ask.PushByPath path) m e = absurd cc
+ask-never (ask.PushBySerials serials) m e = absurd cc
+ask-never (ask.QuerySelector node selector) m e = absurd cc
+ask-never (ask.QuerySelectorAll node selector) m e = absurd cc
+ask-never (ask.GetAttributes node) m e = absurd cc
+ask-never (ask.DescribeNode id serial depth pierce) m e = absurd cc
+
+edit-never : (e : DomEdit) → Never (method_name (EditDom e))
+edit-never (tree.SetAttributeValue node name value) m e = absurd cc
+edit-never (tree.RemoveAttribute node name) m e = absurd cc
+edit-never (tree.SetNodeValue node value) m e = absurd cc
+edit-never (tree.RemoveNode node) m e = absurd cc
+edit-never (tree.MoveTo node target before) m e = absurd cc
+edit-never (tree.CopyTo node target before) m e = absurd cc
+
+sheet-edit-never : (e : CssEdit) → Never (method_name (EditCss e))
+sheet-edit-never (style.SetStyleTexts edits) m e = absurd cc
+sheet-edit-never (style.SetRuleSelector sheet range selector) m e = absurd cc
+sheet-edit-never (style.SetStyleSheetText sheet text) m e = absurd cc
+sheet-edit-never (style.AddRule sheet rule_text location) m e = absurd cc
+
+styles-command : (id : ℕ) (c : Command) (state : State) (ms : List Move) → ms ≡ (command_step id c state).moves
     → MayAnswerAll (method_name c) ms
     → styles_in ms ≡ styles_asked (Ok (record { id = id; command = c })) state
 styles-command id DomEnable state ms is may = other DomEnable ms (λ m e. absurd cc) may
 styles-command id DomDisable state ms is may = other DomDisable ms (λ m e. absurd cc) may
-styles-command id (GetDocument depth pierce) state ms is may = other (GetDocument depth pierce) ms (λ m e. absurd cc) may
-styles-command id (RequestChildNodes node depth pierce) state ms is may = other (RequestChildNodes node depth pierce) ms
-    (λ m e. absurd cc) may
-styles-command id (PushByPath path) state ms is may = other (PushByPath path) ms (λ m e. absurd cc) may
-styles-command id (PushBySerials serials) state ms is may = other (PushBySerials serials) ms (λ m e. absurd cc) may
-styles-command id (QuerySelector node selector) state ms is may = other (QuerySelector node selector) ms (λ m e. absurd cc) may
-styles-command id (QuerySelectorAll node selector) state ms is may = other (QuerySelectorAll node selector) ms (λ m e. absurd cc) may
-styles-command id (GetAttributes node) state ms is may = other (GetAttributes node) ms (λ m e. absurd cc) may
-styles-command id (DescribeNode node serial depth pierce) state ms is may = other (DescribeNode node serial depth pierce) ms
-    (λ m e. absurd cc) may
-styles-command id (SetAttributeValue node name value) state ms is may = other (SetAttributeValue node name value) ms (λ m e. absurd cc) may
-styles-command id (RemoveAttribute node name) state ms is may = other (RemoveAttribute node name) ms (λ m e. absurd cc) may
-styles-command id (SetNodeValue node value) state ms is may = other (SetNodeValue node value) ms (λ m e. absurd cc) may
-styles-command id (RemoveNode node) state ms is may = other (RemoveNode node) ms (λ m e. absurd cc) may
-styles-command id (MoveTo node target before) state ms is may = other (MoveTo node target before) ms (λ m e. absurd cc) may
-styles-command id (CopyTo node target before) state ms is may = other (CopyTo node target before) ms (λ m e. absurd cc) may
+styles-command id (AskDom a) state ms is may = other (AskDom a) ms (ask-never a) may
+styles-command id (EditDom e) state ms is may = other (EditDom e) ms (edit-never e) may
 styles-command id MarkUndoableState state ms is may = other MarkUndoableState ms (λ m e. absurd cc) may
 styles-command id Undo state ms is may = other Undo ms (λ m e. absurd cc) may
 styles-command id Redo state ms is may = other Redo ms (λ m e. absurd cc) may
 styles-command id CssEnable state ms is may = other CssEnable ms (λ m e. absurd cc) may
 styles-command id CssDisable state ms is may = other CssDisable ms (λ m e. absurd cc) may
-styles-command id (GetMatchedStyles node) state ms is may = ap styles_in is ∙ styles-on id node state state.client.dom_on
+styles-command id (AskCss (css.GetMatchedStyles node)) state ms is may = ap styles_in is ∙ styles-on id node state state.client.dom_on
     state.client.css_on (element_named node state)
-styles-command id (GetStyleSheetText sheet) state ms is may = other (GetStyleSheetText sheet) ms (λ m e. absurd cc) may
-styles-command id (CollectClassNames sheet) state ms is may = other (CollectClassNames sheet) ms (λ m e. absurd cc) may
-styles-command id (SetStyleTexts edits) state ms is may = other (SetStyleTexts edits) ms (λ m e. absurd cc) may
-styles-command id (SetRuleSelector sheet range selector) state ms is may = other (SetRuleSelector sheet range selector) ms
-    (λ m e. absurd cc) may
-styles-command id (SetStyleSheetText sheet text) state ms is may = other (SetStyleSheetText sheet text) ms (λ m e. absurd cc) may
-styles-command id (AddRule sheet rule_text location) state ms is may = other (AddRule sheet rule_text location) ms (λ m e. absurd cc) may
+styles-command id (AskCss (css.GetStyleSheetText sheet)) state ms is may =
+    other (AskCss (css.GetStyleSheetText sheet)) ms (λ m e. absurd cc) may
+styles-command id (AskCss (css.CollectClassNames sheet)) state ms is may =
+    other (AskCss (css.CollectClassNames sheet)) ms (λ m e. absurd cc) may
+styles-command id (EditCss e) state ms is may = other (EditCss e) ms (sheet-edit-never e) may
 styles-command id (SetBreakpoint node kind) state ms is may = other (SetBreakpoint node kind) ms (λ m e. absurd cc) may
 styles-command id (RemoveBreakpoint node kind) state ms is may = other (RemoveBreakpoint node kind) ms (λ m e. absurd cc) may
 styles-command id (ReplayLoad params) state ms is may = other (ReplayLoad params) ms (λ m e. absurd cc) may
@@ -162,7 +172,7 @@ styles-result : (r : Result Asked Refused) (frame : List ℕ) (state : State) �
     → styles_in (frame_step false frame state).moves ≡ styles_asked r state
 styles-result (Ok a) frame state is answered =
     let step_is : (frame_step false frame state).moves
-    ≡ (command_step a.id (server_of a.command) state).moves = ap (λ r. (asked_step r state).moves) is in
+    ≡ (command_step a.id a.command state).moves = ap (λ r. (asked_step r state).moves) is in
     styles-command a.id a.command state (frame_step false frame state).moves step_is answered.1
 styles-result (Err r) frame state is answered = ap styles_in answered
 

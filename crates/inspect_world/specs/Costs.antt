@@ -3,7 +3,6 @@ use Rattle.std.specs.Prelude.{ℕ, ◌+◌, List, [], ◌∷◌, length, false, 
 use Rattle.cdp_messages.specs.declared.command.Command.{Command}
 use Rattle.cdp_messages.specs.declared.command.Why.{Why}
 use Rattle.cdp_messages.specs.Asked.{command_of}
-use Rattle.back_end.specs.Servers.{server_of}
 use Rattle.back_end.specs.Laws.{most_edits}
 use Rattle.replay_script.specs.Forms as forms
 use Rattle.replay_script.specs.Forms.{AskForm, LineForm, load, ask, up, down, settle, show_front, show_page, show_sheets, show_replies}
@@ -11,7 +10,7 @@ use Rattle.replay_script.specs.Forms.{show_pauses, show_styles}
 
 -- how many edits a command comes to at most; a refusal comes to none
 abbrev pub edits_commanded : Result Command Why → ℕ
-edits_commanded (Ok c) = most_edits (server_of c)
+edits_commanded (Ok c) = most_edits c
 edits_commanded (Err why) = 0
 
 -- how many edits an ask comes to at most

@@ -8,8 +8,8 @@ use Rattle.cdp_messages.specs.declared.command.Asked.{Asked}
 use Rattle.cdp_messages.specs.declared.command.Refused.{Refused}
 use Rattle.cdp_messages.specs.declared.command.Why.{Why}
 use Rattle.cdp_messages.specs.Asked.{asked}
-use Rattle.css_agent.specs.declared.asks.CssAsk.{CssAsk}
-use Rattle.css_agent.specs.declared.asks.CssAsk.TheVariants as css
+use Rattle.cdp_messages.specs.declared.css_ask.CssAsk.{CssAsk}
+use Rattle.cdp_messages.specs.declared.css_ask.CssAsk.TheVariants as css
 use Rattle.css_agent.specs.Asks.{css_ask_in}
 use Rattle.css_agent.specs.MatchedStyles.{matched_styles}
 use Rattle.back_end.specs.States.{State, book_in, loaded_state}

@@ -1,6 +1,6 @@
 -- A client's edit of sheets is carried out by the CSS agent, while both domains are on, or else refused.
 use Rattle.std.proofs.Common.{Err, refl, sym, ap, ◌∙◌}
-use Rattle.back_end.specs.Servers.{edits_sheets}
+use Rattle.cdp_messages.specs.declared.command.Command.TheVariants.{EditCss}
 use Rattle.back_end.proofs.SeatLemmas.{on_ok}
 use Rattle.back_end.proofs.SheetSeats.{dom-off-sent, css-off-sent}
 use Rattle.back_end.proofs.ScriptLemmas.{in_any}
@@ -11,13 +11,13 @@ use Rattle.back_end.proofs.desk.Desk.answer_sheet_edit.Goals as goal
 pub returns-then-not-self-clause-stands : goal.returns-then-not-self-clause-stands
 returns-then-not-self-clause-stands c = λ state both.
     in_any c.refuse.result _ (off-both c.args.self.now c.args.history.now c.args.side.now state c.args.id
-    (edits_sheets c.args.edit.now) refl both c.if-not-self.true)
+    (EditCss c.args.edit.now) refl both c.if-not-self.true)
 
 pub returns-then-not-is_on-clause-stands : goal.returns-then-not-is_on-clause-stands
 returns-then-not-is_on-clause-stands c = λ state both.
     in_any c.refuse-then-not-is_on.result _
     (css-off-both c.args.self.now c.args.history.now c.args.side.now state c.args.id
-    (edits_sheets c.args.edit.now) refl both c.if-not-self.false (sym c.if-not-is_on.ensures))
+    (EditCss c.args.edit.now) refl both c.if-not-self.false (sym c.if-not-is_on.ensures))
 
 pub returns-in-Err-Fault-clause-stands : goal.returns-in-Err-Fault-clause-stands
 returns-in-Err-Fault-clause-stands c = λ state both.
@@ -32,13 +32,13 @@ pub returns-then-not-self-clause-sent : goal.returns-then-not-self-clause-sent
 returns-then-not-self-clause-sent c = λ state stands.
     on_ok c.refuse.result _ _ (c.refuse.ensures state)
     (dom-off-sent c.args.self.now c.args.side.now state c.args.id
-    (edits_sheets c.args.edit.now) c.args.out.now.items c.refuse.new.out.items refl stands c.if-not-self.true)
+    (EditCss c.args.edit.now) c.args.out.now.items c.refuse.new.out.items refl stands c.if-not-self.true)
 
 pub returns-then-not-is_on-clause-sent : goal.returns-then-not-is_on-clause-sent
 returns-then-not-is_on-clause-sent c = λ state stands.
     on_ok c.refuse-then-not-is_on.result _ _ (c.refuse-then-not-is_on.ensures state)
     (css-off-sent c.args.self.now c.args.side.now state c.args.id
-    (edits_sheets c.args.edit.now) c.args.out.now.items c.refuse-then-not-is_on.new.out.items refl stands
+    (EditCss c.args.edit.now) c.args.out.now.items c.refuse-then-not-is_on.new.out.items refl stands
     c.if-not-self.false (sym c.if-not-is_on.ensures))
 
 pub returns-in-Err-Fault-clause-sent : goal.returns-in-Err-Fault-clause-sent

@@ -2,7 +2,7 @@
 use Rattle.std.proofs.Common.{◌++◌, refl, sym, ap, subst, ◌∙◌, Err}
 use Rattle.cdp_messages.specs.Moves.{frames_of_moves}
 use Rattle.std.specs.FinMap as map
-use Rattle.back_end.specs.Servers.{edits_tree}
+use Rattle.cdp_messages.specs.declared.command.Command.TheVariants.{EditDom}
 use Rattle.back_end.specs.Texts.{HasTreeTexts}
 use Rattle.back_end.specs.Steps.{Step, edit_named}
 use Rattle.back_end.proofs.SeatLemmas.{on_ok}
@@ -16,13 +16,13 @@ use Rattle.back_end.proofs.desk.Desk.answer_tree_edit.Goals as goal
 pub returns-then-not-self-clause-stands : goal.returns-then-not-self-clause-stands
 returns-then-not-self-clause-stands c = λ state both.
     in_any c.refuse.result _ (off-both c.args.self.now c.args.history.now c.args.side.now state c.args.id
-    (edits_tree c.args.edit) refl both c.if-not-self.true)
+    (EditDom c.args.edit) refl both c.if-not-self.true)
 
 pub returns-then-not-self-clause-sent : goal.returns-then-not-self-clause-sent
 returns-then-not-self-clause-sent c = λ state stands.
     on_ok c.refuse.result _ _ (c.refuse.ensures state)
     (dom-off-sent c.args.self.now c.args.side.now state c.args.id
-    (edits_tree c.args.edit) c.args.out.now.items c.refuse.new.out.items refl stands c.if-not-self.true)
+    (EditDom c.args.edit) c.args.out.now.items c.refuse.new.out.items refl stands c.if-not-self.true)
 
 pub answer_node_edit-requires-clause-plain : goal.answer_node_edit-requires-clause-plain
 answer_node_edit-requires-clause-plain c =

@@ -1,6 +1,6 @@
 -- `DOM.disable` is carried out, or refused while DOM is off.
 use Rattle.std.proofs.Common.{refl}
-use Rattle.back_end.specs.Servers.{disables}
+use Rattle.cdp_messages.specs.declared.command.Command.TheVariants.{DomDisable}
 use Rattle.back_end.proofs.SeatLemmas.{on_ok, disabled-stands, off-sent}
 use Rattle.back_end.proofs.ScriptLemmas.{in_any}
 use Rattle.back_end.proofs.KeepSeats.{off-both, disabled-both}
@@ -8,7 +8,7 @@ use Rattle.back_end.proofs.desk.Desk.disable.Goals as goal
 
 pub returns-then-not-self-clause-stands : goal.returns-then-not-self-clause-stands
 returns-then-not-self-clause-stands c = λ state both.
-    in_any c.refuse.result _ (off-both c.args.self.now c.args.history.now c.args.side.now state c.args.id disables refl both
+    in_any c.refuse.result _ (off-both c.args.self.now c.args.history.now c.args.side.now state c.args.id DomDisable refl both
     c.if-not-self.true)
 
 pub returns-then-not-self-clause-sent : goal.returns-then-not-self-clause-sent

@@ -2,7 +2,7 @@
 use Rattle.std.proofs.Common.{ℕ, refl, ap, ◌∙◌}
 use Rattle.cdp_messages.specs.declared.command.WatchWord.{WatchWord}
 use Rattle.dom_breakpoints.specs.Watched.{without_watch}
-use Rattle.back_end.specs.Servers.{unwatches}
+use Rattle.cdp_messages.specs.declared.command.Command.TheVariants.{RemoveBreakpoint}
 use Rattle.back_end.specs.Steps.{watch_kind}
 use Rattle.back_end.proofs.SeatLemmas.{on_ok}
 use Rattle.back_end.proofs.ScriptLemmas.{in_any}
@@ -11,14 +11,14 @@ use Rattle.back_end.proofs.WatchSteps.{without-adds}
 use Rattle.back_end.proofs.WatchSeats.{Changes, unknown-sent, changed-stands}
 use Rattle.back_end.proofs.desk.Desk.unwatch.Goals as goal
 
-changes : (node : ℕ) (word : WatchWord) → Changes (unwatches node word) (without_watch (watch_kind word)) node
+changes : (node : ℕ) (word : WatchWord) → Changes (RemoveBreakpoint node word) (without_watch (watch_kind word)) node
 changes node word = record { step = λ id state. refl; plain = refl; adds = without-adds (watch_kind word) }
 
 pub returns-then-not-self-clause-sent : goal.returns-then-not-self-clause-sent
 returns-then-not-self-clause-sent c = λ state stands.
     on_ok c.refuse.result _ _ (c.refuse.ensures state)
     (dom-off-sent c.args.self.now c.args.side.now state c.args.id
-    (unwatches c.args.node c.args.kind) c.args.out.now.items c.refuse.new.out.items refl stands c.if-not-self.true)
+    (RemoveBreakpoint c.args.node c.args.kind) c.args.out.now.items c.refuse.new.out.items refl stands c.if-not-self.true)
 
 pub returns-in_default-clause-sent : goal.returns-in_default-clause-sent
 returns-in_default-clause-sent c = λ state stands.

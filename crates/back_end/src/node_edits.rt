@@ -3,53 +3,16 @@ ghost use Rattle.std.specs.Prelude.{◌≡◌, map as mapped, IfOk};
 ghost use Rattle.std.specs.Char.{to_ascii_lowercase};
 ghost use Rattle.std.specs.FinMap as map;
 ghost use Rattle.back_end.specs.Plans.{node_edit_fault};
-ghost use Rattle.back_end.specs.declared.dom_edits.DomEdit.TheVariants.{MoveTo, CopyTo};
+ghost use Rattle.cdp_messages.specs.declared.dom_edit.DomEdit.TheVariants.{MoveTo, CopyTo};
 ghost use Rattle.back_end.specs.Steps.{before_by, edit_named, lowered};
 
-use cdp_messages::Why;
+use cdp_messages::{DomEdit, Why};
 use dom_agent::DomAgent;
 use node_tree::Text;
 use page_tree::{EditFault, Page, TreeEdit};
 use std::alloc::{AllocError, Global};
 
-/// What a client wants changed in the page's tree. Nodes are named by their ids.
-#[derive(Drop)]
-pub(crate) enum DomEdit {
-    /// `DOM.setAttributeValue`
-    SetAttributeValue {
-        node: u64,
-        name: Text,
-        value: Text,
-    },
-    /// `DOM.removeAttribute`
-    RemoveAttribute {
-        node: u64,
-        name: Text,
-    },
-    /// `DOM.setNodeValue`
-    SetNodeValue {
-        node: u64,
-        value: Text,
-    },
-    /// `DOM.removeNode`
-    RemoveNode {
-        node: u64,
-    },
-    /// `DOM.moveTo`: last in the target where `before` is absent.
-    MoveTo {
-        node: u64,
-        target: u64,
-        before: Option<u64>,
-    },
-    /// `DOM.copyTo`: last in the target where `before` is absent.
-    CopyTo {
-        node: u64,
-        target: u64,
-        before: Option<u64>,
-    },
-}
-
-/// The same with nodes by their serials; `before` is 0 for the last place.
+/// What a client wants changed in the page's tree, with nodes by their serials; `before` is 0 for the last place.
 #[derive(Drop)]
 pub(crate) enum NodeEdit {
     /// One edit of the tree.
@@ -77,29 +40,29 @@ fn before_of(agent: &DomAgent, before: Option<u64>) -> Option<u64>
     }
 }
 
-impl DomEdit {
-    /// With names of attributes in ASCII lower case.
-    pub(crate) fn lowered(self, alloc: Global) -> Result<DomEdit, AllocError>
-        ensures { IfOk result (λ edit. edit ≡ lowered self) }
-    {
-        match self {
-            DomEdit::SetAttributeValue { node, name, value } => {
-                let name = lower(alloc, &name)?;
-                Ok(DomEdit::SetAttributeValue { node, name, value })
-            }
-            DomEdit::RemoveAttribute { node, name } => {
-                let name = lower(alloc, &name)?;
-                Ok(DomEdit::RemoveAttribute { node, name })
-            }
-            others => Ok(others),
+/// The edit with names of attributes in ASCII lower case.
+pub(crate) fn lowered(alloc: Global, edit: DomEdit) -> Result<DomEdit, AllocError>
+    ensures { IfOk result (λ done. done ≡ lowered edit) }
+{
+    match edit {
+        DomEdit::SetAttributeValue { node, name, value } => {
+            let name = lower(alloc, &name)?;
+            Ok(DomEdit::SetAttributeValue { node, name, value })
         }
+        DomEdit::RemoveAttribute { node, name } => {
+            let name = lower(alloc, &name)?;
+            Ok(DomEdit::RemoveAttribute { node, name })
+        }
+        others => Ok(others),
     }
+}
 
-    /// The same with nodes by their serials, where each is known.
-    pub(crate) fn named(self, agent: &DomAgent) -> Result<NodeEdit, Why>
-        ensures { result ≡ edit_named (map.get agent.now.serials) self }
+impl NodeEdit {
+    /// The edit with nodes by their serials, where each is known.
+    pub(crate) fn named(edit: DomEdit, agent: &DomAgent) -> Result<NodeEdit, Why>
+        ensures { result ≡ edit_named (map.get agent.now.serials) edit }
     {
-        match self {
+        match edit {
             DomEdit::SetAttributeValue { node, name, value } => {
                 let Some(node) = agent.serial_of(node) else {
                     return Err(Why::UnknownNode);
@@ -140,9 +103,7 @@ impl DomEdit {
             } => NodeEdit::copied(agent, node, target, before),
         }
     }
-}
 
-impl NodeEdit {
     /// A move of the node that has the id, where all its nodes are known.
     fn moved(agent: &DomAgent, node: u64, target: u64, before: Option<u64>) -> Result<NodeEdit, Why>
         ensures { result ≡ edit_named (map.get agent.now.serials) (MoveTo node target before) }

@@ -1,0 +1,39 @@
+// What a client edits of the tree.
+use node_tree::Text;
+
+/// What a client wants changed in the page's tree. Nodes are named by their ids.
+#[derive(Drop)]
+pub enum DomEdit {
+    /// `DOM.setAttributeValue`
+    SetAttributeValue {
+        node: u64,
+        name: Text,
+        value: Text,
+    },
+    /// `DOM.removeAttribute`
+    RemoveAttribute {
+        node: u64,
+        name: Text,
+    },
+    /// `DOM.setNodeValue`
+    SetNodeValue {
+        node: u64,
+        value: Text,
+    },
+    /// `DOM.removeNode`
+    RemoveNode {
+        node: u64,
+    },
+    /// `DOM.moveTo`: last in the target where `before` is absent.
+    MoveTo {
+        node: u64,
+        target: u64,
+        before: Option<u64>,
+    },
+    /// `DOM.copyTo`: last in the target where `before` is absent.
+    CopyTo {
+        node: u64,
+        target: u64,
+        before: Option<u64>,
+    },
+}
