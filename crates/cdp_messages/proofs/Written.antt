@@ -1,5 +1,5 @@
 -- What the writer of nodes writes.
-use Rattle.std.proofs.Common.{◌≡◌, ℕ, Bool, true, false, Option, Some, None, option_map, Vec, Global, refl, ap, ◌∙◌, subst}
+use Rattle.std.proofs.Common.{◌≡◌, ℕ, Bool, true, false, Option, Some, None, option_map, is_some, Vec, Global, refl, ap, ◌∙◌, subst}
 use Rattle.serde_json.specs.Data.{Items}
 use Rattle.node_tree.specs.Labels.{Label, holds}
 use Rattle.node_tree.specs.Nodes.{Branch, nodes_of}
