@@ -1,4 +1,3 @@
-pub mod PartLemmas
 pub mod AskedLemmas
 pub mod TextLemmas
 pub mod HistoryLemmas
