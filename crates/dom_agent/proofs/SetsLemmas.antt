@@ -228,21 +228,21 @@ serials_open page serials w valid begun t =
 -- ---- what a query opens
 
 pub first_found_opens : FirstFoundOpens
-first_found_opens page id text w q s valid asks found t =
+first_found_opens page id text w q s valid begun asked found t =
     let n : Nodes PageRow = alone page.tree in
     let P : Outcome Session → Type 0 = λ y. (is_open (state_after w y).opened t ≡ true)
     ↔ ((is_open w.opened t ≡ true) ⊎ IsAncestor page.tree s t) in
-    subst (λ (r : Result Query Why). P (of_query (session_keeper n) page.tree (first_asked (session_keeper n) page.tree) r w)) (sym asks.1)
+    subst (λ (r : Result Query Why). P (of_query (session_keeper n) page.tree (first_asked (session_keeper n) page.tree) r w)) (sym asked)
     (subst (λ (f : Option ℕ). P (with_first (session_keeper n) page.tree f w)) (sym found)
-    (path_by page valid w.opened w.pushed w.since s asks.0 t))
+    (path_by page valid w.opened w.pushed w.since s begun t))
 
 pub found_open : FoundOpen
-found_open page id text w q valid asks t =
+found_open page id text w q valid begun asked t =
     let n : Nodes PageRow = alone page.tree in
     subst (λ (r : Result Query Why).
     (is_open (state_after w (of_query (session_keeper n) page.tree (all_asked (session_keeper n) page.tree) r w)).opened t ≡ true)
-    ↔ ((is_open w.opened t ≡ true) ⊎ IsAncestorOfOne page.tree (all_matching q.selectors q.root page.tree) t)) (sym asks.1)
-    (serials_by page valid (all_matching q.selectors q.root page.tree) w.opened w.pushed w.since asks.0 t)
+    ↔ ((is_open w.opened t ≡ true) ⊎ IsAncestorOfOne page.tree (all_matching q.selectors q.root page.tree) t)) (sym asked)
+    (serials_by page valid (all_matching q.selectors q.root page.tree) w.opened w.pushed w.since begun t)
 
 -- ---- what becomes known by a request
 

@@ -1,10 +1,11 @@
 -- What the commands open, as sets of nodes of the page.
-use Rattle.std.specs.Prelude.{◌≡◌, ℕ, ℤ, pos, Bool, true, not, List, [], ◌∷◌, ◌++◌, filter, ◌↔◌, Option, Some, unwrap_or, Ok}
+use Rattle.std.specs.Prelude.{◌≡◌, ℕ, ℤ, pos, Bool, true, not, List, [], ◌∷◌, ◌++◌, filter, ◌↔◌, Option, Some, unwrap_or, Result, Ok}
 use Rattle.node_tree.specs.Nodes.{Nodes, none, node, Branch, alone}
 use Rattle.page_tree.specs.Pages.{PageRow, PageValue, IsValid}
 use Rattle.node_binding.specs.Counts.{stands_in}
 use Rattle.node_binding.specs.Openings.{levels_of}
 use Rattle.node_binding.specs.Sessions.{Session, IsSession, is_open, known_by, knows, serial_at}
+use Rattle.cdp_messages.specs.declared.command.Why.{Why}
 use Rattle.cdp_messages.specs.declared.dom_ask.DomAsk.TheVariants.{GetDocument, RequestChildNodes, PushByPath, PushBySerials, QuerySelector}
 use Rattle.cdp_messages.specs.declared.dom_ask.DomAsk.TheVariants.{QuerySelectorAll}
 use Rattle.dom_agent.specs.Keepers.{session_keeper}
@@ -79,19 +80,21 @@ abbrev pub SerialsOpen : Type 0
 SerialsOpen = (page : PageValue) (serials : List ℕ) (w : Session) → IsValid page → is_open w.opened page.tree.row.serial ≡ true
     → OpensAlso w (state_after w (session_outcome page (PushBySerials serials) w)) (IsAncestorOfOne page.tree serials)
 
--- what a query of a known node asks, of a client that has the document opened
-abbrev pub Asks : PageValue → Session → ℕ → List ℕ → Query → Type 0
-Asks page w id text q = (is_open w.opened page.tree.row.serial ≡ true)
-    × (query_of (known_node (session_keeper (alone page.tree)) page.tree w (serial_at w (alone page.tree) id)) text ≡ Ok q)
+-- what a query asks by this text, below the known node of this id
+abbrev pub query_asked : PageValue → Session → ℕ → List ℕ → Result Query Why
+query_asked page w id text =
+    query_of (known_node (session_keeper (alone page.tree)) page.tree w (serial_at w (alone page.tree) id)) text
 
--- a query for one node opens the proper ancestors of the first that matches
+-- once the document is opened, a query for one node opens the proper ancestors of the first that matches
 abbrev pub FirstFoundOpens : Type 0
-FirstFoundOpens = (page : PageValue) (id : ℕ) (text : List ℕ) (w : Session) (q : Query) (s : ℕ) → IsValid page → Asks page w id text q
+FirstFoundOpens = (page : PageValue) (id : ℕ) (text : List ℕ) (w : Session) (q : Query) (s : ℕ) → IsValid page
+    → is_open w.opened page.tree.row.serial ≡ true → query_asked page w id text ≡ Ok q
     → first_matching q.selectors q.root page.tree ≡ Some s
     → OpensAlso w (state_after w (session_outcome page (QuerySelector id text) w)) (IsAncestor page.tree s)
 
--- a query for all nodes opens the proper ancestors of each that matches
+-- and a query for all nodes those of each that matches
 abbrev pub FoundOpen : Type 0
-FoundOpen = (page : PageValue) (id : ℕ) (text : List ℕ) (w : Session) (q : Query) → IsValid page → Asks page w id text q
+FoundOpen = (page : PageValue) (id : ℕ) (text : List ℕ) (w : Session) (q : Query) → IsValid page
+    → is_open w.opened page.tree.row.serial ≡ true → query_asked page w id text ≡ Ok q
     → OpensAlso w (state_after w (session_outcome page (QuerySelectorAll id text) w))
     (IsAncestorOfOne page.tree (all_matching q.selectors q.root page.tree))
