@@ -5,7 +5,7 @@ ghost use Rattle.back_end.specs.States.{State};
 ghost use Rattle.cdp_messages.specs.declared.command.Command.TheVariants as commands;
 ghost use Rattle.back_end.specs.Steps.{command_step};
 ghost use Rattle.back_end.specs.Steps as steps;
-ghost use Rattle.back_end.specs.Seats.{DeskStandsFor, HasNumbersLeft};
+ghost use Rattle.back_end.specs.Seats.{DeskStandsFor};
 
 use crate::desk::Desk;
 use crate::side::PageSide;

@@ -1,5 +1,5 @@
 // What a script does to the page's sheets under the client's eyes.
-ghost use Rattle.std.specs.Prelude.{◌≡◌, ◌<◌, ◌^◌, ◌∷◌, ◌++◌, [], cond, false, length, map, Some, slice_get, ◌-◌, IsSome, IsUtf8, OnOk};
+ghost use Rattle.std.specs.Prelude.{◌≡◌, ◌<◌, ◌^◌, ◌++◌, [], cond, false, length, map, Some, slice_get, ◌-◌, IsSome, IsUtf8, OnOk};
 ghost use Rattle.std.specs.Prelude.{IfOk};
 ghost use Rattle.sheet_reader.specs.Books.{entry_of, removed};
 ghost use Rattle.sheet_reader.specs.declared.book.SheetEntry.{SheetEntry};

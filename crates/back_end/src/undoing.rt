@@ -1,5 +1,5 @@
 // A client takes its edits back, and does them again.
-ghost use Rattle.std.specs.Prelude.{◌≡◌, ◌+◌, ◌<◌, ◌≤◌, ◌^◌, ◌++◌, map, length, IfOk, OnOk};
+ghost use Rattle.std.specs.Prelude.{◌≡◌, ◌+◌, ◌<◌, ◌^◌, ◌++◌, map, length, IfOk, OnOk};
 ghost use Rattle.style_edits.specs.Splices.{FitsSplice, after_splice, back_splice};
 ghost use Rattle.undo_marks.specs.Changes.{AllTaken, after_all, back_all};
 ghost use Rattle.undo_marks.specs.SavedEdits.{saved_of, saved_sheet, page_after, way_back, TakesSheet};

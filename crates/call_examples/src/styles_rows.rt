@@ -2,8 +2,6 @@
 //
 // `switch` tells what is sent as the agent comes on twice. `classes` tells the answer with the names of the sheet's classes, and
 // `matched`, with a node's serial and the id that the ask names, the answer with its styles. The page has an element in another.
-ghost use Rattle.std.specs.Prelude.{◌≡◌};
-ghost use Rattle.css_agent.specs.Asks.{NodeIsThere};
 
 use crate::match_rows::page_of;
 use crate::row_parts::{Answer, number_or_zero, text_or_empty, value_of};

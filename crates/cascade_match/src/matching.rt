@@ -1,13 +1,12 @@
 //! The style rules that match an element, in the order in which they count.
 
-ghost use Rattle.std.specs.Prelude.{◌≡◌, ◌<◌, ◌++◌, ◌∷◌, [], cond, map, fold, filter, length, IfOk, OnOk, IsSome, Some, slice_get};
+ghost use Rattle.std.specs.Prelude.{◌≡◌, ◌<◌, ◌++◌, ◌∷◌, [], cond, map, IfOk, OnOk, IsSome};
 ghost use Rattle.std.specs.Prelude.{option_to_list};
 ghost use Rattle.page_tree.specs.Pages.{find_in};
 ghost use Rattle.page_tree.specs.Zippers.{zipper_at};
 ghost use Rattle.selectors.specs.Lists.{list_seen};
-ghost use Rattle.select_match.specs.Matches.{selector_matches};
 ghost use Rattle.sheet_reader.specs.Forms.{rule_seen};
-ghost use Rattle.cascade_match.specs.Precedence.{key_cmp, greater};
+ghost use Rattle.cascade_match.specs.Precedence.{greater};
 ghost use Rattle.cascade_match.specs.Matched.{places_matching, greatest, source_of, keyed_rule, entries_of_rules, all_entered, matched_of};
 
 use crate::hits::Hit;

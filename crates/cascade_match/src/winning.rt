@@ -5,7 +5,7 @@ ghost use Rattle.std.specs.Str.{bytes_eq};
 ghost use Rattle.std.specs.Ordering.{nat_cmp};
 ghost use Rattle.std.specs.Cmp.Lexicographic.{slice_cmp};
 ghost use Rattle.std.specs.BTreeMap.{get_by};
-ghost use Rattle.cascade_match.specs.Winning.{rank_of, candidate_of, candidates, wins, wins_from};
+ghost use Rattle.cascade_match.specs.Winning.{rank_of, candidate_of, wins, wins_from};
 ghost use Rattle.cascade_match.specs.Tops.{ranked_seen, better, top, is_at_place};
 
 use crate::blocks::{Block, Decl};

@@ -1,7 +1,5 @@
 -- What a value has to be for its text to give it back: whole numbers of 64 bits, and names that ascend by bytes.
 use Rattle.std.specs.Prelude.{◌≡◌, ℕ, ◌^◌, ◌≤◌, pos, negsuc, List, Bool, true, false, ◌&&◌, nat_lt, Some, IsUtf8, ⊤}
-use Rattle.std.specs.Ordering.{nat_cmp, is_lt}
-use Rattle.std.specs.Cmp.Lexicographic.{slice_cmp}
 use Rattle.serde_json.specs.Data.{Num, unsigned, negative, float, Data, null, boolean, number, string, array, object, Items, no_items, item}
 use Rattle.serde_json.specs.Data.{Members, no_members, member, depth}
 use Rattle.serde_json.specs.Read.{read, max_depth}
@@ -22,6 +20,7 @@ number_is_plain (float x) = false
 
 -- each number is a whole one of 64 bits, and the names of each object ascend by bytes
 abbrev mutual
+  -- it is so of a value
   pub is_plain : Data → Bool
   is_plain null = true
   is_plain (boolean b) = true
@@ -30,16 +29,19 @@ abbrev mutual
   is_plain (array ds) = items_are_plain ds
   is_plain (object ms) = members_are_plain ms
 
+  -- of the items of an array
   pub items_are_plain : Items → Bool
   items_are_plain no_items = true
   items_are_plain (item d ds) = is_plain d && items_are_plain ds
 
+  -- and of the members of an object
   pub members_are_plain : Members → Bool
   members_are_plain no_members = true
   members_are_plain (member k d ms) = is_plain d && (starts_after k ms && members_are_plain ms)
 
 -- each text and each name is UTF-8
 abbrev mutual
+  -- it is so of a value
   pub HasUtf8 : Data → Type 0
   HasUtf8 null = ⊤
   HasUtf8 (boolean b) = ⊤
@@ -48,10 +50,12 @@ abbrev mutual
   HasUtf8 (array ds) = ItemsHaveUtf8 ds
   HasUtf8 (object ms) = MembersHaveUtf8 ms
 
+  -- of the items of an array
   pub ItemsHaveUtf8 : Items → Type 0
   ItemsHaveUtf8 no_items = ⊤
   ItemsHaveUtf8 (item d ds) = HasUtf8 d × ItemsHaveUtf8 ds
 
+  -- and of the members of an object
   pub MembersHaveUtf8 : Members → Type 0
   MembersHaveUtf8 no_members = ⊤
   MembersHaveUtf8 (member k d ms) = IsUtf8 k × HasUtf8 d × MembersHaveUtf8 ms

@@ -1,11 +1,11 @@
 // Reading an object's members in the order of their names.
 ghost use Rattle.std.specs.Prelude.{◌≡◌, false, Some, option_map, IfNone};
-ghost use Rattle.serde_json.specs.Find.{as_bool, as_str, as_array, as_object};
+ghost use Rattle.serde_json.specs.Find.{as_str, as_array};
 ghost use Rattle.serde_json.specs.View.{view, items_view, members_view};
 ghost use Rattle.cdp_json.specs.Kinds.{as_whole, as_signed};
 ghost use Rattle.cdp_json.specs.Rows.{left_with, first_at, after_first, need, may, may_true, is_done};
 
-use crate::values::{flag_of, list_of, object_of, signed_of, text_of, whole_of};
+use crate::values::{flag_of, list_of, signed_of, text_of, whole_of};
 use serde_json::{Map, Value};
 use std::collections::btree_map::Iter;
 use std::iter::Iterator;
@@ -102,17 +102,6 @@ impl<'a> Cursor<'a> {
         Some(found)
     }
 
-    /// The field of this name, which must be there, as a boolean.
-    pub fn need_flag(&mut self, name: &str) -> Option<bool>
-        ensures value { option_map (left_with (left self.new)) result
-            ≡ need as_bool name.now (left self.old) }
-        ensures none { IfNone result (left self.new ≡ left self.old) }
-    {
-        let found = flag_of(self.here(name)?)?;
-        self.pass();
-        Some(found)
-    }
-
     /// The field of this name, which must be there, as an array.
     pub fn need_list(&mut self, name: &str) -> Option<&'a [Value]>
         ensures value { option_map (λ xs. left_with (left self.new) (items_view xs.now)) result
@@ -120,17 +109,6 @@ impl<'a> Cursor<'a> {
         ensures none { IfNone result (left self.new ≡ left self.old) }
     {
         let found = list_of(self.here(name)?)?;
-        self.pass();
-        Some(found)
-    }
-
-    /// The field of this name, which must be there, as an object.
-    pub fn need_object(&mut self, name: &str) -> Option<&'a Map<String, Value>>
-        ensures value { option_map (λ m. left_with (left self.new) (members_view m.now.entries)) result
-            ≡ need as_object name.now (left self.old) }
-        ensures none { IfNone result (left self.new ≡ left self.old) }
-    {
-        let found = object_of(self.here(name)?)?;
         self.pass();
         Some(found)
     }
@@ -160,20 +138,6 @@ impl<'a> Cursor<'a> {
         Some(Some(found))
     }
 
-    /// The field of this name, if it is there, as a string.
-    pub fn may_text(&mut self, name: &str) -> Option<Option<&'a str>>
-        ensures value { option_map (λ o. left_with (left self.new) (option_map (λ s. s.now) o)) result
-            ≡ may as_str name.now (left self.old) }
-        ensures none { IfNone result (left self.new ≡ left self.old) }
-    {
-        let Some(value) = self.here(name) else {
-            return Some(None);
-        };
-        let found = text_of(value)?;
-        self.pass();
-        Some(Some(found))
-    }
-
     /// The field of this name, if it is there, as an array.
     pub fn may_list(&mut self, name: &str) -> Option<Option<&'a [Value]>>
         ensures value { option_map (λ o. left_with (left self.new) (option_map (λ xs. items_view xs.now) o)) result
@@ -184,20 +148,6 @@ impl<'a> Cursor<'a> {
             return Some(None);
         };
         let found = list_of(value)?;
-        self.pass();
-        Some(Some(found))
-    }
-
-    /// The field of this name, if it is there, as an object.
-    pub fn may_object(&mut self, name: &str) -> Option<Option<&'a Map<String, Value>>>
-        ensures value { option_map (λ o. left_with (left self.new) (option_map (λ m. members_view m.now.entries) o)) result
-            ≡ may as_object name.now (left self.old) }
-        ensures none { IfNone result (left self.new ≡ left self.old) }
-    {
-        let Some(value) = self.here(name) else {
-            return Some(None);
-        };
-        let found = object_of(value)?;
         self.pass();
         Some(Some(found))
     }

@@ -1,6 +1,5 @@
 // An object's fields by name.
-ghost use Rattle.std.specs.Prelude.{◌≡◌, option_map, OnOk, OnErr};
-ghost use Rattle.serde_json.specs.Data.{put as put_member};
+ghost use Rattle.std.specs.Prelude.{◌≡◌, option_map};
 ghost use Rattle.serde_json.specs.Find.{get_member, as_bool, as_str, as_array, as_object};
 ghost use Rattle.serde_json.specs.View.{view, items_view, members_view};
 ghost use Rattle.cdp_json.specs.Kinds.{as_whole, as_depth};

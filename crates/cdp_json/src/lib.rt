@@ -12,7 +12,7 @@ mod write;
 pub use cursor::Cursor;
 pub use fields::{Field, depth_field, flag_field, int_field, list_field, object_field, text_field};
 pub use laws::read_back_law;
-pub use lists::{text_list, texts_of, whole_list, wholes_of};
+pub use lists::{texts_of, whole_list, wholes_of};
 pub use values::{depth_of, flag_of, list_of, object_of, signed_of, text_of, whole_of};
 pub use whole::all_whole;
 pub use write::ObjectBuilder;

@@ -48,14 +48,3 @@ pub fn whole_list(alloc: Global, numbers: &[u64]) -> Result<Value, AllocError>
     }
     Ok(Value::Array(items))
 }
-
-/// An array of copies of these strings.
-pub fn text_list(alloc: Global, texts: &[String]) -> Result<Value, AllocError>
-    ensures { IfOk result (λ v. view v ≡ (list_of text).spell (map string_bytes texts.now)) }
-{
-    let mut items = Vec::new(alloc);
-    for text in texts {
-        items.push(Value::try_from_str(alloc, text.as_str())?)?;
-    }
-    Ok(Value::Array(items))
-}

@@ -1,7 +1,7 @@
 -- Events: what the back end tells unasked.
 use Rattle.std.specs.Prelude.{ℕ, List, [], ◌∷◌, codes, Bool, true, false, not, nat_lt, Option, Some, None, option_map, option_and_then, ⊤}
 use Rattle.std.specs.Borrow.{Bor}
-use Rattle.serde_json.specs.Data.{Data, null, boolean, number, string, array, object, Items, no_items, item}
+use Rattle.serde_json.specs.Data.{Data, null, boolean, number, string, array, object, Items, no_items}
 use Rattle.serde_json.specs.View.{view, items_view}
 use Rattle.serde_json.specs.declared.value.Value.{Value}
 use Rattle.cdp_json.specs.Kinds.{Kind, whole, text, flag, anything, any_items, only_text, named, choice, refined, through}

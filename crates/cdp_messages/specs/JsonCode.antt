@@ -48,6 +48,7 @@ SymbolRow = List ℕ × Symbol
 
 -- the rows of what stands inside a value, of items and of members; the row of an item has the empty name
 abbrev mutual
+  -- of a value
   inside : Data → Nodes SymbolRow
   inside null = none
   inside (boolean b) = none
@@ -56,10 +57,12 @@ abbrev mutual
   inside (array ds) = item_rows ds
   inside (object ms) = member_rows ms
 
+  -- of the items of an array
   item_rows : Items → Nodes SymbolRow
   item_rows no_items = none
   item_rows (item d ds) = node ([], symbol d) (inside d) (item_rows ds)
 
+  -- and of the members of an object
   member_rows : Members → Nodes SymbolRow
   member_rows no_members = none
   member_rows (member k d ms) = node (k, symbol d) (inside d) (member_rows ms)
@@ -74,15 +77,18 @@ data_from (Some (inr (inr (inr true)))) ds ms = array ds
 data_from (Some (inr (inr (inr false)))) ds ms = object ms
 
 abbrev mutual
+  -- the items whose rows these are
   items_from : Nodes SymbolRow → Items
   items_from none = no_items
   items_from (node r c t) = item (data_from r.1 (items_from c) (members_from c)) (items_from t)
 
+  -- the members whose rows these are
   members_from : Nodes SymbolRow → Members
   members_from none = no_members
   members_from (node r c t) = member r.0 (data_from r.1 (items_from c) (members_from c)) (members_from t)
 
 mutual
+  -- a value is had back from its symbol and what is inside it
   pub data_back : (d : Data) → data_from (symbol d) (items_from (inside d)) (members_from (inside d)) ≡ d
   data_back null = refl
   data_back (boolean b) = refl
@@ -91,10 +97,12 @@ mutual
   data_back (array ds) = ap array (items_back ds)
   data_back (object ms) = ap object (members_back ms)
 
+  -- so are the items of an array
   pub items_back : (ds : Items) → items_from (item_rows ds) ≡ ds
   items_back no_items = refl
   items_back (item d ds) = ap₂ item (data_back d) (items_back ds)
 
+  -- and the members of an object
   pub members_back : (ms : Members) → members_from (member_rows ms) ≡ ms
   members_back no_members = refl
   members_back (member k d ms) = ap₂ (member k) (data_back d) (members_back ms)

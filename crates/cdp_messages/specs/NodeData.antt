@@ -78,6 +78,7 @@ abbrev mutual
   children_told manner no_members = Some none
   children_told manner (member k d ms) = cond (bytes_eq (codes "children") k) (trees_told manner d) (children_told manner ms)
 
+  -- the trees of an array, and of nothing else
   pub trees_told : Manner → Data → Option (Nodes Told)
   trees_told manner null = None
   trees_told manner (boolean b) = None

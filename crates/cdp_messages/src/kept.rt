@@ -47,11 +47,4 @@ impl Json {
     {
         &self.value
     }
-
-    /// Gives the value back; takes no memory.
-    pub fn into_value(self) -> Value
-        ensures { view result ≡ self }
-    {
-        self.value
-    }
 }

@@ -3,7 +3,7 @@ ghost use Rattle.std.specs.Prelude.{◌≡◌, ◌++◌, [], IfOk, OnOk, nat_lt,
 ghost use Rattle.std.specs.Str.{str_to_ascii_uppercase};
 ghost use Rattle.cdp_json.specs.Kinds.{whole, text};
 ghost use Rattle.node_tree.specs.Labels.{is_element, holds};
-ghost use Rattle.cdp_messages.specs.NodeObject.{attribute_list, node_type, type_number, name_shown, local_name_of, only_if};
+ghost use Rattle.cdp_messages.specs.NodeObject.{attribute_list, type_number, name_shown, local_name_of, only_if};
 ghost use Rattle.cdp_messages.specs.Tokens.{data_tokens, field_tokens, head_tokens, tail_tokens};
 ghost use Rattle.cdp_messages.specs.NodeWrites.{told_by};
 

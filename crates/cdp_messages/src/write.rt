@@ -1,5 +1,5 @@
 // Writing frames.
-ghost use Rattle.std.specs.Prelude.{◌≡◌, ◌++◌, ℤ, IsTrue, IfOk, OnOk, OnErr, option_map, false, string_bytes, IsUtf8};
+ghost use Rattle.std.specs.Prelude.{◌≡◌, ◌++◌, IsTrue, IfOk, OnOk, OnErr, option_map, false, string_bytes, IsUtf8};
 ghost use Rattle.serde_json.specs.View.{view};
 ghost use Rattle.serde_json.specs.Written.{compact_text, has_float};
 ghost use Rattle.cdp_messages.specs.Refusals.{param_name, code_of, said_first, said_of_param, refusal_words};

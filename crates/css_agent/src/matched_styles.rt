@@ -1,9 +1,8 @@
 // What gives an element its style.
 ghost use Rattle.std.specs.Prelude.{◌≡◌, ◌++◌, map, cond, [], ◌∷◌, Some, option_map, option_to_list, slice_get, IfOk, IfSome, OnOk};
 ghost use Rattle.std.specs.List.{filter_map};
-ghost use Rattle.node_tree.specs.Labels.{value_of};
 ghost use Rattle.page_tree.specs.Zippers.{ancestors};
-ghost use Rattle.select_match.specs.Elements.{is_element_node, elements, attributes_of};
+ghost use Rattle.select_match.specs.Elements.{is_element_node, elements};
 ghost use Rattle.sheet_reader.specs.Books.{IsEntry};
 ghost use Rattle.sheet_reader.specs.Forms.{rule_seen};
 ghost use Rattle.sheet_reader.specs.Sheets.{sheet_of};

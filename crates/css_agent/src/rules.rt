@@ -4,7 +4,6 @@ ghost use Rattle.selectors.specs.Forms.{selector_seen};
 ghost use Rattle.selectors.specs.Lists.{list_seen};
 ghost use Rattle.selectors.specs.Ranges.{IsRangeOf};
 ghost use Rattle.sheet_reader.specs.Forms.{rule_seen};
-ghost use Rattle.sheet_reader.specs.Books.{IsEntry};
 ghost use Rattle.sheet_reader.specs.Usable.{IsRuleOf};
 ghost use Rattle.css_agent.specs.RuleObjects.{told_weight, told_selector, told_prelude, told_rule};
 

@@ -1,5 +1,5 @@
 // UTF-16 units and positions of a text.
-ghost use Rattle.std.specs.Prelude.{◌≡◌, ℕ, ◌+◌, ◌<◌, ◌≤◌, ◌^◌, length};
+ghost use Rattle.std.specs.Prelude.{◌≡◌, ◌+◌, ◌<◌, ◌≤◌, ◌^◌, length};
 ghost use Rattle.sheet_reader.specs.Positions.{units_at, behind_byte, position_of};
 ghost use Rattle.css_agent.specs.Told.{units_in};
 

@@ -1,13 +1,11 @@
 // The results of the methods of the CSS domain, each an object with one field; that of matched styles stands in `rules`.
-ghost use Rattle.std.specs.Prelude.{◌≡◌, IfOk, codes, map, option_map};
+ghost use Rattle.std.specs.Prelude.{◌≡◌, IfOk, option_map};
 ghost use Rattle.serde_json.specs.Data.{object as object_of_members, no_members, member};
 ghost use Rattle.serde_json.specs.Find.{as_str};
 ghost use Rattle.serde_json.specs.View.{view, items_view};
-ghost use Rattle.cdp_json.specs.Kinds.{Kind, text, list_of, read_items};
-ghost use Rattle.css_objects.specs.Selectors.{selectors_kind};
+ghost use Rattle.cdp_json.specs.Kinds.{text, list_of, read_items};
 ghost use Rattle.css_objects.specs.Styles.{rule_style_kind};
-ghost use Rattle.css_objects.specs.Rules.{rule_kind};
-ghost use Rattle.css_objects.specs.Made.{only_field, sole_field};
+ghost use Rattle.css_objects.specs.Made.{sole_field};
 ghost use Rattle.css_objects.specs.Results.{sheet_text_result, class_names_result, styles_result, selectors_result, rule_result};
 
 use crate::listed::Listed;

@@ -4,7 +4,7 @@ ghost use Rattle.std.specs.List.{list_all};
 ghost use Rattle.serde_json.specs.View.{view, items_view};
 ghost use Rattle.cdp_json.specs.Left.{left};
 ghost use Rattle.cdp_json.specs.Kinds.{list_of, read_items, only_true};
-ghost use Rattle.cdp_json.specs.Rows.{left_with, need, may, unit_if};
+ghost use Rattle.cdp_json.specs.Rows.{left_with, need, unit_if};
 ghost use Rattle.css_objects.specs.Styles.{property_kind, has_none, empty_list, style_kind, is_ranged, is_rangeless, is_inline};
 ghost use Rattle.css_objects.specs.Styles.{is_in_sheet, inline_kind, rule_style_kind};
 

@@ -1,6 +1,6 @@
 //! Newlines, white space and escapes at the front of a text.
 
-ghost use Rattle.std.specs.Prelude.{◌≡◌, ◌≤◌, ℕ, List, length};
+ghost use Rattle.std.specs.Prelude.{◌≡◌, ◌≤◌, length};
 ghost use Rattle.css_tokens.specs.Codes.{is_newline, begins};
 ghost use Rattle.css_tokens.specs.Escapes.{newline_len, white_len, hex_len, escape_tail, escape_len, begins_escape, hex_value};
 ghost use Rattle.css_tokens.specs.Escapes.{character_of, escape_value};

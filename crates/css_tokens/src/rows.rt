@@ -1,6 +1,6 @@
 //! The table of pieces (CSS Syntax 3, 4.3.1): the piece that a text begins with.
 
-ghost use Rattle.std.specs.Prelude.{◌≡◌, ◌≤◌, ◌<◌, ◌==◌, List, length, IfSome};
+ghost use Rattle.std.specs.Prelude.{◌≡◌, ◌<◌, ◌==◌, IfSome};
 ghost use Rattle.css_tokens.specs.Rows.{IsFront, ◌or◌, comment, white_space, string, bad_string, hash, numeric, cdc, url, bad_url, ident};
 ghost use Rattle.css_tokens.specs.Rows.{cdo, at_keyword, mark_kind, mark, first_piece};
 ghost use Rattle.css_tokens.specs.First.{TellsFirst};

@@ -1,6 +1,6 @@
 //! Runs of units, and what is made of them: names and numbers.
 
-ghost use Rattle.std.specs.Prelude.{◌≡◌, ◌≤◌, ℕ, List, length};
+ghost use Rattle.std.specs.Prelude.{◌≡◌, ◌≤◌, length};
 ghost use Rattle.css_tokens.specs.Runs.{run, digits, white_run, comment_unit, string_unit, name_unit, url_unit, bad_url_unit, ends_url};
 ghost use Rattle.css_tokens.specs.Runs.{name_len, starts_ident, fraction_len, decimal_len, sign_len, exponent_len, number_len};
 ghost use Rattle.css_tokens.specs.Codes.{begins};

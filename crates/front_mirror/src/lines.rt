@@ -1,4 +1,4 @@
-ghost use Rattle.std.specs.Prelude.{◌≡◌, ℕ, ◌++◌, OnOk, IfOk, string_bytes, decimal, true};
+ghost use Rattle.std.specs.Prelude.{◌≡◌, ◌++◌, OnOk, decimal, true};
 ghost use Rattle.std.specs.List.{flat_map, list_all};
 ghost use Rattle.front_mirror.specs.Outline.{is_plain_byte, indent, quoted, attribute_text, label_text, unshown_text, node_line};
 

@@ -1,10 +1,10 @@
 ghost use Rattle.std.specs.Prelude.{◌≡◌, ◌≢◌, ◌↔◌, ◌<◌, ◌++◌, length, IsTrue, IsSome, is_some, Some, option_map, unwrap_or, slice_get};
 ghost use Rattle.std.specs.Prelude.{None, true, IfOk, IfSome, OnOk};
-ghost use Rattle.node_tree.specs.Nodes.{none, alone, width, tree_at, nodes_of};
+ghost use Rattle.node_tree.specs.Nodes.{none, alone, width, tree_at};
 ghost use Rattle.std.specs.Option.{option_copied};
 ghost use Rattle.node_tree.specs.Keys.{has, find, parent_of, level_of, spot};
 ghost use Rattle.node_tree.specs.Seen.{is_opened, seen_id, seen_serial};
-ghost use Rattle.cdp_messages.specs.Told.{count_in, seen_nodes, seen_branch};
+ghost use Rattle.cdp_messages.specs.Told.{count_in, seen_nodes};
 ghost use Rattle.cdp_messages.specs.NodeData.{fits_tree};
 ghost use Rattle.front_mirror.specs.Shown.{known_at, root_id};
 ghost use Rattle.front_mirror.specs.Outline.{lines_at, seen_line};

@@ -1,5 +1,5 @@
 // Changes of single slots of the table.
-ghost use Rattle.std.specs.Prelude.{◌≡◌, ◌==◌, ◌||◌, ℕ, [], ◌∷◌, true, Some, None, OnOk};
+ghost use Rattle.std.specs.Prelude.{◌≡◌, ◌==◌, ◌||◌, true, Some, None, OnOk};
 ghost use Rattle.node_tree.specs.Labels.{is_ascending};
 ghost use Rattle.cdp_messages.specs.LabelChanges.{placed, pairs_without};
 ghost use Rattle.cdp_messages.specs.Views.{is_in};

@@ -1,6 +1,6 @@
 // The link's calls, with what a run stops by.
-ghost use Rattle.std.specs.Prelude.{◌≡◌, ℕ, ◌++◌, take, IfOk, OnOk, OnErr};
-ghost use Rattle.pipe_frames.specs.Pipe.{Pipe, waiting};
+ghost use Rattle.std.specs.Prelude.{◌≡◌, take, IfOk};
+ghost use Rattle.pipe_frames.specs.Pipe.{waiting};
 ghost use Rattle.inspect_replay.specs.Stops.{StopRose, two_counts, GoesWell};
 ghost use Rattle.inspect_replay.specs.Moved.{Sent, Got};
 

@@ -1,11 +1,11 @@
 // `serve`: a client speaks to the back end over the source and the sink, with no front end of ours between them.
-ghost use Rattle.std.specs.Prelude.{◌≡◌, ◌+◌, ◌≤◌, ◌<◌, ◌^◌, ◌∷◌, [], ℕ, List, length, take, Ok, Err, IfOk, OnOk, OnErr};
+ghost use Rattle.std.specs.Prelude.{◌≡◌, ◌+◌, ◌≤◌, ◌<◌, ◌^◌, ℕ, List, length, take, Ok, Err, IfOk, OnErr};
 ghost use Rattle.std.specs.Io.KnownBytes.{Consumes, IsAtEnd, Keeps};
 ghost use Rattle.pipe_frames.specs.Fault.{Rose};
 ghost use Rattle.pipe_frames.specs.Whole.{ReadPart};
 ghost use Rattle.inspect_replay.specs.Answers.{StatusRose};
 ghost use Rattle.inspect_replay.specs.Serving.{IsServeStatus, ServeTook, HasServed, HasServeCause, EndIsMet};
-ghost use Rattle.inspect_replay.specs.declared.stop.Stop.TheVariants.{ReadFault, Memory};
+ghost use Rattle.inspect_replay.specs.declared.stop.Stop.TheVariants.{ReadFault};
 
 use crate::program::status_of;
 use crate::service::Service;

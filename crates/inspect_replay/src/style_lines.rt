@@ -1,8 +1,8 @@
 // The lines of a show of matched styles.
-ghost use Rattle.std.specs.Prelude.{◌≡◌, ◌++◌, ◌∷◌, [], List, map, drop, option_map, option_to_list, codes, OnOk, IfOk};
+ghost use Rattle.std.specs.Prelude.{◌≡◌, ◌++◌, ◌∷◌, [], List, map, drop, option_map, option_to_list, OnOk, IfOk};
 ghost use Rattle.back_end.specs.Sheets.{origin_in_book};
 ghost use Rattle.inspect_world.specs.StylesTexts.{ShownBlock, rule_heading, rule_block, inline_block, blocks_shown, declared, competing};
-ghost use Rattle.inspect_world.specs.StylesTexts.{winning, win_mark, important_text, property_line, property_lines, block_lines};
+ghost use Rattle.inspect_world.specs.StylesTexts.{win_mark, important_text, property_line, property_lines, block_lines};
 ghost use Rattle.inspect_world.specs.StylesTexts.{styles_text};
 
 use crate::sheet_lines::{origin_word, write_quoted};

@@ -1,5 +1,5 @@
 -- Frames folded into a value one by one, up to the first that it refuses.
-use Rattle.std.specs.Prelude.{◌≡◌, ℕ, List, [], ◌∷◌, ◌++◌, Result, Ok, Err}
+use Rattle.std.specs.Prelude.{◌≡◌, ℕ, List, [], ◌∷◌, ◌++◌, Result, Ok}
 use Rattle.cdp_json.specs.Lookups.{then_ok}
 use Rattle.pipe_frames.specs.Frames.{frames_of}
 use Rattle.inspect_world.specs.Stream.{sent, awaited}

@@ -1,5 +1,5 @@
 -- The state of a run: that of the back end, and the matched styles that its client was told.
-use Rattle.std.specs.Prelude.{ℕ, ◌==◌, Bool, false, ◌&&◌, cond, List, [], ◌∷◌, ◌++◌, Option, Some, None, option_map, option_and_then}
+use Rattle.std.specs.Prelude.{ℕ, ◌==◌, false, ◌&&◌, cond, List, [], ◌∷◌, ◌++◌, Option, Some, None, option_map, option_and_then}
 use Rattle.std.specs.Prelude.{option_to_list, Result, Ok, Err}
 use Rattle.page_tree.specs.Zippers.{zipper_at}
 use Rattle.page_forms.specs.Pages.{LoadedPage}

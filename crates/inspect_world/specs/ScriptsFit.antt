@@ -1,13 +1,9 @@
 -- While a script is carried out, the whole streams between the ends stay such that the front end's fold meets no fault, and
 -- shows exactly what the client sees of the page.
-use Rattle.std.specs.Prelude.{◌≡◌, ℕ, ◌≤◌, List, [], ◌∷◌, length, take, map, All, true, Ok, ⊤, IsUtf8, ◌+◌}
+use Rattle.std.specs.Prelude.{◌≡◌, ℕ, ◌≤◌, List, [], ◌∷◌, length, take, map, All, Ok, ⊤, ◌+◌}
 use Rattle.page_forms.specs.Pages.{LoadedPage, CanLoadPage}
-use Rattle.cdp_json.specs.Kinds.{is_counted, holds_of_some}
-use Rattle.cdp_json.specs.Plain.{is_plain}
-use Rattle.cdp_messages.specs.Asked.{command_value, command_text}
-use Rattle.cdp_messages.specs.Laws.{Shallow}
 use Rattle.replay_script.specs.Forms as forms
-use Rattle.replay_script.specs.Forms.{AskForm, LineForm, load, ask, up, down, settle, show_front, show_page, show_sheets, show_replies}
+use Rattle.replay_script.specs.Forms.{LineForm, load, ask, up, down, settle, show_front, show_page, show_sheets, show_replies}
 use Rattle.replay_script.specs.Forms.{show_pauses, show_styles}
 use Rattle.replay_script.specs.Script.{script_forms}
 use Rattle.pipe_frames.specs.Frames.{IsText, frames_of}

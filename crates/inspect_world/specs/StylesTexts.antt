@@ -1,5 +1,5 @@
 -- What a show of matched styles prints: each block of declarations, with those of its declarations that win.
-use Rattle.std.specs.Prelude.{ℕ, Bool, true, false, List, [], ◌∷◌, ◌++◌, map, length, drop, codes, decimal, Option, option_map}
+use Rattle.std.specs.Prelude.{ℕ, Bool, true, false, List, [], ◌∷◌, ◌++◌, map, length, drop, codes, decimal, option_map}
 use Rattle.std.specs.Prelude.{option_to_list}
 use Rattle.sheet_reader.specs.declared.book.Origin.{Origin}
 use Rattle.sheet_reader.specs.declared.book.Origin.TheVariants.{Regular}

@@ -103,10 +103,12 @@ module _ {R : Type 0} where
   topmost [] = none
   topmost (n ∷ rest) = n
 
+  -- what was written is on top of what stands behind it
   pub stacked-written : (n : Nodes R) (rest : List (Option R)) → stacked (written n rest) ≡ n ∷ stacked rest
   stacked-written none rest = refl
   stacked-written (node r c t) rest = rw (stacked-written c (written t rest), stacked-written t rest)
 
+  -- and so it is read back
   pub read_back : (n : Nodes R) → topmost (stacked (written n [])) ≡ n
   read_back n = rw (stacked-written n [])
 

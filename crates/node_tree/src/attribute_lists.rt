@@ -49,13 +49,6 @@ impl Attributes {
         Attributes { pairs }
     }
 
-    /// Gives the list back; takes no memory.
-    pub fn into_pairs(self) -> Vec<(Text, Text)>
-        ensures { result.items ≡ self }
-    {
-        self.pairs
-    }
-
     /// The names and values, in their order.
     pub fn as_slice(&self) -> &[(Text, Text)]
         ensures { result.now ≡ self.now }

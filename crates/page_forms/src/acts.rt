@@ -5,7 +5,6 @@ ghost use Rattle.cdp_json.specs.Gives.{Gives};
 ghost use Rattle.cdp_json.specs.Kinds.{only_text};
 ghost use Rattle.cdp_json.specs.Left.{left};
 ghost use Rattle.cdp_json.specs.Rows.{left_with, need};
-ghost use Rattle.page_tree.specs.Loads.{node_in};
 ghost use Rattle.page_forms.specs.Acts.{set_attr_in, drop_attr_in, set_text_in, insert_in, remove_in, move_in, act_in, IsInsertable};
 ghost use Rattle.page_forms.specs.declared.acts.ActErr.TheVariants.{BadForm};
 

@@ -100,6 +100,7 @@ form_before b n = option_and_then (λ b. option_map (node b.row b.children) n) b
 -- The node that a value spells, the nodes that a list spells, those that the property `c` of an object lists, and those of
 -- its value. `top` says that they stand right below the document.
 abbrev mutual
+  -- the node that a value spells
   pub node_spelled : Bool → Data → Option (Branch Label)
   node_spelled top null = None
   node_spelled top (boolean b) = None
@@ -108,14 +109,17 @@ abbrev mutual
   node_spelled top (array ds) = None
   node_spelled top (object ms) = branch_of (label_spelled top (object ms)) (below_of ms)
 
+  -- the nodes that a list spells
   pub forms_of : Bool → Items → Option (Nodes Label)
   forms_of top no_items = Some none
   forms_of top (item d ds) = form_before (node_spelled top d) (forms_of top ds)
 
+  -- those that the property `c` of an object lists; none where it has no such property
   pub below_of : Members → Option (Nodes Label)
   below_of no_members = Some none
   below_of (member key d ms) = cond (bytes_eq (codes "c") key) (nodes_listed d) (below_of ms)
 
+  -- those of an array, and of nothing else
   pub nodes_listed : Data → Option (Nodes Label)
   nodes_listed null = None
   nodes_listed (boolean b) = None

@@ -1,4 +1,4 @@
-ghost use Rattle.std.specs.Prelude.{◌≡◌, [], ◌++◌, map, string_bytes, option_map, IfOk, OnOk};
+ghost use Rattle.std.specs.Prelude.{◌≡◌, [], option_map, IfOk};
 ghost use Rattle.serde_json.specs.View.{view, items_view};
 ghost use Rattle.node_tree.specs.Labels.{is_below, is_ascending};
 ghost use Rattle.page_tree.specs.Loads.{pairs_of, in_order, attributes_spelled};

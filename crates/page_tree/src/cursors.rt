@@ -154,14 +154,6 @@ impl<'a> Node<'a> {
         slot.children.len()
     }
 
-    /// The child at place `i`, counted from 0.
-    pub fn child(&self, i: usize) -> Node<'a>
-        requires { i < width self.now.children }
-        ensures { tree_at i self.now.children ≡ Some result }
-    {
-        self.children().at(i)
-    }
-
     /// Its children.
     pub fn children(&self) -> Children<'a>
         ensures { result ≡ self.now.children }

@@ -1,4 +1,4 @@
-ghost use Rattle.std.specs.Prelude.{◌≡◌, [], codes, option_map, IfOk};
+ghost use Rattle.std.specs.Prelude.{◌≡◌, [], option_map, IfOk};
 ghost use Rattle.serde_json.specs.View.{view};
 ghost use Rattle.node_tree.specs.declared.Kind.TheVariants.{Doctype};
 ghost use Rattle.page_tree.specs.Loads.{property_count, times_of, text_at, text_alone, attributes_at, element_name, element_label};

@@ -1,4 +1,4 @@
-ghost use Rattle.std.specs.Prelude.{◌≡◌, ◌-◌, ◌+◌, ◌≤◌, min, length, OnOk, OnErr, OnSome, IfOk, IfSome, IfNone, Err};
+ghost use Rattle.std.specs.Prelude.{◌≡◌, ◌-◌, ◌+◌, ◌≤◌, min, length, OnErr, OnSome, IfOk, IfSome, IfNone, Err};
 ghost use Rattle.pipe_frames.specs.Pipe.{Puts, Gets, GivesAll, filling, waiting};
 ghost use Rattle.pipe_frames.specs.Calls.{no_flow, pipe_of};
 

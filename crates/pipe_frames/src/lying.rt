@@ -1,7 +1,6 @@
 ghost use Rattle.std.specs.Prelude.{◌≡◌, ◌≤◌, ◌-◌, ◌+◌, ◌++◌, Err, IfOk, OnErr, min, take, drop, length};
-ghost use Rattle.pipe_frames.specs.Fault.{HasCause};
 ghost use Rattle.pipe_frames.specs.Pipe.{Puts, Gets, GivesAll, filling, waiting};
-ghost use Rattle.pipe_frames.specs.Calls.{no_flow, pipe_of, lying_pipe, replaced, gives_prefix};
+ghost use Rattle.pipe_frames.specs.Calls.{no_flow, pipe_of, lying_pipe, replaced};
 
 use crate::channel::Channel;
 use crate::outside::{Link, OutErr};

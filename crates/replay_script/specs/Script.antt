@@ -5,7 +5,7 @@ use Rattle.std.specs.Option.{option_to_list}
 use Rattle.replay_script.specs.Lines.{lines_of}
 use Rattle.node_tree.specs.Keys.{first_of}
 use Rattle.replay_script.specs.Forms as forms
-use Rattle.replay_script.specs.Forms.{LineForm, AskForm, load, ask, up, down, settle, show_front, show_page, show_sheets, show_replies}
+use Rattle.replay_script.specs.Forms.{LineForm, load, ask, up, down, settle, show_front, show_page, show_sheets, show_replies}
 use Rattle.replay_script.specs.Forms.{show_pauses, show_styles, line_form}
 use Rattle.replay_script.specs.Faults.{line_fault}
 use Rattle.replay_script.specs.declared.faults.LineFault.{LineFault}

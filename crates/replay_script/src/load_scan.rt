@@ -1,7 +1,6 @@
 // A line that loads a page, read off its tokens where it has its usual form.
 ghost use Rattle.std.specs.Prelude.{◌≡◌, [], ◌∷◌, true, codes, Some, None, IfOk};
 ghost use Rattle.json.specs.Token.{begin_object, end_object, key};
-ghost use Rattle.page_forms.specs.PageForms.{page_form};
 ghost use Rattle.page_forms.specs.Pages.{loaded_page, first_page_fault};
 ghost use Rattle.page_forms.specs.Spelt.{ReadsAs};
 ghost use Rattle.replay_script.specs.Loads.{load_line_form, Loads};

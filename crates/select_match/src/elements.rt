@@ -1,6 +1,6 @@
 //! Elements of a page and the places that they have among their siblings.
 
-ghost use Rattle.std.specs.Prelude.{◌≡◌, ◌<◌, ◌≤◌, ◌^◌, ◌&&◌, ◌==◌, ℕ, false, if◌then◌else◌, pos, length};
+ghost use Rattle.std.specs.Prelude.{◌≡◌, ◌<◌, ◌≤◌, ◌^◌, ◌&&◌, ◌==◌, ℕ, false, if◌then◌else◌};
 ghost use Rattle.std.specs.List.{list_any};
 ghost use Rattle.page_tree.specs.Zippers.{first_node, children_of, parent_of};
 ghost use Rattle.select_match.specs.Elements.{is_element_node, fills, is_root_by, side, counts, index, is_nth};

@@ -29,18 +29,6 @@ pub fn element_places(node: &NodeRef<'_>) -> ElementPlaces
     }
 }
 
-/// One of the four places.
-pub fn element_place(kind: NthKind, places: ElementPlaces) -> u64
-    ensures { result ≡ element_place kind places }
-{
-    match kind {
-        NthKind::Child => places.child,
-        NthKind::LastChild => places.last_child,
-        NthKind::OfType => places.of_type,
-        NthKind::LastOfType => places.last_of_type,
-    }
-}
-
 /// Those of the four places that have been counted.
 #[derive(Clone, Copy, Drop)]
 pub struct KnownPlaces {

@@ -1,10 +1,9 @@
 //! Simple selectors and compounds (Selectors 3, section 6).
 
-ghost use Rattle.std.specs.Prelude.{◌≡◌, ◌&&◌, map, codes};
+ghost use Rattle.std.specs.Prelude.{◌≡◌, ◌&&◌, map};
 ghost use Rattle.std.specs.List.{list_all};
-ghost use Rattle.node_tree.specs.Labels.{value_of};
 ghost use Rattle.selectors.specs.Forms.{id, class, test_seen, simple_seen, compound_seen};
-ghost use Rattle.select_match.specs.Texts.{same_name, has_word, value_passes, compares, has_attribute};
+ghost use Rattle.select_match.specs.Texts.{same_name, has_word, compares, has_attribute};
 ghost use Rattle.select_match.specs.Elements.{attributes_of};
 ghost use Rattle.select_match.specs.Matches.{test_holds, simple_holds, compound_holds};
 

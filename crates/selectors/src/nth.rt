@@ -2,7 +2,6 @@
 
 ghost use Rattle.std.specs.Prelude.{◌≡◌, ◌≤◌, length, Option, option_map};
 ghost use Rattle.std.specs.Char.{digit_value};
-ghost use Rattle.css_tokens.specs.Codes.{begins, is_sign};
 ghost use Rattle.css_tokens.specs.Runs.{white_run, digits};
 ghost use Rattle.selectors.specs.Nth.{skip_white, is_blank, decimal, nth_signed, number_at, ends_number, digits_of, offset_of, after_n};
 ghost use Rattle.selectors.specs.Nth.{nth_step, linear_by, linear_of, is_nth_letter, is_odd, is_even, nth_by, nth_of};

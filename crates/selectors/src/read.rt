@@ -1,13 +1,12 @@
 //! Compounds, selectors and lists of them.
 
 ghost use Rattle.std.specs.Prelude.{◌≡◌, ◌≤◌, ◌<◌, ◌++◌, ◌∷◌, [], List, map, IfOk, IsErrOf, length};
-ghost use Rattle.selectors.specs.Words.{words_of};
 ghost use Rattle.selectors.specs.Forms.{GivesRead, SelectorForm, simple_seen, compound_seen, selector_seen};
 ghost use Rattle.selectors.specs.Grammar.{IsSelectorList};
 ghost use Rattle.selectors.specs.Lists.{list_seen};
 ghost use Rattle.selectors.specs.Parts.{with_front};
 ghost use Rattle.selectors.specs.Reading.{compound_item_seen, combinator_of, ends_compound, tests_at, joined_seen, compound_at, joint_at};
-ghost use Rattle.selectors.specs.Reading.{joined_at, ends_selector, compounds_at, joined_of, selector_of, selector_list_of, selectors_of};
+ghost use Rattle.selectors.specs.Reading.{joined_at, compounds_at, joined_of, selector_of, selector_list_of, selectors_of};
 
 use crate::selector::{Compound, Joint, SelErr, Selector, SelectorList, Simple};
 use crate::simple::{first_at, item_at};

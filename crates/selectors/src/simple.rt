@@ -7,7 +7,7 @@ ghost use Rattle.std.specs.Str.{IsCharBoundary};
 ghost use Rattle.selectors.specs.declared.words.WordKind.TheVariants as kinds;
 ghost use Rattle.selectors.specs.Words.{IsWordOf};
 ghost use Rattle.selectors.specs.Forms.{GivesRead, test_seen};
-ghost use Rattle.selectors.specs.Reading.{operator_of, equals_at, operator_at, operand_at, attribute_after, attribute_at, class_at};
+ghost use Rattle.selectors.specs.Reading.{operator_of, equals_at, operator_at, operand_at, attribute_at, class_at};
 ghost use Rattle.selectors.specs.Reading.{plain_from, nth_at, lang_at, function_at, named_at, called_at, pseudo_at, argument_from, not_at};
 ghost use Rattle.selectors.specs.Reading.{compound_item_seen, element_at, colon_named, colon_called, colon_at, item_from, compound_item_at};
 ghost use Rattle.selectors.specs.Reading.{first_part_at, first_from};

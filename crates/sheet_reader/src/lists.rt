@@ -1,6 +1,6 @@
 //! The lists of a sheet. Each is made from a `Vec` and gives it back without taking memory.
 
-ghost use Rattle.std.specs.Prelude.{◌≡◌, ◌<◌, length, map, Some, slice_get, IfOk};
+ghost use Rattle.std.specs.Prelude.{◌≡◌, ◌<◌, length, map};
 ghost use Rattle.sheet_reader.specs.Forms.{rule_seen};
 
 use crate::sheet::{Property, StyleRule};

@@ -1,6 +1,6 @@
 //! The top-level parts of a sheet (CSS Syntax 3, sections 5.4.1 to 5.4.3).
 
-ghost use Rattle.std.specs.Prelude.{◌≡◌, ◌≤◌, ◌<◌, ◌∷◌, length, drop, slice_get, Some, IfOk};
+ghost use Rattle.std.specs.Prelude.{◌≡◌, ◌≤◌, ◌<◌, length, drop, slice_get, Some, IfOk};
 ghost use Rattle.sheet_reader.specs.Parts.{is_passed, ending_at, at_rule_at, qualified_at, part_at, ending_pieces, part_pieces};
 ghost use Rattle.sheet_reader.specs.Seen.{ending_seen, part_seen};
 

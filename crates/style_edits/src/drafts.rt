@@ -1,6 +1,6 @@
 //! A sheet as an edit leaves it, before it is in the book. Making one may take memory; putting it into the book does not.
 
-ghost use Rattle.std.specs.Prelude.{◌≡◌, ◌≤◌, ◌^◌, length, Some, IfOk, IsSome, OnOk, OnErr, ◌++◌, ◌∷◌, [], string_bytes, true, false};
+ghost use Rattle.std.specs.Prelude.{◌≡◌, ◌≤◌, ◌^◌, length, IfOk, IsSome, string_bytes};
 ghost use Rattle.std.specs.Prelude.{nat_le};
 ghost use Rattle.std.specs.Str.{IsCharBoundary};
 ghost use Rattle.selectors.specs.Ranges.{IsRangeOf};

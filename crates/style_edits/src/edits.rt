@@ -1,7 +1,7 @@
 //! A client's edits of sheets.
 
-ghost use Rattle.std.specs.Prelude.{◌≡◌, All, ◌++◌, ◌∷◌, [], List, Ok, Err, Some, IfOk, OnOk, OnErr, MatchResult, IsSome};
-ghost use Rattle.sheet_reader.specs.Books.{IsEntry, entry_of, book_changed};
+ghost use Rattle.std.specs.Prelude.{◌≡◌, All, ◌++◌, ◌∷◌, [], Ok, Err, Some, IfOk, OnOk, OnErr, MatchResult};
+ghost use Rattle.sheet_reader.specs.Books.{IsEntry, entry_of};
 ghost use Rattle.style_edits.specs.Edits.{style_in, selector_in, text_in, rule_in, client_sheet, style_splice, selector_splice};
 ghost use Rattle.style_edits.specs.Edits.{text_splice, rule_splice, edited, styles_edited, IfFault, whole_range};
 ghost use Rattle.style_edits.specs.Drafts.{Drafts, IsOld, olds_restored, with_backs};

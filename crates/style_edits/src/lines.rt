@@ -5,7 +5,7 @@ ghost use Rattle.std.specs.List.{find};
 ghost use Rattle.std.specs.Str.{IsCharBoundary};
 ghost use Rattle.css_tokens.specs.declared.token.Range.{Range};
 ghost use Rattle.selectors.specs.Ranges.{IsRangeOf};
-ghost use Rattle.sheet_reader.specs.Forms.{range, rule_seen};
+ghost use Rattle.sheet_reader.specs.Forms.{range};
 ghost use Rattle.sheet_reader.specs.Books.{IsEntry};
 ghost use Rattle.style_edits.specs.Drafts.{IsAt, is_same_range};
 ghost use Rattle.style_edits.specs.Edits.{is_at, body_at, prelude_at, place_at};

@@ -154,12 +154,13 @@ module _ {P E : Type 0} (after : E → P → P) (back : E → P → E) (Takes : 
     pub ends : after_all after es page ≡ page_redone m.future page
     pub kept_on : KeptFor (past_pushed (back_all after back es page) (future_popped kept)) (redone m) (page_redone m.future page)
 
-  -- There is nothing to take back, or to do again: the lists are empty together, and nothing changes.
+  -- there is nothing to take back: the lists are empty together, and nothing changes
   pub record IsNoUndo (kept : Marks E) (m : Marks (HistoryEntry P E)) (page : P) : Type 0 where
     pub none_saved : m.past ≡ []
     pub stays : undone m ≡ m
     pub kept_stays : past_popped kept ≡ kept
 
+  -- there is nothing to do again
   pub record IsNoRedo (kept : Marks E) (m : Marks (HistoryEntry P E)) (page : P) : Type 0 where
     pub none_saved : m.future ≡ []
     pub stays : redone m ≡ m

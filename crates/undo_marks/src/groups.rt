@@ -1,4 +1,4 @@
-ghost use Rattle.std.specs.Prelude.{◌≡◌, ◌+◌, ◌<◌, ◌^◌, [], ◌∷◌, length, option_map, IfOk, OnOk, OnErr};
+ghost use Rattle.std.specs.Prelude.{◌≡◌, ◌+◌, ◌<◌, ◌^◌, [], ◌∷◌, option_map, IfOk, OnOk, OnErr};
 ghost use Rattle.undo_marks.specs.Marks.{entry_count, newest, older, onto_newest};
 
 use crate::inverse_lists::Inverse;
