@@ -38,3 +38,5 @@ pub mod OneProof
 pub mod KeepSeats
 pub mod NoteSeats
 pub mod UndoSeats
+pub mod NoteCounts
+pub mod AskCounts

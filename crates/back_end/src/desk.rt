@@ -215,6 +215,7 @@ impl Desk {
     ) -> Result<(), AllocError>
         requires ask { fits_ask ask.now ≡ true }
         requires room { HasNumbersLeft self.old side.old }
+        requires standing { ∥ ((state : State) × DeskStandsFor self.old side.old state) ∥₁ }
         ensures stands { (state : State) → DeskStandsFor self.old side.old state
             → OnOk result (DeskStandsFor self.new side.new (command_step id (commands.AskDom ask.now) state).state) }
         ensures sent { (state : State) → DeskStandsFor self.old side.old state

@@ -1,5 +1,5 @@
 // The pauses that a script's edits come to.
-ghost use Rattle.std.specs.Prelude.{◌≡◌, ◌<◌, ◌+◌, ◌^◌, ◌++◌, ◌∷◌, [], max, Some, IfOk, OnOk};
+ghost use Rattle.std.specs.Prelude.{◌≡◌, ◌<◌, ◌+◌, ◌^◌, ◌++◌, ◌∷◌, [], ◌≤◌, Some, IfOk, OnOk};
 ghost use Rattle.page_tree.specs.EditFaults.{CanApply};
 ghost use Rattle.page_tree.specs.Edits.{after, back_tree};
 ghost use Rattle.cdp_messages.specs.Moves.{met, frames_of_moves};
@@ -15,34 +15,7 @@ use dom_breakpoints::{Pause, WatchKind};
 use page_tree::TreeEdit;
 use std::alloc::AllocError;
 
-/// No seat that has room comes to such an id.
-const MOST_IDS: u64 = (1 << 50) + (1 << 40);
-
 impl Desk {
-    /// A node becomes known, as by `push`, and ids are left.
-    fn push_with_room(
-        &mut self,
-        side: &PageSide,
-        node: u64,
-        out: &mut Vec<u8>,
-    ) -> Result<u64, AllocError>
-        requires ids { self.old.agent.next < 2 ^ 52 }
-        ensures few { OnOk result (self.new.agent.next < 2 ^ 50 + 2 ^ 40) }
-        ensures id { (state : State) → DeskStandsFor self.old side.now state → CanPush node state
-            → IfOk result (λ id. id ≡ id_now (push_step node state).state node) }
-        ensures stands { (state : State) → DeskStandsFor self.old side.now state → CanPush node state
-            → OnOk result (DeskStandsFor self.new side.now (push_step node state).state) }
-        ensures sent { (state : State) → DeskStandsFor self.old side.now state → CanPush node state
-            → OnOk result (out.new.items ≡ out.old.items ++ frames_of_moves (push_step node state).moves) }
-    {
-        let id = self.push(side, node, out)?;
-        // Never in use: a push draws no more ids than the page has nodes.
-        if self.agent.next_id() >= MOST_IDS {
-            return Err(AllocError);
-        }
-        Ok(id)
-    }
-
     /// `Debugger.paused`
     fn tell_paused(&self, why: PauseData, out: &mut Vec<u8>) -> Result<(), AllocError>
         ensures { OnOk result (out.new.items ≡ out.old.items ++ frames_of_moves (met why ∷ [])) }
@@ -57,14 +30,14 @@ impl Desk {
         node: u64,
         out: &mut Vec<u8>,
     ) -> Result<(), AllocError>
-        requires ids { self.old.agent.next < 2 ^ 52 }
-        ensures few { OnOk result (self.new.agent.next < 2 ^ 50 + 2 ^ 40) }
+        requires ids { self.old.agent.next < 2 ^ 51 }
+        ensures few { OnOk result (self.new.agent.next ≤ self.old.agent.next + 2 ^ 35) }
         ensures stands { (state : State) → DeskStandsFor self.old side.now state → CanPush node state
             → OnOk result (DeskStandsFor self.new side.now (pause_step (Some (attribute_pause node)) state).state) }
         ensures sent { (state : State) → DeskStandsFor self.old side.now state → CanPush node state
             → OnOk result (out.new.items ≡ out.old.items ++ frames_of_moves (pause_step (Some (attribute_pause node)) state).moves) }
     {
-        let node = self.push_with_room(side, node, out)?;
+        let node = self.push(side, node, out)?;
         self.tell_paused(PauseData::Attribute { node }, out)
     }
 
@@ -75,14 +48,14 @@ impl Desk {
         node: u64,
         out: &mut Vec<u8>,
     ) -> Result<(), AllocError>
-        requires ids { self.old.agent.next < 2 ^ 52 }
-        ensures few { OnOk result (self.new.agent.next < 2 ^ 50 + 2 ^ 40) }
+        requires ids { self.old.agent.next < 2 ^ 51 }
+        ensures few { OnOk result (self.new.agent.next ≤ self.old.agent.next + 2 ^ 35) }
         ensures stands { (state : State) → DeskStandsFor self.old side.now state → CanPush node state
             → OnOk result (DeskStandsFor self.new side.now (pause_step (Some (removal_pause node)) state).state) }
         ensures sent { (state : State) → DeskStandsFor self.old side.now state → CanPush node state
             → OnOk result (out.new.items ≡ out.old.items ++ frames_of_moves (pause_step (Some (removal_pause node)) state).moves) }
     {
-        let node = self.push_with_room(side, node, out)?;
+        let node = self.push(side, node, out)?;
         self.tell_paused(PauseData::Removed { node }, out)
     }
 
@@ -95,16 +68,16 @@ impl Desk {
         insertion: bool,
         out: &mut Vec<u8>,
     ) -> Result<(), AllocError>
-        requires ids { self.old.agent.next < 2 ^ 52 }
-        ensures few { OnOk result (self.new.agent.next < 2 ^ 50 + 2 ^ 40) }
+        requires ids { self.old.agent.next < 2 ^ 51 }
+        ensures few { OnOk result (self.new.agent.next ≤ self.old.agent.next + 2 ^ 35) }
         ensures stands { (state : State) → DeskStandsFor self.old side.now state → CanPush node state → CanPush target state
             → OnOk result (DeskStandsFor self.new side.now (pause_step (Some (subtree_watch_pause node target insertion)) state).state) }
         ensures sent { (state : State) → DeskStandsFor self.old side.now state → CanPush node state → CanPush target state
             → OnOk result (out.new.items ≡ out.old.items
             ++ frames_of_moves (pause_step (Some (subtree_watch_pause node target insertion)) state).moves) }
     {
-        let node = self.push_with_room(side, node, out)?;
-        let target = self.push_with_room(side, target, out)?;
+        let node = self.push(side, node, out)?;
+        let target = self.push(side, target, out)?;
         let why = PauseData::Subtree {
             node,
             target,
@@ -121,7 +94,7 @@ impl Desk {
         out: &mut Vec<u8>,
     ) -> Result<(), AllocError>
         requires ids { self.old.agent.next < 2 ^ 51 }
-        ensures few { OnOk result (self.new.agent.next < max (2 ^ 50 + 2 ^ 40) (self.old.agent.next + 1)) }
+        ensures few { OnOk result (self.new.agent.next ≤ self.old.agent.next + 2 ^ 35) }
         ensures stands { (state : State) → DeskStandsFor self.old side.now state → IsPause state.client.watched (page_nodes state) pause
             → OnOk result (DeskStandsFor self.new side.now (pause_step (Some pause) state).state) }
         ensures sent { (state : State) → DeskStandsFor self.old side.now state → IsPause state.client.watched (page_nodes state) pause
@@ -146,7 +119,7 @@ impl Desk {
     ) -> Result<(), AllocError>
         requires can { CanApply side.now.page.next edit.now side.now.page.tree }
         requires ids { self.old.agent.next < 2 ^ 51 }
-        ensures few { OnOk result (self.new.agent.next < max (2 ^ 50 + 2 ^ 40) (self.old.agent.next + 1)) }
+        ensures few { OnOk result (self.new.agent.next ≤ self.old.agent.next + 2 ^ 35) }
         ensures stands { (state : State) → DeskStandsFor self.old side.now state
             → OnOk result (DeskStandsFor self.new side.now (pause_before edit.now state).state) }
         ensures sent { (state : State) → DeskStandsFor self.old side.now state
@@ -171,7 +144,7 @@ impl Desk {
         requires sheets { side.old.sheets.next < 2 ^ 51 }
         ensures page { OnOk result (side.new.page ≡ after edit side.old.page) }
         ensures kept { side.new.sheets ≡ side.old.sheets }
-        ensures few { OnOk result (self.new.agent.next < max (2 ^ 50 + 2 ^ 40) (self.old.agent.next + 1) + 2) }
+        ensures few { OnOk result (self.new.agent.next ≤ self.old.agent.next + 2 ^ 36) }
         ensures back { IfOk result (λ back. back ≡ back_tree edit side.old.page.tree) }
         ensures stands { (state : State) → DeskStandsFor self.old side.old state → EditHasTexts edit
             → OnOk result (DeskStandsFor self.new side.new (script_step edit state).state) }

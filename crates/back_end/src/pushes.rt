@@ -1,5 +1,5 @@
 // A node becomes known at a seat.
-ghost use Rattle.std.specs.Prelude.{◌≡◌, ◌<◌, ◌^◌, ◌++◌, IfOk, OnOk};
+ghost use Rattle.std.specs.Prelude.{◌≤◌, ◌+◌, ◌≡◌, ◌<◌, ◌^◌, ◌++◌, IfOk, OnOk};
 ghost use Rattle.cdp_messages.specs.Moves.{frames_of_moves};
 ghost use Rattle.back_end.specs.States.{State};
 ghost use Rattle.back_end.specs.Steps.{id_now, push_step};
@@ -18,6 +18,7 @@ impl Desk {
         out: &mut Vec<u8>,
     ) -> Result<u64, AllocError>
         requires ids { self.old.agent.next < 2 ^ 52 }
+        ensures few { OnOk result (self.new.agent.next ≤ self.old.agent.next + 2 ^ 34) }
         ensures id { (state : State) → DeskStandsFor self.old side.now state → CanPush node state
             → IfOk result (λ id. id ≡ id_now (push_step node state).state node) }
         ensures stands { (state : State) → DeskStandsFor self.old side.now state → CanPush node state

@@ -1,13 +1,13 @@
 // A client's edits of sheets.
-ghost use Rattle.std.specs.Prelude.{◌≡◌, ◌++◌, map, OnOk};
+ghost use Rattle.std.specs.Prelude.{◌≡◌, ◌+◌, ◌<◌, ◌^◌, ◌++◌, map, length, OnOk};
 ghost use Rattle.cdp_messages.specs.Moves.{frames_of_moves};
 ghost use Rattle.css_agent.specs.EditLaws.{HasEditTexts};
-ghost use Rattle.undo_marks.specs.Marks.{noted_singly};
+ghost use Rattle.undo_marks.specs.Marks.{entry_count, noted_singly};
 ghost use Rattle.undo_marks.specs.declared.inverse_lists.Inverse.TheVariants as kept;
 ghost use Rattle.back_end.specs.States.{State};
 ghost use Rattle.cdp_messages.specs.declared.command.Command.TheVariants as commands;
 ghost use Rattle.back_end.specs.Steps.{command_step};
-ghost use Rattle.back_end.specs.Seats.{BothStandFor, DeskStandsFor, HasNumbersLeft};
+ghost use Rattle.back_end.specs.Seats.{BothStandFor, DeskStandsFor, HasNumbersLeft, edits_in};
 
 use crate::desk::Desk;
 use crate::own::sheet_why;
@@ -19,6 +19,7 @@ use undo_marks::{History, Inverse};
 
 /// Notes a client's edits of sheets by the splices that lead back, each by itself.
 fn note_splices(history: &mut History, backs: Vec<Splice>) -> Result<(), AllocError>
+    requires few { entry_count history.old.past + length backs.items < 2 ^ 62 }
     ensures { OnOk result (history.new ≡ noted_singly (map (λ s. kept.Sheet s) backs.items) history.old) }
 {
     for back in backs {
@@ -39,6 +40,7 @@ impl Desk {
     ) -> Result<(), AllocError>
         requires texts { HasEditTexts edit.now }
         requires room { HasNumbersLeft self.old side.old }
+        requires few { edits_in history.old < 2 ^ 30 }
         ensures stands { (state : State) → BothStandFor self.old history.old side.old state
             → OnOk result (BothStandFor self.new history.new side.new (command_step id (commands.EditCss edit.now) state).state) }
         ensures sent { (state : State) → DeskStandsFor self.old side.old state

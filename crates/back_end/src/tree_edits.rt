@@ -3,7 +3,7 @@ ghost use Rattle.std.specs.Prelude.{◌≡◌, ◌+◌, ◌<◌, ◌^◌, ◌++�
 ghost use Rattle.page_tree.specs.Edits.{after, back_tree};
 ghost use Rattle.page_tree.specs.EditFaults.{CanApply, move_fault, copy_fault};
 ghost use Rattle.undo_marks.specs.Changes.{back_all};
-ghost use Rattle.undo_marks.specs.Marks.{noted, noted_singly};
+ghost use Rattle.undo_marks.specs.Marks.{entry_count, noted, noted_singly};
 ghost use Rattle.undo_marks.specs.SavedEdits.{saved_of, page_after, way_back};
 ghost use Rattle.undo_marks.specs.declared.inverse_lists.Inverse.TheVariants as kept;
 ghost use Rattle.cdp_messages.specs.Moves.{frames_of_moves};
@@ -13,7 +13,7 @@ ghost use Rattle.back_end.specs.Plans.{node_edit_fault, node_edit_plan, node_put
 ghost use Rattle.cdp_messages.specs.declared.command.Command.TheVariants as commands;
 ghost use Rattle.back_end.specs.Texts.{EditHasTexts, HasTreeTexts, IsPlainEdit};
 ghost use Rattle.back_end.specs.Steps.{command_step, edit_step, idle, node_edit_step, plan_step, put_answer};
-ghost use Rattle.back_end.specs.Seats.{BothStandFor, CanPushAny, DeskStandsFor, HasNumbersLeft};
+ghost use Rattle.back_end.specs.Seats.{BothStandFor, CanPushAny, DeskStandsFor, HasNumbersLeft, edits_in};
 
 use crate::desk::Desk;
 use crate::node_edits::{NodeEdit, lowered};
@@ -35,6 +35,7 @@ impl Desk {
         out: &mut Vec<u8>,
     ) -> Result<(), AllocError>
         requires can { CanApply side.old.page.next edit side.old.page.tree }
+        requires notes { entry_count history.old.past < 2 ^ 31 }
         requires ids { self.old.agent.next < 2 ^ 51 }
         requires serials { side.old.page.next < 2 ^ 51 }
         requires sheets { side.old.sheets.next < 2 ^ 51 }
@@ -63,6 +64,7 @@ impl Desk {
     ) -> Result<(), AllocError>
         requires fits { move_fault node parent before side.old.page.tree ≡ None }
         requires room { HasNumbersLeft self.old side.old }
+        requires notes { edits_in history.old < 2 ^ 30 }
         ensures few { OnOk result (self.new.agent.next < self.old.agent.next + 4) }
         ensures noted { OnOk result (history.new ≡ noted_singly (back_all page_after way_back
             (map (λ e. kept.Tree e) (node_edit_plan (MoveNode node parent before) side.old.page).edits)
@@ -98,6 +100,7 @@ impl Desk {
     ) -> Result<(), AllocError>
         requires fits { copy_fault node parent before side.old.page.tree ≡ None }
         requires room { HasNumbersLeft self.old side.old }
+        requires notes { edits_in history.old < 2 ^ 30 }
         ensures few { OnOk result (self.new.agent.next < self.old.agent.next + 4) }
         ensures noted { OnOk result (history.new ≡ noted_singly (back_all page_after way_back
             (map (λ e. kept.Tree e) (node_edit_plan (CopyNode node parent before) side.old.page).edits)
@@ -130,6 +133,7 @@ impl Desk {
         requires fits { node_edit_fault edit side.old.page ≡ None }
         requires plain { IsPlainEdit edit }
         requires room { HasNumbersLeft self.old side.old }
+        requires notes { edits_in history.old < 2 ^ 30 }
         ensures put { IfOk result (λ put. put ≡ node_put edit side.old.page) }
         ensures few { OnOk result (self.new.agent.next < self.old.agent.next + 4) }
         ensures noted { OnOk result (history.new ≡ noted_singly (back_all page_after way_back
@@ -199,6 +203,7 @@ impl Desk {
     ) -> Result<(), AllocError>
         requires plain { IsPlainEdit edit }
         requires room { HasNumbersLeft self.old side.old }
+        requires notes { edits_in history.old < 2 ^ 30 }
         ensures stands { (state : State) → BothStandFor self.old history.old side.old state → is_some state.client.session.opened ≡ true
             → OnOk result (BothStandFor self.new history.new side.new (node_edit_step id (Ok edit) state).state) }
         ensures sent { (state : State) → DeskStandsFor self.old side.old state → is_some state.client.session.opened ≡ true
@@ -222,6 +227,7 @@ impl Desk {
     ) -> Result<(), AllocError>
         requires texts { HasTreeTexts edit }
         requires room { HasNumbersLeft self.old side.old }
+        requires notes { edits_in history.old < 2 ^ 30 }
         ensures stands { (state : State) → BothStandFor self.old history.old side.old state
             → OnOk result (BothStandFor self.new history.new side.new (command_step id (commands.EditDom edit) state).state) }
         ensures sent { (state : State) → DeskStandsFor self.old side.old state

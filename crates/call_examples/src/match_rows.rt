@@ -100,7 +100,7 @@ fn push_found(
         answer.push_number(*serial);
         answer.push(" ");
     }
-    match first_match(list, page, 1) {
+    match first_match(alloc, list, page, 1) {
         Some(first) => {
             answer.push("first ");
             answer.push_number(first);

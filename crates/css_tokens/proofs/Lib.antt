@@ -17,3 +17,4 @@ pub mod SeamUnits
 pub mod SeamRows
 pub mod SeamNames
 pub mod SeamPieces
+pub mod SpellForms

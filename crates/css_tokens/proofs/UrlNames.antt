@@ -91,7 +91,7 @@ encoded_letter v letter more says low e =
     ≡ letter ∷ says = ap (λ (x : List ℕ). map to_ascii_lowercase (x ++ more)) (sym one) ∙ e in
     (cc, cc)
 
-bytes_letter : (tail : List ℕ) (letter : ℕ) (more says : List ℕ) → letter < 128
+pub bytes_letter : (tail : List ℕ) (letter : ℕ) (more says : List ℕ) → letter < 128
     → map to_ascii_lowercase (escape_bytes tail ++ more) ≡ letter ∷ says
     → (to_ascii_lowercase (escape_value tail) ≡ letter) × (map to_ascii_lowercase more ≡ says)
 unfolding escape_bytes escape_value
@@ -107,7 +107,7 @@ bytes_letter (c ∷ rest) letter more says low e =
 small_letter : (c letter : ℕ) → to_ascii_lowercase c ≡ letter → letter < 123 → c < 128
 small_letter c letter is low = grind (arith, nat_tests)
 
-letter_bytes : (tail : List ℕ) (letter : ℕ) (more : List ℕ) → letter < 123 → to_ascii_lowercase (escape_value tail) ≡ letter
+pub letter_bytes : (tail : List ℕ) (letter : ℕ) (more : List ℕ) → letter < 123 → to_ascii_lowercase (escape_value tail) ≡ letter
     → map to_ascii_lowercase (escape_bytes tail ++ more) ≡ letter ∷ map to_ascii_lowercase more
 unfolding escape_bytes escape_value
 letter_bytes [] letter more low is = absurd (omega (arith, small_letter 0xFFFD letter is low))
@@ -132,7 +132,7 @@ same_true a b e = grind (arith, nat_tests)
 ident_no_back : (c : ℕ) → is_ident c ≡ true → (c == 92) ≡ false
 ident_no_back c ident = grind (arith, nat_tests)
 
-plain_says : (c : ℕ) (rest : List ℕ) → (c == 92) ≡ false → unescaped (c ∷ rest) ≡ c ∷ unescaped rest
+pub plain_says : (c : ℕ) (rest : List ℕ) → (c == 92) ≡ false → unescaped (c ∷ rest) ≡ c ∷ unescaped rest
 unfolding unescaped_after
 plain_says c rest other = rw other refl
 

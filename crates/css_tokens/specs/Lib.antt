@@ -9,3 +9,4 @@ pub mod First
 pub mod Forms
 pub mod Table
 pub mod Seams
+pub mod Spelling

@@ -9,11 +9,13 @@ mod laws;
 mod names;
 mod rows;
 mod runs;
+mod spelling;
 mod token;
 mod tokens;
 mod values;
 
 pub use laws::{seam_law, table_law};
+pub use spelling::spells;
 pub use token::{Range, Token, TokenKind};
 pub use tokens::{Tokens, all_tokens};
 pub use values::unescape;

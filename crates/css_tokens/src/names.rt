@@ -14,7 +14,7 @@ use crate::runs::{Run, name_len, run_len, starts_ident, white_run};
 use crate::token::{Piece, TokenKind};
 
 /// How long the ident character or escape at the front is, where its value is the letter; 0 where it is not.
-fn letter_len(letter: u8, text: &[u8]) -> usize
+pub(crate) fn letter_len(letter: u8, text: &[u8]) -> usize
     ensures value { result ≡ letter_len letter text.now }
     ensures fits { result ≤ length text.now }
 {

@@ -1,3 +1,4 @@
+pub mod ClimbLemmas
 pub mod OpeningsLemmas
 pub mod StepLemmas
 pub mod OutcomeLemmas
@@ -28,3 +29,4 @@ pub mod EditLemmas
 pub mod EditMoves
 pub mod EditKeepers
 pub mod EditCode
+pub mod GrowLemmas

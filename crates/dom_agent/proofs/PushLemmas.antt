@@ -41,7 +41,7 @@ module _ (tree : Branch PageRow) where
       (pushing-absent (opened_in b) s (alone tree) absent)
 
   -- the first of several
-  all_pushed-cons : (s : ℕ) (ss : List ℕ) (b : BindingValue) → all_pushed (binding_keeper (alone tree)) tree (s ∷ ss) b
+  pub all_pushed-cons : (s : ℕ) (ss : List ℕ) (b : BindingValue) → all_pushed (binding_keeper (alone tree)) tree (s ∷ ss) b
       ≡ (let first = pushed (binding_keeper (alone tree)) tree s b in and_id (binding_keeper (alone tree)) tree
       (cond (has row_serial s (alone tree)) (id_in first.state s) 0) first
       (all_pushed (binding_keeper (alone tree)) tree ss first.state))

@@ -176,3 +176,15 @@ module _ (page : PageValue) (valid : IsValid page) (o : ℕ → Bool) (s : ℕ) 
         count-alone page valid,
         mul-le-mul_left (node_count (alone page.tree)) (count-alone page valid),
       )
+
+  -- however deep the tree is
+  pub pushing_few : sum_by below (pushing o s (alone page.tree)) ≤ 2 ^ 34
+  pushing_few =
+      omega (
+        arith,
+        pushed_count o (ancestors_down s (alone page.tree)),
+        ancestors_count s
+            (alone page.tree),
+        count-alone page valid,
+        mul-le-mul_left (node_count (alone page.tree)) (count-alone page valid),
+      )

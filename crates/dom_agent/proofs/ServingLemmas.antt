@@ -1,5 +1,5 @@
 -- Openings one after the other.
-use Rattle.std.proofs.Common.{◌≡◌, ℕ, suc, ◌+◌, ◌<◌, ◌^◌, List, [], ◌∷◌, ◌++◌, All, map, sum_by, length, get_or, drop, drop-cons, add-one}
+use Rattle.std.proofs.Common.{◌≡◌, ℕ, suc, ◌+◌, ◌<◌, ◌≤◌, ◌^◌, List, [], ◌∷◌, ◌++◌, All, map, sum_by, length, get_or, drop, drop-cons, add-one}
 use Rattle.std.proofs.Common.{append_assoc, append-nil, refl, sym, ap, ◌∙◌, subst, arith}
 use Rattle.std.proofs.lemmas.List.Elements.{All-head, All-tail}
 use Rattle.std.proofs.lemmas.List.Sums.{sum_by-cons}
@@ -27,11 +27,13 @@ pub record Opens (left : List Opening) (b : BindingValue) (out : List ℕ) (all 
       ≡ sent ++ frames_told (all_opened (binding_keeper n) d all begin).shown
   pub containers : All IsOfContainer left
   pub room : b.next + sum_by below left < 2 ^ 63
+  pub few : b.next + sum_by below left ≤ begin.next + sum_by below all
 
 pub opens_start : (os : List held.Opening) (b : BindingValue) (out : List ℕ) → All IsOfContainer (map opening_of os)
     → b.next + sum_by (λ x. node_count x.node.children) (map opening_of os) < 2 ^ 63
     → Opens (map opening_of (drop 0 os)) b out (map opening_of os) b out
-opens_start os b out containers room = record { state = λ n d. refl; frames = λ n d. refl; containers = containers; room = room }
+opens_start os b out containers room =
+    record { state = λ n d. refl; frames = λ n d. refl; containers = containers; room = room; few = omega arith }
 
 -- the frame of the first, and then those of the others
 pub frames-cons : (x : Showing) (xs : List Showing) → frames_told (x ∷ xs) ≡ frames_told (x ∷ []) ++ frames_told xs
@@ -53,6 +55,7 @@ opened_next x xs b b1 out out1 all begin sent opened told was = record {
       ∙ was.frames n d;
   containers = All-tail IsOfContainer x xs was.containers;
   room = omega (arith, was.room, sum_by-cons below x xs, opened_down-next x.levels x.node b, ap (λ m. m.next) opened);
+  few = omega (arith, was.few, sum_by-cons below x xs, opened_down-next x.levels x.node b, ap (λ m. m.next) opened);
 }
 
 split : (os : List held.Opening) (i : ℕ) (x : held.Opening) → i < length os → x ≡ get_or os i x

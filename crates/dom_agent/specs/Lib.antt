@@ -4,6 +4,7 @@ pub mod Described
 pub mod Queries
 pub mod Requests
 pub mod Openings
+pub mod Climbs
 pub mod Laws
 pub mod Distances
 pub mod Sets

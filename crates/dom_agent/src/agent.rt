@@ -1,4 +1,4 @@
-ghost use Rattle.std.specs.Prelude.{◌≡◌, [], ◌∷◌, ◌++◌, ◌<◌, ◌^◌, pos, true, Some, None, unwrap_or, IsSome, OnOk, IfOk};
+ghost use Rattle.std.specs.Prelude.{◌≤◌, ◌+◌, ◌≡◌, [], ◌∷◌, ◌++◌, ◌<◌, ◌^◌, pos, true, Some, None, unwrap_or, IsSome, OnOk, IfOk};
 ghost use Rattle.std.specs.FinMap as map;
 ghost use Rattle.node_tree.specs.Nodes.{alone};
 ghost use Rattle.node_tree.specs.Labels.{is_element};
@@ -73,6 +73,7 @@ impl DomAgent {
     ) -> Result<(), AllocError>
         requires ask { fits_ask ask.now ≡ true }
         requires room { self.old.next < 2 ^ 52 }
+        requires few { (state_after self.old (binding_outcome page.now ask.now self.old)).next < 2 ^ 60 }
         ensures known { OnOk result
             (self.new ≡ state_after self.old (binding_outcome page.now ask.now self.old)) }
         ensures sent { OnOk result
@@ -214,6 +215,7 @@ impl DomAgent {
         serials: &[u64],
         out: &mut Vec<u8>,
     ) -> Result<(), AllocError>
+        requires few { (state_after self.old (binding_outcome page.now (PushBySerials serials.now) self.old)).next < 2 ^ 60 }
         ensures known { OnOk result
             (self.new ≡ state_after self.old (binding_outcome page.now (PushBySerials serials.now) self.old)) }
         ensures sent { OnOk result
@@ -234,6 +236,7 @@ impl DomAgent {
         serials: &[u64],
         out: &mut Vec<u8>,
     ) -> Result<(), AllocError>
+        requires few { (all_pushed (binding_keeper (alone page.now.tree)) page.now.tree serials.now self.old).progress.state.next < 2 ^ 60 }
         ensures known { OnOk result (self.new
             ≡ (all_pushed (binding_keeper (alone page.now.tree)) page.now.tree serials.now self.old).progress.state) }
         ensures sent { OnOk result (out.new.items ≡ out.old.items
@@ -282,7 +285,7 @@ impl DomAgent {
         ensures sent { OnOk result (out.new.items ≡ out.old.items ++ answer id
             (first_asked (binding_keeper (alone page.now.tree)) page.now.tree (query_seen query.now) self.old)) }
     {
-        match first_match(&query.selectors, page, query.root) {
+        match first_match(self.alloc, &query.selectors, page, query.root) {
             Some(serial) => self.answer_pushed(page, id, serial, out),
             None => reply(self.alloc, id, ReplyBody::NodeId(0), out),
         }
@@ -296,6 +299,7 @@ impl DomAgent {
         selector: &str,
         out: &mut Vec<u8>,
     ) -> Result<(), AllocError>
+        requires few { (state_after self.old (binding_outcome page.now (QuerySelectorAll node selector.now) self.old)).next < 2 ^ 60 }
         ensures known { OnOk result
             (self.new ≡ state_after self.old (binding_outcome page.now (QuerySelectorAll node selector.now) self.old)) }
         ensures sent { OnOk result
@@ -318,6 +322,8 @@ impl DomAgent {
         out: &mut Vec<u8>,
     ) -> Result<(), AllocError>
         requires live { IsSome (find_in query.now.root page.now.tree) }
+        requires few { (state_after self.old
+            (all_asked (binding_keeper (alone page.now.tree)) page.now.tree (query_seen query.now) self.old)).next < 2 ^ 60 }
         ensures known { OnOk result (self.new ≡ state_after self.old
             (all_asked (binding_keeper (alone page.now.tree)) page.now.tree (query_seen query.now) self.old)) }
         ensures sent { OnOk result (out.new.items ≡ out.old.items ++ answer id
@@ -388,6 +394,7 @@ impl DomAgent {
     /// Gives the id of the node.
     pub fn push(&mut self, page: &Page, serial: u64, out: &mut Vec<u8>) -> Result<u64, AllocError>
         requires room { self.old.next < 2 ^ 52 }
+        ensures few { OnOk result (self.new.next ≤ self.old.next + 2 ^ 34) }
         ensures id { IfOk result (λ id. id ≡ id_in self.new serial) }
         ensures known { OnOk result
             (self.new ≡ (pushed (binding_keeper (alone page.now.tree)) page.now.tree serial self.old).state) }

@@ -1,13 +1,15 @@
-ghost use Rattle.std.specs.Prelude.{◌≡◌, ◌≤◌, ◌++◌, map, reverse, option_map, cond, Option, Some, None, IfOk, OnOk};
+ghost use Rattle.std.specs.Prelude.{◌≡◌, ◌++◌, map, option_map, cond, Option, Some, None, IsSome, IfOk, OnOk};
 ghost use Rattle.node_tree.specs.Nodes.{alone};
-ghost use Rattle.node_tree.specs.Keys.{has, tally};
-ghost use Rattle.page_tree.specs.Pages.{row_serial};
+ghost use Rattle.node_tree.specs.Keys.{has};
+ghost use Rattle.page_tree.specs.Pages.{row_serial, find_in, node_at};
+ghost use Rattle.page_tree.specs.Zippers.{ancestors, zipper_at};
+ghost use Rattle.dom_agent.specs.Climbs.{unopened_at, up_openings};
 ghost use Rattle.node_binding.specs.Bindings.{opened_in};
 ghost use Rattle.dom_agent.specs.Requests.{requested, pushing};
 ghost use Rattle.dom_agent.specs.Openings.{opening_of};
 
 use node_binding::{Binding, is_reached, less};
-use page_tree::{Children, Node};
+use page_tree::{Children, Node, Page};
 use std::alloc::{AllocError, Global};
 
 /// A container that is to be opened, and by how many levels; `None` stands for all.
@@ -61,72 +63,63 @@ fn request_children<'a>(
     Ok(())
 }
 
-/// Appends the ancestors of the node with that serial among these that are not opened, from the bottom up, each with one
-/// level. Says whether the node is there.
-#[cycle(climb)]
-fn climb_node<'a>(
+/// Appends the opening of a node by one level, if it is not opened.
+fn add_unopened<'a>(
     binding: &Binding,
-    node: &Node<'a>,
+    page: &'a Page,
     serial: u64,
     openings: &mut Vec<Opening<'a>>,
-) -> Result<bool, AllocError>
-    requires once { tally row_serial serial (alone node.now) ≤ 1 }
-    ensures there { IfOk result (λ there. there ≡ has row_serial serial (alone node.now)) }
-    ensures above { OnOk result (map opening_of openings.new.items
-        ≡ map opening_of openings.old.items ++ reverse (pushing (opened_in binding.now) serial (alone node.now))) }
+) -> Result<(), AllocError>
+    requires { IsSome (find_in serial page.now.tree) }
+    ensures { OnOk result (map opening_of openings.new.items
+        ≡ map opening_of openings.old.items ++ unopened_at (opened_in binding.now) serial (node_at serial page.now.tree)) }
 {
-    if node.serial() == serial {
-        return Ok(true);
-    }
-    if !climb_children(binding, &node.children(), serial, openings)? {
-        return Ok(false);
-    }
-    if binding.is_opened(node.serial()) {
-        return Ok(true);
+    if binding.is_opened(serial) {
+        return Ok(());
     }
     openings.push(Opening {
         levels: Some(1),
-        node: node.again(),
+        node: page.node(serial),
     })?;
-    Ok(true)
+    Ok(())
 }
 
-#[cycle(climb)]
-fn climb_children<'a>(
+/// Appends the ancestors of the node with that serial that are not opened, from the bottom up, each with one level.
+fn climb<'a>(
     binding: &Binding,
-    children: &Children<'a>,
+    page: &'a Page,
     serial: u64,
     openings: &mut Vec<Opening<'a>>,
-) -> Result<bool, AllocError>
-    requires once { tally row_serial serial children.now ≤ 1 }
-    ensures there { IfOk result (λ there. there ≡ has row_serial serial children.now) }
-    ensures above { OnOk result (map opening_of openings.new.items
-        ≡ map opening_of openings.old.items ++ reverse (pushing (opened_in binding.now) serial children.now)) }
+) -> Result<(), AllocError>
+    requires { IsSome (find_in serial page.now.tree) }
+    ensures { OnOk result (map opening_of openings.new.items
+        ≡ map opening_of openings.old.items ++ up_openings (opened_in binding.now) (ancestors (zipper_at serial page.now.tree))) }
 {
-    for i in 0..children.len() {
-        let node = children.at(i);
-        if climb_node(binding, &node, serial, openings)? {
-            return Ok(true);
-        }
+    page.valid();
+    let mut at = page.node_ref(serial).parent();
+    while let Some(other) = at {
+        add_unopened(binding, page, other.serial(), openings)?;
+        at = other.parent();
     }
-    Ok(false)
+    Ok(())
 }
 
 /// What a push of the node with that serial opens, from the top down; `None` where no node has it.
 pub(crate) fn openings_above<'a>(
     alloc: Global,
     binding: &Binding,
-    document: &Node<'a>,
+    page: &'a Page,
     serial: u64,
 ) -> Result<Option<Vec<Opening<'a>>>, AllocError>
-    requires { tally row_serial serial (alone document.now) ≤ 1 }
     ensures { IfOk result (λ openings. option_map (λ v. map opening_of v.items) openings
-        ≡ cond (has row_serial serial (alone document.now)) (Some (pushing (opened_in binding.now) serial (alone document.now))) None) }
+        ≡ cond (has row_serial serial (alone page.now.tree)) (Some (pushing (opened_in binding.now) serial (alone page.now.tree))) None) }
 {
-    let mut openings = Vec::new(alloc);
-    if !climb_node(binding, document, serial, &mut openings)? {
+    page.valid();
+    if !page.live(serial) {
         return Ok(None);
     }
+    let mut openings = Vec::new(alloc);
+    climb(binding, page, serial, &mut openings)?;
     openings.reverse();
     Ok(Some(openings))
 }

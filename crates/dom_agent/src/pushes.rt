@@ -1,4 +1,4 @@
-ghost use Rattle.std.specs.Prelude.{◌≡◌, ◌<◌, ◌^◌, ◌++◌, cond, IfOk, OnOk};
+ghost use Rattle.std.specs.Prelude.{◌≤◌, ◌+◌, ◌≡◌, ◌<◌, ◌^◌, ◌++◌, cond, IfOk, OnOk};
 ghost use Rattle.node_tree.specs.Nodes.{alone};
 ghost use Rattle.node_tree.specs.Keys.{has};
 ghost use Rattle.page_tree.specs.Pages.{row_serial};
@@ -22,6 +22,7 @@ pub(crate) fn open_above(
     out: &mut Vec<u8>,
 ) -> Result<bool, AllocError>
     requires { binding.old.next < 2 ^ 60 }
+    ensures few { OnOk result (binding.new.next ≤ binding.old.next + 2 ^ 34) }
     ensures there { IfOk result (λ there. there ≡ has row_serial serial (alone page.now.tree)) }
     ensures known { OnOk result (binding.new
         ≡ (pushed (binding_keeper (alone page.now.tree)) page.now.tree serial binding.old).state) }
@@ -29,8 +30,7 @@ pub(crate) fn open_above(
         ≡ out.old.items ++ frames_told (pushed (binding_keeper (alone page.now.tree)) page.now.tree serial binding.old).shown) }
 {
     page.valid();
-    let root = page.root();
-    let Some(openings) = openings_above(alloc, binding, &root, serial)? else {
+    let Some(openings) = openings_above(alloc, binding, page, serial)? else {
         return Ok(false);
     };
     open_all(alloc, binding, &openings, out)?;
@@ -45,6 +45,7 @@ fn push_if_there(
     serial: u64,
     out: &mut Vec<u8>,
 ) -> Result<u64, AllocError>
+    requires { binding.old.next < 2 ^ 60 }
     ensures id { IfOk result
         (λ id. id ≡ cond (has row_serial serial (alone page.now.tree)) (id_in binding.new serial) 0) }
     ensures known { OnOk result (binding.new
@@ -52,10 +53,6 @@ fn push_if_there(
     ensures sent { OnOk result (out.new.items
         ≡ out.old.items ++ frames_told (pushed (binding_keeper (alone page.now.tree)) page.now.tree serial binding.old).shown) }
 {
-    // Never in use: what is opened is not opened again, so a whole list draws no more ids than the page has nodes.
-    if binding.next_id() >= 1 << 60 {
-        return Err(AllocError);
-    }
     if !open_above(alloc, binding, page, serial, out)? {
         return Ok(0);
     }
@@ -70,6 +67,7 @@ pub(crate) fn push_all(
     serials: &[u64],
     out: &mut Vec<u8>,
 ) -> Result<Vec<u64>, AllocError>
+    requires few { (all_pushed (binding_keeper (alone page.now.tree)) page.now.tree serials.now binding.old).progress.state.next < 2 ^ 60 }
     ensures ids { IfOk result (λ ids. ids.items
         ≡ (all_pushed (binding_keeper (alone page.now.tree)) page.now.tree serials.now binding.old).ids) }
     ensures known { OnOk result (binding.new

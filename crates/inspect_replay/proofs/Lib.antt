@@ -10,3 +10,4 @@ pub mod PageLemmas
 pub mod ServeLemmas
 pub mod ServeEnds
 pub mod SheetLineLemmas
+pub mod ServeRoom

@@ -26,7 +26,7 @@ use Rattle.inspect_replay.proofs.RunLemmas.{IsNewSide, stands-first}
 -- ---- steps on frames
 
 -- steps on some frames, and then on others
-steps-append : {S : Type 0} (step : S → List ℕ → Stepped S) (s : S) (xs ys : List (List ℕ))
+pub steps-append : {S : Type 0} (step : S → List ℕ → Stepped S) (s : S) (xs ys : List (List ℕ))
     → steps step s (xs ++ ys) ≡ record {
       state = (steps step (steps step s xs).state ys).state;
       sent = (steps step s xs).sent ++ (steps step (steps step s xs).state ys).sent;

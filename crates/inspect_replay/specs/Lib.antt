@@ -9,3 +9,4 @@ pub mod Runs
 pub mod Followed
 pub mod Prints
 pub mod Serving
+pub mod ServeRoom

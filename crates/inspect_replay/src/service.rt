@@ -1,6 +1,6 @@
 // A back end that serves one client, frame by frame.
 ghost use Rattle.std.specs.Prelude.{◌≡◌, ◌<◌, ◌∷◌, [], length, IfOk, OnOk};
-ghost use Rattle.back_end.specs.Seats.{IsSeated};
+ghost use Rattle.back_end.specs.Seats.{HasRoomLeft, IsSeated};
 
 use crate::program::INPUT_LIMIT;
 use crate::serve::{end_of_input, read_piece};
@@ -22,6 +22,7 @@ pub(crate) struct Service {
 impl Service {
     ghost use Rattle.inspect_replay.specs.Serving.{IsServing, SoFar, Serves, AnswersFrames, TakesPiece, HasServed, HasServeCause};
     ghost use Rattle.inspect_replay.specs.Serving.{HasWriteCause, PieceServed, serve_moment};
+    ghost use Rattle.inspect_replay.specs.ServeRoom.{CameFew, HasBytesLeft};
 
     /// The back end of a page of one document without children, which has the serial 1.
     pub(crate) fn new(alloc: Global) -> Result<Service, AllocError>
@@ -38,14 +39,12 @@ impl Service {
 
     /// Answers one frame: the answer is written before the call ends.
     fn answer<K: Sink>(&mut self, frame: &[u8], out: &mut K) -> Result<(), Stop>
+        requires room { HasRoomLeft self.old.seat self.old.side }
         ensures same { self.new.splitter ≡ self.old.splitter }
         ensures answers { AnswersFrames (serve_moment self.old (K.taken out.old)) (serve_moment self.new (K.taken out.new))
             (frame.now ∷ []) result }
         ensures cause { HasWriteCause (K.faults out.old) (K.faults out.new) result }
     {
-        if !self.seat.has_room(&self.side) {
-            return Err(Stop::Memory);
-        }
         let mut message = Vec::new(self.alloc);
         self.seat
             .take_message(&mut self.side, frame, true, &mut message)?;
@@ -58,6 +57,7 @@ impl Service {
 
     /// Answers the frames that are whole, one after the other.
     fn answer_whole<K: Sink>(&mut self, out: &mut K) -> Result<(), Stop>
+        requires few { CameFew self.old }
         ensures none { OnOk result (self.new.splitter ≡ record { whole = []; rest = self.old.splitter.rest }) }
         ensures answers { AnswersFrames (serve_moment self.old (K.taken out.old))
             (serve_moment self.new (K.taken out.new)) self.old.splitter.whole result }
@@ -74,6 +74,7 @@ impl Service {
 
     /// Takes the next bytes of the client.
     fn take<K: Sink>(&mut self, piece: &[u8], out: &mut K) -> Result<(), Stop>
+        requires left { HasBytesLeft self.old (length piece.now) }
         ensures takes { TakesPiece (serve_moment self.old (K.taken out.old)) (serve_moment self.new (K.taken out.new)) piece.now result }
         ensures cause { HasWriteCause (K.faults out.old) (K.faults out.new) result }
     {
@@ -90,7 +91,8 @@ impl Service {
         buf: &mut [u8],
         out: &mut K,
     ) -> Result<usize, Stop>
-        requires { 0 < length buf.old }
+        requires room { 0 < length buf.old }
+        requires left { HasBytesLeft self.old (length buf.old) }
         ensures served { (so_far : SoFar) → Serves so_far (serve_moment self.old (K.taken out.old))
             → PieceServed so_far (serve_moment self.new (K.taken out.new))
             (record { before = S.left src.old; after = S.left src.new; most = length buf.new }) result }

@@ -3,9 +3,9 @@ use Rattle.std.proofs.Common.{◌≡◌, ℕ, ◌+◌, ◌-◌, ◌≤◌, ◌<�
 use Rattle.std.proofs.Common.{length-append}
 use Rattle.std.proofs.lemmas.Bool.{cases_lt, cases_eq, ne_eqb}
 use Rattle.std.proofs.Math.Seq.{drop-append-add}
-use Rattle.std.proofs.lemmas.List.{take-append-drop, take-take, take_min, drop-take, length-take-le, length-drop, set-append_left}
+use Rattle.std.proofs.lemmas.List.{take-append-drop, take-take, take_min, drop-take, length-take, length-take-le, length-drop, set-append_left}
 use Rattle.std.proofs.lemmas.List.{set-append_right, set_past, length-set, take_at, drop_at}
-use Rattle.pipe_frames.specs.Pipe.{GivesPiece, waiting}
+use Rattle.pipe_frames.specs.Pipe.{Pipe, GivesPiece, waiting}
 use Rattle.pipe_frames.specs.Calls.{Flow, pipe_of, replaced, lying_pipe}
 
 -- a front part is the front part before it, and the piece after that
@@ -131,3 +131,24 @@ Moves-lie place to old new before moved after count start passed moves size is w
       (length-take-le old.passed old.sent (omega arith) ∙ sym is);
   sent = moves.sent;
 }
+
+-- all that waits has come to be given
+pub waiting-count : (flow : Flow) (count : ℕ) → flow.passed ≤ length flow.sent → count ≡ length (waiting (pipe_of flow))
+    → length flow.sent ≡ flow.passed + count
+waiting-count flow count within is =
+    let gone : length (take flow.passed flow.sent) ≡ flow.passed = length-take-le flow.passed flow.sent within in
+    let size : length (waiting (pipe_of flow)) ≡ length flow.sent - length (take flow.passed flow.sent) =
+    length-drop (length (take flow.passed flow.sent)) flow.sent in
+    omega (arith, gone, size, is, within)
+
+-- as much waits in a lying pipe
+pub lies-wait : (place to : ℕ) (flow : Flow) → waiting (lying_pipe place to flow) ≡ waiting (pipe_of flow)
+lies-wait place to flow = ap (λ n. drop n flow.sent) (length-replaced place to (take flow.passed flow.sent))
+
+-- what waits after a put
+pub waiting-put : (old new : Pipe) (piece : List ℕ) → length old.given ≤ length old.sent → new.sent ≡ old.sent ++ piece
+    → new.given ≡ old.given → length (waiting new) ≡ length (waiting old) + length piece
+waiting-put old new piece within sent given =
+    let after : length (waiting new) ≡ length new.sent - length new.given = length-drop (length new.given) new.sent in
+    let before : length (waiting old) ≡ length old.sent - length old.given = length-drop (length old.given) old.sent in
+    omega (arith, after, before, ap length sent, ap length given, length-append old.sent piece, within)

@@ -1,12 +1,12 @@
 -- The frames of bytes that are joined, and of texts that are framed.
-use Rattle.std.proofs.Common.{◌≡◌, ◌≢◌, ℕ, ◌+◌, ◌-◌, ◌<◌, List, [], ◌∷◌, ◌++◌, length, take, get_or, refl, sym, ◌∙◌, ap, inl, inr}
+use Rattle.std.proofs.Common.{subst, ◌≡◌, ◌≢◌, ℕ, ◌+◌, ◌-◌, ◌<◌, List, [], ◌∷◌, ◌++◌, length, take, get_or, refl, sym, ◌∙◌, ap, inl, inr}
 use Rattle.std.proofs.Common.{append_assoc, append-nil, arith, length-append}
 use Rattle.std.proofs.lemmas.Bool.{cases_eq, ne_eqb}
 use Rattle.std.proofs.lemmas.List.Elements.{All-nil, All-cons, All-head, All-tail}
 use Rattle.std.proofs.lemmas.List.{take_more, take_at}
 use Rattle.std.specs.List.{All, flat_map}
 use Rattle.pipe_frames.specs.Frames.{Frames, IsText, framed, bytes_of, IsFrame, Splits, lengthened, put_front, frames_of, frames_from}
-use Rattle.pipe_frames.specs.Frames.{held_after, continued, with_frame, IsCounted}
+use Rattle.pipe_frames.specs.Frames.{held_after, continued, with_frame, IsCut, bytes_in}
 
 abbrev IsLetter : ℕ → Type 0
 IsLetter byte = byte ≢ 0
@@ -117,22 +117,22 @@ pub frames_of-only : (bytes : List ℕ) (frames : Frames) → Splits bytes frame
 frames_of-only bytes frames split =
     sym (ap frames_of split.joined ∙ frames_of-bytes_of frames.whole frames.rest split.texts split.partial)
 
--- what comes after the first whole frame is counted without it and its zero byte
-pub IsCounted-first : (frame : List ℕ) (more whole : List (List ℕ)) (rest : List ℕ) (held size : ℕ)
-    → whole ≡ frame ∷ more → size ≡ length frame → IsCounted whole rest held
-    → IsCounted more rest (held - (size + 1)) × IsText frame
-IsCounted-first frame more whole rest held size is length-is counted =
-    let first : IsCounted (frame ∷ more) rest held = rw is at counted in
-    let sum : length ((framed frame ++ flat_map framed more) ++ rest) ≡ length frame + 1 + length (flat_map framed more ++ rest)
+-- what comes after the first whole frame
+pub IsCut-first : (frame : List ℕ) (more whole : List (List ℕ)) (rest : List ℕ) → whole ≡ frame ∷ more → IsCut whole rest
+    → IsCut more rest × IsText frame
+IsCut-first frame more whole rest is cut =
+    let first : IsCut (frame ∷ more) rest = subst (λ w. IsCut w rest) is cut in
+    (record { texts = All-tail IsText frame more first.texts; partial = first.partial }, All-head IsText frame more first.texts)
+
+-- how many bytes frames were cut from
+pub bytes-counted : (whole : List (List ℕ)) (rest : List ℕ)
+    → length (bytes_of (record { whole = whole; rest = rest })) ≡ bytes_in whole + length rest
+bytes-counted [] rest = omega arith
+bytes-counted (frame ∷ whole) rest =
+    let more : length (flat_map framed whole ++ rest) ≡ bytes_in whole + length rest = bytes-counted whole rest in
+    let sum : length ((framed frame ++ flat_map framed whole) ++ rest) ≡ length frame + 1 + length (flat_map framed whole ++ rest)
     = grind (arith, length-append) in
-    let count : held ≡ length ((framed frame ++ flat_map framed more) ++ rest) = first.count in (
-      record {
-        texts = All-tail IsText frame more first.texts;
-        partial = first.partial;
-        count = omega arith;
-      },
-      All-head IsText frame more first.texts,
-    )
+    omega (arith, more, sum)
 
 -- more text lengthens the rest
 pub continued-text : (whole : List (List ℕ)) (rest text : List ℕ) → IsText (rest ++ text)
@@ -250,3 +250,7 @@ pub continued-more : (frames : Frames) (piece : List ℕ) (index default : ℕ) 
 continued-more frames piece index default within =
     continued-append frames (take index piece) (get_or piece index default ∷ [])
     ∙ ap (continued frames) (sym (take_more piece index default within))
+
+pub none-in : (frames : List (List ℕ)) → length frames ≡ 0 → bytes_in frames ≡ 0
+none-in [] none = refl
+none-in (frame ∷ frames) none = omega (arith, none)

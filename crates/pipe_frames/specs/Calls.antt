@@ -1,11 +1,12 @@
 -- What the kinds of the outside that are kept in memory hold.
-use Rattle.std.specs.Prelude.{◌==◌, ◌-◌, ℕ, Bool, List, [], take, set, Contains, if◌then◌else◌, Result, Ok, Err, true, false}
+use Rattle.std.specs.Prelude.{◌≡◌, ◌≤◌, ◌==◌, ◌-◌, ℕ, Bool, List, [], length, take, set, Contains, if◌then◌else◌, Result, Ok, Err, true, false}
 use Rattle.pipe_frames.specs.declared.outside.OutErr.{OutErr}
 use Rattle.pipe_frames.specs.declared.outside.OutErr.TheVariants.{Failed, Memory}
 use Rattle.pipe_frames.specs.Fault.{next_count}
 use Rattle.pipe_frames.specs.Pipe.{Pipe, GivesPrefix}
-use Rattle.std.proofs.Common.{sym}
-use Rattle.std.proofs.lemmas.List.{length-take, drop_min, take-append-drop}
+use Rattle.std.proofs.Common.{refl, sym}
+use Rattle.std.proofs.Math.Nat.{min-le_right}
+use Rattle.std.proofs.lemmas.List.{length-take, length-set, drop_min, take-append-drop}
 
 -- which calls fail, by their numbers from 1, how many were made, and how many of these failed
 pub record Calls : Type 0 where
@@ -77,6 +78,18 @@ pub record LiarParts : Type 0 where
   pub down : Flow
   pub place : ℕ
   pub to : ℕ
+
+-- a pipe that gives what was sent gives no more
+pub gives_few : (flow : Flow) → length (pipe_of flow).given ≤ length (pipe_of flow).sent
+gives_few flow = rw (length-take flow.passed flow.sent) (min-le_right flow.passed (length flow.sent))
+
+one_replaced : (b : Bool) (n to : ℕ) (bytes : List ℕ) → length (if b then bytes else set bytes n to) ≡ length bytes
+one_replaced true n to bytes = refl
+one_replaced false n to bytes = length-set bytes n to
+
+-- nor does one that lies
+pub lies_few : (place to : ℕ) (flow : Flow) → length (lying_pipe place to flow).given ≤ length (lying_pipe place to flow).sent
+lies_few place to flow = rw (one_replaced (place == 0) (place - 1) to (take flow.passed flow.sent)) (gives_few flow)
 
 -- a pipe that gives what was sent has given a prefix of it
 pub gives_prefix : (flow : Flow) → GivesPrefix (pipe_of flow)

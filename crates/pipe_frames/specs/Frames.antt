@@ -1,5 +1,5 @@
 -- Frames: texts without a zero byte, each followed by one zero byte.
-use Rattle.std.specs.Prelude.{◌≡◌, ◌≢◌, ◌==◌, ℕ, List, [], ◌∷◌, ◌++◌, length, All, if◌then◌else◌}
+use Rattle.std.specs.Prelude.{◌≡◌, ◌≢◌, ◌==◌, ◌+◌, ℕ, List, [], ◌∷◌, ◌++◌, length, All, if◌then◌else◌}
 use Rattle.std.specs.List.{flat_map}
 
 -- the whole frames, without their zero bytes, and the bytes after the last zero byte
@@ -64,8 +64,12 @@ continued frames bytes =
 abbrev pub with_frame : Frames → List ℕ → Frames
 with_frame frames text = record { whole = frames.whole ++ text ∷ []; rest = [] }
 
--- what a splitter's fields are: texts, and the number of bytes that they were cut from
-pub record IsCounted (whole : List (List ℕ)) (rest : List ℕ) (held : ℕ) : Type 0 where
+-- what a splitter's fields are: texts
+pub record IsCut (whole : List (List ℕ)) (rest : List ℕ) : Type 0 where
   pub texts : All IsText whole
   pub partial : IsText rest
-  pub count : held ≡ length (bytes_of (record { whole = whole; rest = rest }))
+
+-- the bytes of frames, each with its zero
+abbrev pub bytes_in : List (List ℕ) → ℕ
+bytes_in [] = 0
+bytes_in (frame ∷ frames) = length frame + 1 + bytes_in frames

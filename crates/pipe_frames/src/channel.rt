@@ -1,4 +1,4 @@
-ghost use Rattle.std.specs.Prelude.{◌≡◌, ◌-◌, ◌+◌, ◌≤◌, min, length, OnErr, OnSome, IfOk, IfSome, IfNone, Err};
+ghost use Rattle.std.specs.Prelude.{◌≡◌, ◌-◌, ◌+◌, ◌≤◌, ◌<◌, ◌^◌, min, length, OnOk, OnErr, OnSome, IfOk, IfSome, IfNone, Err};
 ghost use Rattle.pipe_frames.specs.Pipe.{Puts, Gets, GivesAll, filling, waiting};
 ghost use Rattle.pipe_frames.specs.Calls.{no_flow, pipe_of};
 
@@ -8,26 +8,25 @@ use std::alloc::Global;
 use std::marker::Model;
 use std::mem;
 
-/// One direction of a link in memory: the bytes that were given and let go, how many were given in all, and the bytes that
-/// are held, of which the first `at` were given.
+/// One direction of a link in memory: the bytes that were given and let go, and the bytes that are held, of which the first `at`
+/// were given. How many were given in all is not counted.
 #[derive(Drop)]
 pub(crate) struct Channel {
     alloc: Global,
     given: Given,
-    passed: usize,
     bytes: Vec<u8>,
     at: usize,
 }
 
 impl Model for Channel {
-    ghost use Rattle.std.specs.Prelude.{◌≡◌, ◌+◌, ◌≤◌, ◌++◌, length};
+    ghost use Rattle.std.specs.Prelude.{◌+◌, ◌≤◌, ◌++◌, length};
     ghost use Rattle.pipe_frames.specs.Calls.{Flow};
 
     ghost Value = { Flow };
 
-    ghost view = { λ c. record { sent = c.given.bytes ++ c.bytes.items; passed = c.passed } };
+    ghost view = { λ c. record { sent = c.given.bytes ++ c.bytes.items; passed = length c.given.bytes + c.at } };
 
-    ghost invariant = { λ c. (c.passed ≡ length c.given.bytes + c.at) × (c.at ≤ length c.bytes.items) };
+    ghost invariant = { λ c. c.at ≤ length c.bytes.items };
 }
 
 impl Channel {
@@ -37,7 +36,6 @@ impl Channel {
         Channel {
             alloc,
             given: Given::new(),
-            passed: 0,
             bytes: Vec::new(alloc),
             at: 0,
         }
@@ -45,6 +43,8 @@ impl Channel {
 
     pub(crate) fn put(&mut self, piece: &[u8]) -> Result<(), OutErr>
         ensures puts { Puts (pipe_of self.old) (pipe_of self.new) piece.now result }
+        ensures held { OnOk result (length (waiting (pipe_of self.new)) < 2 ^ 63) }
+        ensures passed { self.new.passed ≡ self.old.passed }
         ensures memory { OnErr result ((self.new ≡ self.old) × (result ≡ Err OutErr.Memory)) }
     {
         match self.bytes.extend_from_slice(piece) {
@@ -57,8 +57,12 @@ impl Channel {
         ensures gets { Gets max (filling (pipe_of self.old) into.old.items) (filling (pipe_of self.new) into.new.items) result }
         ensures all { GivesAll max (filling (pipe_of self.old) into.old.items) into.new.items result }
         ensures count { IfOk result (λ n. n ≡ min max (length (waiting (pipe_of self.old)))) }
+        ensures passed { IfOk result (λ n. self.new.passed ≡ self.old.passed + n) }
+        ensures within { self.old.passed ≤ length self.old.sent }
         ensures memory { OnErr result ((self.new ≡ self.old) × (result ≡ Err OutErr.Memory)) }
     {
+        // For the proof alone, which learns here that no more was given than was sent.
+        let _ = &self.at;
         if into.is_empty()
             && let Some(piece) = self.hand_over(max)
         {
@@ -79,9 +83,7 @@ impl Channel {
         if self.at > 0 || self.bytes.len() > max {
             return None;
         }
-        let passed = self.passed.checked_add(self.bytes.len())?;
         self.given = Given::with(&self.given, &self.bytes);
-        self.passed = passed;
         Some(mem::replace(&mut self.bytes, Vec::new(self.alloc)))
     }
 
@@ -90,16 +92,14 @@ impl Channel {
         ensures gets { Gets max (filling (pipe_of self.old) into.old.items) (filling (pipe_of self.new) into.new.items) result }
         ensures all { GivesAll max (filling (pipe_of self.old) into.old.items) into.new.items result }
         ensures count { IfOk result (λ n. n ≡ min max (length (waiting (pipe_of self.old)))) }
+        ensures passed { IfOk result (λ n. self.new.passed ≡ self.old.passed + n) }
+        ensures within { self.old.passed ≤ length self.old.sent }
         ensures memory { OnErr result ((self.new ≡ self.old) × (result ≡ Err OutErr.Memory)) }
     {
         let count = max.min(self.bytes.len() - self.at);
-        let Some(passed) = self.passed.checked_add(count) else {
-            return Err(OutErr::Memory);
-        };
         let end = self.at + count;
         match into.extend_from_slice(&self.bytes[self.at..end]) {
             Ok(()) => {
-                self.passed = passed;
                 self.at = end;
                 self.let_go();
                 Ok(count)
@@ -121,13 +121,5 @@ impl Channel {
             self.bytes = waiting;
             self.at = 0;
         }
-    }
-
-    /// How many bytes were given.
-    pub(crate) fn passed(&self) -> usize
-        ensures passed { result ≡ self.now.passed }
-        ensures within { result ≤ length self.now.sent }
-    {
-        self.passed
     }
 }

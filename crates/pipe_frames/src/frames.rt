@@ -1,4 +1,4 @@
-ghost use Rattle.std.specs.Prelude.{◌≡◌, ◌≢◌, ◌<◌, ◌↔◌, ℕ, List, [], ◌∷◌, ◌++◌, length, take, true, IsNone, IfSome, IfNone, OnOk, OnErr};
+ghost use Rattle.std.specs.Prelude.{◌≡◌, ◌≢◌, ◌<◌, ◌^◌, ◌↔◌, ℕ, List, [], ◌∷◌, ◌++◌, length, take, true, IsNone, IfSome, IfNone, OnOk, OnErr};
 ghost use Rattle.pipe_frames.specs.Frames.{Frames, IsText, IsFrame, Splits, frames_of, bytes_of, continued, framed, with_frame};
 
 use std::alloc::{AllocError, Global};
@@ -13,18 +13,17 @@ pub struct Splitter {
     alloc: Global,
     whole: VecDeque<Vec<u8>>,
     rest: Vec<u8>,
-    held: usize,
 }
 
 impl Model for Splitter {
     ghost use Rattle.std.specs.Prelude.{map};
-    ghost use Rattle.pipe_frames.specs.Frames.{Frames, IsCounted};
+    ghost use Rattle.pipe_frames.specs.Frames.{Frames, IsCut};
 
     ghost Value = { Frames };
 
     ghost view = { λ s. record { whole = map (λ frame. frame.items) s.whole.items; rest = s.rest.items } };
 
-    ghost invariant = { λ s. IsCounted (map (λ frame. frame.items) s.whole.items) s.rest.items s.held };
+    ghost invariant = { λ s. IsCut (map (λ frame. frame.items) s.whole.items) s.rest.items };
 }
 
 impl Splitter {
@@ -36,7 +35,6 @@ impl Splitter {
             alloc,
             whole: VecDeque::new(alloc),
             rest: Vec::new(alloc),
-            held: 0,
         }
     }
 
@@ -73,12 +71,10 @@ impl Splitter {
         ensures ok { OnOk result (self.new ≡ continued self.old piece.items) }
         ensures err { OnErr result (self.new ≡ self.old) }
     {
-        let held = self.held.checked_add(piece.len()).ok_or(AllocError)?;
         let _zero = piece.pop();
         if let Err(_) = self.whole.push_back(piece) {
             return Err(AllocError);
         }
-        self.held = held;
         Ok(())
     }
 
@@ -98,13 +94,11 @@ impl Splitter {
         ensures ok { OnOk result (self.new ≡ continued self.old (0 ∷ [])) }
         ensures err { OnErr result (self.new ≡ self.old) }
     {
-        let held_with_zero = self.held.checked_add(1).ok_or(AllocError)?;
         let frame = mem::replace(&mut self.rest, Vec::new(self.alloc));
         if let Err(refused) = self.whole.push_back(frame) {
             self.rest = refused.value;
             return Err(AllocError);
         }
-        self.held = held_with_zero;
         Ok(())
     }
 
@@ -113,9 +107,7 @@ impl Splitter {
         ensures ok { OnOk result (self.new ≡ continued self.old (byte ∷ [])) }
         ensures err { OnErr result (self.new ≡ self.old) }
     {
-        let held = self.held.checked_add(1).ok_or(AllocError)?;
         self.rest.push(byte)?;
-        self.held = held;
         Ok(())
     }
 
@@ -128,15 +120,18 @@ impl Splitter {
         ensures unchanged { IfNone result (self.new ≡ self.old) }
     {
         let frame = self.whole.pop_front()?;
-        self.held -= frame.len() + 1;
         Some(frame)
     }
 
-    /// How many bytes were taken and not handed out, zero bytes included.
+    /// How many bytes were taken and not handed out, zero bytes included. They are in memory, so there are fewer than 2^64.
     pub fn held(&self) -> usize
-        ensures { result ≡ length (bytes_of self.now) }
+        ensures { length (bytes_of self.now) < 2 ^ 64 → result ≡ length (bytes_of self.now) }
     {
-        self.held
+        let mut held = self.rest.len();
+        for frame in &self.whole {
+            held = held.saturating_add(frame.len()).saturating_add(1);
+        }
+        held
     }
 }
 

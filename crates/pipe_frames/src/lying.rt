@@ -1,6 +1,6 @@
-ghost use Rattle.std.specs.Prelude.{◌≡◌, ◌≤◌, ◌-◌, ◌+◌, ◌++◌, Err, IfOk, OnErr, min, take, drop, length};
+ghost use Rattle.std.specs.Prelude.{◌≡◌, ◌≤◌, ◌<◌, ◌^◌, ◌-◌, ◌+◌, ◌++◌, Err, IfOk, OnOk, OnErr, min, take, drop, length};
 ghost use Rattle.pipe_frames.specs.Pipe.{Puts, Gets, GivesAll, filling, waiting};
-ghost use Rattle.pipe_frames.specs.Calls.{no_flow, pipe_of, lying_pipe, replaced};
+ghost use Rattle.pipe_frames.specs.Calls.{no_flow, pipe_of, gives_few, lies_few, lying_pipe, replaced};
 
 use crate::channel::Channel;
 use crate::outside::{Link, OutErr};
@@ -14,14 +14,19 @@ pub struct LyingLink {
     down: Channel,
     place: u64,
     to: u8,
+    left: u64,
 }
 
 impl Model for LyingLink {
+    ghost use Rattle.std.specs.Prelude.{◌≡◌, ◌-◌};
     ghost use Rattle.pipe_frames.specs.Calls.{LiarParts};
 
     ghost Value = { LiarParts };
 
     ghost view = { λ l. record { up = l.up; down = l.down; place = l.place; to = l.to } };
+
+    // How many bytes are to come before the one that is replaced, and that one.
+    ghost invariant = { λ l. l.left ≡ l.place - l.down.passed };
 }
 
 impl LyingLink {
@@ -34,6 +39,7 @@ impl LyingLink {
             down: Channel::new(alloc),
             place,
             to,
+            left: place,
         }
     }
 }
@@ -58,12 +64,17 @@ impl Link for LyingLink {
 
     ghost honest = { λ _. ⊥ };
 
+    ghost within_up = { λ l. gives_few l.up };
+
+    ghost within_down = { λ l. lies_few l.place l.to l.down };
+
     ghost front_up = { λ _ never. absurd never };
 
     ghost front_down = { λ _ never. absurd never };
 
     fn put_up(&mut self, piece: &[u8]) -> Result<(), OutErr>
         ensures up { Puts (pipe_of self.old.up) (pipe_of self.new.up) piece.now result }
+        ensures held { OnOk result (length (waiting (pipe_of self.new.up)) < 2 ^ 63) }
         ensures same { self.new ≡ record self.old { up = self.new.up } }
         ensures memory { OnErr result (result ≡ Err OutErr.Memory) }
     {
@@ -72,6 +83,7 @@ impl Link for LyingLink {
 
     fn put_down(&mut self, piece: &[u8]) -> Result<(), OutErr>
         ensures down { Puts (pipe_of self.old.down) (pipe_of self.new.down) piece.now result }
+        ensures held { OnOk result (length (waiting (lying_pipe self.new.place self.new.to self.new.down)) < 2 ^ 63) }
         ensures same { self.new ≡ record self.old { down = self.new.down } }
         ensures memory { OnErr result (result ≡ Err OutErr.Memory) }
     {
@@ -94,10 +106,10 @@ impl Link for LyingLink {
         ensures same { self.new ≡ record self.old { down = self.new.down } }
         ensures memory { OnErr result (result ≡ Err OutErr.Memory) }
     {
-        let passed = self.down.passed() as u64;
         let start = into.len();
         let count = self.down.get(max, into)?;
-        replace_byte(into, start, self.place.saturating_sub(passed), self.to);
+        replace_byte(into, start, self.left, self.to);
+        self.left = self.left.saturating_sub(count as u64);
         Ok(count)
     }
 }

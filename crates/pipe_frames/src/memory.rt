@@ -1,9 +1,9 @@
-ghost use Rattle.std.specs.Prelude.{◌≡◌, ◌≤◌, ◌<◌, ◌↔◌, [], Some, take, min, length, IfOk, IsErr, is_err};
+ghost use Rattle.std.specs.Prelude.{◌≡◌, ◌≤◌, ◌<◌, ◌^◌, ◌↔◌, [], Some, take, min, length, IfOk, OnOk, IsErr, is_err};
 ghost use Rattle.std.specs.Io.{ReadsAtMost, WritesAtMost};
 ghost use Rattle.std.specs.Io.KnownBytes.{ReadConsumes, WriteAppends};
 ghost use Rattle.pipe_frames.specs.Fault.{HasCause, HasReadCause};
-ghost use Rattle.pipe_frames.specs.Pipe.{Puts, Gets, GivesAll, filling};
-ghost use Rattle.pipe_frames.specs.Calls.{NextFails, no_calls, no_flow, counted, is_failed, pipe_of, gives_prefix};
+ghost use Rattle.pipe_frames.specs.Pipe.{Puts, Gets, GivesAll, filling, waiting};
+ghost use Rattle.pipe_frames.specs.Calls.{NextFails, no_calls, no_flow, counted, is_failed, pipe_of, gives_few, gives_prefix};
 
 use crate::channel::Channel;
 use crate::outside::{Failed, Link, OutErr, Sink, Source};
@@ -178,12 +178,17 @@ impl Link for MemLink {
 
     ghost honest = { λ _. Unit {0} };
 
+    ghost within_up = { λ l. gives_few l.up };
+
+    ghost within_down = { λ l. gives_few l.down };
+
     ghost front_up = { λ l _. gives_prefix l.up };
 
     ghost front_down = { λ l _. gives_prefix l.down };
 
     fn put_up(&mut self, piece: &[u8]) -> Result<(), OutErr>
         ensures up { Puts (pipe_of self.old.up) (pipe_of self.new.up) piece.now result }
+        ensures held { OnOk result (length (waiting (pipe_of self.new.up)) < 2 ^ 63) }
         ensures down { self.new.down ≡ self.old.down }
         ensures cause { HasCause self.old.calls.faults self.new.calls.faults result }
 
@@ -198,6 +203,7 @@ impl Link for MemLink {
 
     fn put_down(&mut self, piece: &[u8]) -> Result<(), OutErr>
         ensures down { Puts (pipe_of self.old.down) (pipe_of self.new.down) piece.now result }
+        ensures held { OnOk result (length (waiting (pipe_of self.new.down)) < 2 ^ 63) }
         ensures up { self.new.up ≡ self.old.up }
         ensures cause { HasCause self.old.calls.faults self.new.calls.faults result }
 

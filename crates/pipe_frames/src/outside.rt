@@ -1,7 +1,7 @@
-ghost use Rattle.std.specs.Prelude.{◌≡◌, ◌<◌, ℕ, List, Option, IfOk, length};
+ghost use Rattle.std.specs.Prelude.{◌≡◌, ◌<◌, ◌≤◌, ◌^◌, ℕ, List, Option, IfOk, OnOk, length};
 ghost use Rattle.std.specs.Io.{ReadsAtMost, WritesAtMost};
 ghost use Rattle.std.specs.Io.KnownBytes.{ReadConsumes, WriteAppends};
-ghost use Rattle.pipe_frames.specs.Pipe.{Pipe, Puts, Gets, GivesPrefix, GivesAll, filling};
+ghost use Rattle.pipe_frames.specs.Pipe.{Pipe, Puts, Gets, GivesPrefix, GivesAll, filling, waiting};
 
 use thiserror::Error;
 
@@ -59,7 +59,7 @@ pub trait Sink {
 /// The pair of pipes between two ends: up from the front end to the back end, and down from the back end to the front end.
 ///
 /// A link is honest where each pipe gives what was sent, in order, and each get gives as many bytes as were asked for and
-/// are there.
+/// are there. No link gives more bytes than were sent, and what waits in it is in memory.
 pub trait Link {
     ghost use Rattle.pipe_frames.specs.Fault.{HasCause};
 
@@ -77,6 +77,7 @@ pub trait Link {
     /// Sends the whole piece up.
     fn put_up(&mut self, piece: &[u8]) -> Result<(), OutErr>
         ensures up { Puts (up self.old) (up self.new) piece.now result }
+        ensures held { OnOk result (length (waiting (up self.new)) < 2 ^ 63) }
         ensures down { down self.new ≡ down self.old }
         ensures honest { honest self.old → honest self.new }
         ensures cause { HasCause (faults self.old) (faults self.new) result };
@@ -84,6 +85,7 @@ pub trait Link {
     /// Sends the whole piece down.
     fn put_down(&mut self, piece: &[u8]) -> Result<(), OutErr>
         ensures down { Puts (down self.old) (down self.new) piece.now result }
+        ensures held { OnOk result (length (waiting (down self.new)) < 2 ^ 63) }
         ensures up { up self.new ≡ up self.old }
         ensures honest { honest self.old → honest self.new }
         ensures cause { HasCause (faults self.old) (faults self.new) result };
@@ -103,6 +105,11 @@ pub trait Link {
         ensures honest { honest self.old → honest self.new }
         ensures all { honest self.old → GivesAll max (filling (down self.old) into.old.items) into.new.items result }
         ensures cause { HasCause (faults self.old) (faults self.new) result };
+
+    // No more bytes were given than sent.
+    ghost within_up: { (link : Self) → length (up link).given ≤ length (up link).sent };
+
+    ghost within_down: { (link : Self) → length (down link).given ≤ length (down link).sent };
 
     // An honest link has given a prefix of what was sent.
     ghost front_up: { (link : Self) → honest link → GivesPrefix (up link) };

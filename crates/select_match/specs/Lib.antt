@@ -3,3 +3,5 @@ pub mod Elements
 pub mod Matches
 pub mod Outcomes
 pub mod Subjects
+pub mod Steps
+pub mod Families

@@ -5,10 +5,13 @@
 
 mod chains;
 mod elements;
+mod families;
 mod laws;
 mod outcome;
 mod places;
 mod simple;
+mod stepped;
+mod steps;
 mod subjects;
 mod texts;
 mod walks;

@@ -63,6 +63,18 @@ impl KnownPlaces {
         }
     }
 
+    /// Those among all elements.
+    pub fn of_child(child: u64, last_child: u64) -> KnownPlaces
+        ensures { result ≡ record { child = Some child; last_child = Some last_child; of_type = None; last_of_type = None } }
+    {
+        KnownPlaces {
+            child: Some(child),
+            last_child: Some(last_child),
+            of_type: None,
+            last_of_type: None,
+        }
+    }
+
     /// The place that was counted, if one was: from 1.
     pub fn place(&self, kind: NthKind) -> Option<u64>
         ensures { result ≡ place_known kind self.now }

@@ -15,6 +15,8 @@ use crate::elements::{index, is_element, is_filled, is_nth, is_only, is_root, nt
 use crate::outcome::Outcome;
 use crate::places::{ElementPlaces, KnownPlaces};
 use crate::simple::has_attribute;
+use crate::stepped::left_by_steps;
+use crate::steps::counts_many;
 use crate::texts::same_name;
 use page_tree::NodeRef;
 use selectors::{Compound, Joint, NthKind, Selector, Simple, Test};
@@ -29,6 +31,7 @@ pub struct Subject<'a> {
     id: Option<&'a str>,
     classes: Vec<&'a [u8]>,
     places: KnownPlaces,
+    alloc: Global,
 }
 
 impl<'a> Model for Subject<'a> {
@@ -58,6 +61,7 @@ impl<'a> Subject<'a> {
             id,
             classes,
             places: KnownPlaces::new(),
+            alloc,
         })
     }
 
@@ -77,7 +81,12 @@ impl<'a> Subject<'a> {
             id,
             classes,
             places: KnownPlaces::of(places),
+            alloc,
         })
+    }
+
+    fn alloc(&self) -> Global {
+        self.alloc
     }
 
     /// The node itself.
@@ -277,7 +286,18 @@ fn compound_holds_on(compound: &Compound, subject: &mut Subject<'_>) -> bool
 }
 
 /// What is left of the node is as the compounds ask.
-fn left_holds(left: &[Compound], joint: Joint, node: &NodeRef<'_>) -> bool
+fn left_holds(alloc: Global, left: &[Compound], joint: Joint, node: &NodeRef<'_>) -> bool
+    ensures { result ≡ left_holds (reverse (map compound_seen left.now)) joint node.now }
+{
+    if !left.is_empty() && counts_many(left, joint) {
+        if let Ok(holds) = left_by_steps(alloc, left, joint, node) {
+            return holds;
+        }
+    }
+    left_by_search(left, joint, node)
+}
+
+fn left_by_search(left: &[Compound], joint: Joint, node: &NodeRef<'_>) -> bool
     ensures { result ≡ left_holds (reverse (map compound_seen left.now)) joint node.now }
 {
     match look_left(left, joint, node) {
@@ -295,7 +315,7 @@ fn chain_holds_on(compounds: &[Compound], subject: &mut Subject<'_>) -> bool
             if !compound_holds_on(last, subject) {
                 return false;
             }
-            left_holds(left, last.joint, subject.node())
+            left_holds(subject.alloc(), left, last.joint, subject.node())
         }
         None => is_element(subject.node()),
     }

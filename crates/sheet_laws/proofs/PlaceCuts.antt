@@ -11,6 +11,7 @@ use Rattle.css_tokens.specs.declared.token.TokenKind.TheVariants as tokens
 use Rattle.css_tokens.specs.Pieces.{pieces}
 use Rattle.css_tokens.proofs.Ends.{and_true}
 use Rattle.selectors.proofs.Choices.{none_some, some_is, passed_test}
+use Rattle.sheet_reader.specs.Layout.{level_of}
 use Rattle.sheet_reader.specs.Parts.{EndingForm, text_end, semicolon, block, PartForm, passed, at_rule, qualified, ending_pieces}
 use Rattle.sheet_reader.specs.Parts.{part_pieces, parts}
 use Rattle.sheet_reader.specs.Grammar.{AreParts}
@@ -209,10 +210,10 @@ said_between text _ _ place (silent_and {xs = xs} {ys = ys} x none more) within 
     (said_between text xs ys place more within)
 
 pub places_between : (text : List ℕ) (place : ℕ) → Contains (sheet_of text).places place
-    → (place ≡ 0) ⊎ IsBetweenParts text (parts (pieces text)) place
+    → (place ≡ 0) ⊎ IsBetweenParts text (parts (level_of None) (pieces text)) place
 places_between text place (zero, less, is) = inl (sym is)
 places_between text place (suc k, less, is) = inr
-    (said_between text (parts (pieces text)) (places_in text (parts (pieces text))) place (places_said text (parts (pieces text)))
+    (said_between text (parts (level_of None) (pieces text)) (places_in text (parts (level_of None) (pieces text))) place (places_said text (parts (level_of None) (pieces text)))
     (k, omega (arith, less), is))
 
 in_more : (o : Option ℕ) (ns : List ℕ) (n : ℕ) → Contains ns n → Contains (option_to_list o ++ ns) n
@@ -227,11 +228,11 @@ in_listed text [] behind p n e = subst (λ (o : Option ℕ). Contains (option_to
 in_listed text (q ∷ before) behind p n e = in_more (place_of text q) (listed (place_of text) (before ++ p ∷ behind)) n
     (in_listed text before behind p n e)
 
-pub between_places : (text : List ℕ) (place : ℕ) → IsBetweenParts text (parts (pieces text)) place → Contains (sheet_of text).places place
+pub between_places : (text : List ℕ) (place : ℕ) → IsBetweenParts text (parts (level_of None) (pieces text)) place → Contains (sheet_of text).places place
 between_places text place b =
     let own = in_listed text b.before b.behind b.part place (place_reads text b.part place b.ends) in
-    let same = ap (listed (place_of text)) (sym b.is) ∙ sym (places_listed text (parts (pieces text))) in
-    in_more (Some 0) (places_in text (parts (pieces text))) place (subst (λ (ns : List ℕ). Contains ns place) same own)
+    let same = ap (listed (place_of text)) (sym b.is) ∙ sym (places_listed text (parts (level_of None) (pieces text))) in
+    in_more (Some 0) (places_in text (parts (level_of None) (pieces text))) place (subst (λ (ns : List ℕ). Contains ns place) same own)
 
 -- a part by its place among the parts
 contained_splits : (text : List ℕ) (ps : List PartForm) (p : PartForm) (place : ℕ) → Contains ps p → IsPlaceBehind text p place
@@ -249,11 +250,11 @@ contained_splits text (q ∷ ps) p place (suc k, less, is) b = later text q ps p
     (contained_splits text ps p place (k, omega (arith, less), is) b)
 
 pub closed_rule_place : (text : List ℕ) (prelude inside : List Token) (brace close : Token)
-    → Contains (parts (pieces text)) (qualified prelude (block brace inside (Some close))) → Contains (sheet_of text).places close.end
+    → Contains (parts (level_of None) (pieces text)) (qualified prelude (block brace inside (Some close))) → Contains (sheet_of text).places close.end
 unfolding place_of
 closed_rule_place text prelude inside brace close within =
     let p = qualified prelude (block brace inside (Some close)) in
-    between_places text close.end (contained_splits text (parts (pieces text)) p close.end within (place_spelled text p close.end refl))
+    between_places text close.end (contained_splits text (parts (level_of None) (pieces text)) p close.end within (place_spelled text p close.end refl))
 
 -- ---- that they ascend
 
@@ -269,12 +270,12 @@ ascend_from : (low place : ℕ) (ns : List ℕ) → low ≤ place → AscendFrom
 ascend_from low place [] less all = tt
 ascend_from low place (n ∷ ns) less all = (omega (arith, less, all.0), all.1)
 
-places_ascend_in : (text : List ℕ) (from to : ℕ) (ps : List PartForm) (ts : List Token) → AreParts ps ts → StandBetween from to ts
+places_ascend_in : (outside : Option ℕ) (text : List ℕ) (from to : ℕ) (ps : List PartForm) (ts : List Token) → AreParts (level_of outside) ps ts → StandBetween from to ts
     → AscendFrom from (places_in text ps)
 unfolding places_in
-places_ascend_in text from to [] ts are stands = tt
-places_ascend_in text from to (p ∷ ps) ts are stands =
-    by (place_of text p) refl (places_ascend_in text c.seam to ps are.0 are.3 c.right)
+places_ascend_in outside text from to [] ts are stands = tt
+places_ascend_in outside text from to (p ∷ ps) ts are stands =
+    by (place_of text p) refl (places_ascend_in outside text c.seam to ps are.0 are.3 c.right)
   where
     c : StandCut from to (part_pieces p) are.0
     c = stand_cut from to (part_pieces p) are.0 (subst (StandBetween from to) are.1 stands)
@@ -290,8 +291,8 @@ places_ascend_in text from to (p ∷ ps) ts are stands =
 
 pub places_ascend : (text : List ℕ) → (places : List ℕ) × ((sheet_of text).places ≡ 0 ∷ places) × AscendFrom 0 places
 places_ascend text = (
-  places_in text (parts (pieces text)),
+  places_in text (parts (level_of None) (pieces text)),
   refl,
-  places_ascend_in text 0 (length text) (parts (pieces text)) (pieces text)
-      (parts_spelled (pieces text)) (pieces_stand text),
+  places_ascend_in None text 0 (length text) (parts (level_of None) (pieces text)) (pieces text)
+      (parts_spelled (level_of None) (pieces text)) (pieces_stand text),
 )

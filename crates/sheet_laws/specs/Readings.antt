@@ -1,11 +1,13 @@
 -- What a sheet says, as a relation: by the table of pieces, the grammar of sheets, that of selectors and that of declarations.
-use Rattle.std.specs.Prelude.{◌≡◌, ℕ, List, ◌∷◌, ◌++◌, Option}
+use Rattle.std.specs.Prelude.{◌≡◌, ℕ, List, ◌∷◌, ◌++◌, Option, Some, None}
 use Rattle.css_tokens.specs.declared.token.Token.{Token}
 use Rattle.css_tokens.specs.Pieces.{pieces}
 use Rattle.css_tokens.specs.Table.{Cuts}
 use Rattle.sheet_reader.specs.declared.sheet.Property.{Property}
 use Rattle.sheet_reader.specs.declared.sheet.Sheet.{Sheet}
 use Rattle.sheet_reader.specs.Forms.{range, RuleForm}
+use Rattle.sheet_reader.specs.declared.sheet.MediaRule.{MediaRule}
+use Rattle.sheet_reader.specs.Layout.{level_of, Laid, media_of, AreLaid}
 use Rattle.sheet_reader.specs.Parts.{PartForm, qualified, block}
 use Rattle.sheet_reader.specs.Grammar.{AreParts}
 use Rattle.sheet_reader.specs.Sheets.{body_end}
@@ -16,7 +18,7 @@ use Rattle.sheet_laws.specs.Values.{AreDeclarations}
 use Rattle.sheet_laws.specs.Places.{IsPlaceBehind}
 
 -- a qualified rule with a block, whose prelude is a selector list; its body ends before its `}`, or at the text's end
-pub record IsStyleRule (text : List ℕ) (p : PartForm) (r : RuleForm) : Type 0 where
+pub record IsStyleRule (text : List ℕ) (around : Option ℕ) (p : PartForm) (r : RuleForm) : Type 0 where
   pub prelude : List Token
   pub brace : Token
   pub inside : List Token
@@ -26,6 +28,11 @@ pub record IsStyleRule (text : List ℕ) (p : PartForm) (r : RuleForm) : Type 0 
   pub span : Covers prelude r.prelude
   pub body : r.body ≡ range brace.end (body_end text close)
   pub properties : AreDeclarations text inside r.properties
+  pub media : r.media ≡ around
+
+-- an at-rule named `media` with a block: the media rule that stands around its block
+abbrev pub IsMediaRule : List ℕ → Laid → MediaRule → Type 0
+IsMediaRule text l r = media_of text l ≡ Some r
 
 -- the pieces of a text between two places are this selector list, and the range from the first of them to the last that is
 -- neither white space nor a comment is the rule's prelude
@@ -40,15 +47,19 @@ pub record HasPrelude (text : List ℕ) (r : RuleForm) : Type 0 where
   pub selectors : AreSelectorList text prelude r.selectors
   pub span : Covers prelude r.prelude
 
--- a text is cut by the table of pieces, its pieces into parts; the style rules are those of the parts, in their order, and
+-- a text is cut by the table of pieces, its pieces into parts, and these are laid out with those in media rules; the style rules
+-- and the media rules are those of what is laid out, in their order, and
 -- the places for a rule are 0 and those behind the whole parts
 pub record IsReading (text : List ℕ) (s : Sheet) : Type 0 where
   pub tokens : List Token
   pub parts : List PartForm
+  pub laid : List Laid
   pub places : List ℕ
   pub cut : Cuts text 0 tokens
-  pub are_parts : AreParts parts tokens
-  pub rules : AreSaid (IsStyleRule text) parts s.rules
+  pub are_parts : AreParts (level_of None) parts tokens
+  pub are_laid : AreLaid text None 0 parts laid
+  pub rules : AreSaid (λ l r. IsStyleRule text l.around l.part r) laid s.rules
+  pub media : AreSaid (IsMediaRule text) laid s.media
   pub all_places : s.places ≡ 0 ∷ places
   pub behind : AreSaid (IsPlaceBehind text) parts places
 

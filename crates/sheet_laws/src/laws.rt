@@ -1,6 +1,6 @@
 //! The laws, each the contract of a function that does nothing.
 
-ghost use Rattle.std.specs.Prelude.{◌≡◌, ◌⊎◌, ℕ, ◌+◌, false, true, List, ◌∷◌, ◌++◌, length, slice_index, Contains, Some, None};
+ghost use Rattle.std.specs.Prelude.{◌≡◌, ◌⊎◌, ℕ, ◌+◌, false, true, List, ◌∷◌, ◌++◌, length, slice_index, Contains, Option, Some, None};
 ghost use Rattle.css_tokens.specs.declared.token.Token.{Token};
 ghost use Rattle.css_tokens.specs.declared.token.TokenKind.TheVariants.{Ident};
 ghost use Rattle.css_tokens.specs.Pieces.{pieces};
@@ -13,6 +13,7 @@ ghost use Rattle.selectors.specs.Reading.{selector_list_of};
 ghost use Rattle.sheet_reader.specs.declared.sheet.Property.{Property};
 ghost use Rattle.sheet_reader.specs.declared.sheet.Sheet.{Sheet};
 ghost use Rattle.sheet_reader.specs.Forms.{range, RuleForm};
+ghost use Rattle.sheet_reader.specs.Layout.{level_of};
 ghost use Rattle.sheet_reader.specs.Parts.{EndingForm, block, PartForm, qualified, parts};
 ghost use Rattle.sheet_reader.specs.Declarations.{declaration_of, declarations, is_custom, style_of};
 ghost use Rattle.sheet_reader.specs.Sheets.{rule_of, sheet_of};
@@ -40,8 +41,8 @@ pub fn prelude_law()
     ensures spelled { (text : List ℕ) (ts : List Token) (ss : List SelectorForm)
         → selector_list_of (word_reading text (words_after text false ts)) ≡ Some ss → AreSelectorList text ts ss }
     ensures rules { (text : List ℕ) (r : RuleForm) → Contains (sheet_of text).rules r → HasPrelude text r }
-    ensures dropped { (text : List ℕ) (prelude : List Token) (ending : EndingForm)
-        → ((ss : List SelectorForm) → AreSelectorList text prelude ss → ⊥) → rule_of text (qualified prelude ending) ≡ None }
+    ensures dropped { (text : List ℕ) (around : Option ℕ) (prelude : List Token) (ending : EndingForm)
+        → ((ss : List SelectorForm) → AreSelectorList text prelude ss → ⊥) → rule_of text around (qualified prelude ending) ≡ None }
     ensures whole { (text : List ℕ) (ss : List SelectorForm) → IsSelectorList text ss → AreSelectorList text (pieces text) ss }
     ensures whole_only { (text : List ℕ) (ss : List SelectorForm) → AreSelectorList text (pieces text) ss → IsSelectorList text ss }
 {}
@@ -68,19 +69,21 @@ pub fn declaration_law()
 /// is one, whether it is a style rule or is dropped.
 pub fn place_law()
     ensures places { (text : List ℕ) (place : ℕ) → Contains (sheet_of text).places place
-        → (place ≡ 0) ⊎ IsBetweenParts text (parts (pieces text)) place }
-    ensures each { (text : List ℕ) (place : ℕ) → IsBetweenParts text (parts (pieces text)) place → Contains (sheet_of text).places place }
+        → (place ≡ 0) ⊎ IsBetweenParts text (parts (level_of None) (pieces text)) place }
+    ensures each { (text : List ℕ) (place : ℕ) → IsBetweenParts text (parts (level_of None) (pieces text)) place → Contains (sheet_of text).places place }
     ensures ascend { (text : List ℕ) → (places : List ℕ) × ((sheet_of text).places ≡ 0 ∷ places) × AscendFrom 0 places }
     ensures closed_rule { (text : List ℕ) (prelude inside : List Token) (brace close : Token)
-        → Contains (parts (pieces text)) (qualified prelude (block brace inside (Some close)))
+        → Contains (parts (level_of None) (pieces text)) (qualified prelude (block brace inside (Some close)))
         → Contains (sheet_of text).places close.end }
 {}
 
 /// A qualified rule is read as a style rule exactly where it is one by the grammars of selectors and declarations. Each text says
 /// one sheet, which is the one that is read.
 pub fn reading_law()
-    ensures rule { (text : List ℕ) (p : PartForm) (r : RuleForm) → rule_of text p ≡ Some r → IsStyleRule text p r }
-    ensures rule_only { (text : List ℕ) (p : PartForm) (r : RuleForm) → IsStyleRule text p r → rule_of text p ≡ Some r }
+    ensures rule { (text : List ℕ) (around : Option ℕ) (p : PartForm) (r : RuleForm) → rule_of text around p ≡ Some r
+        → IsStyleRule text around p r }
+    ensures rule_only { (text : List ℕ) (around : Option ℕ) (p : PartForm) (r : RuleForm) → IsStyleRule text around p r
+        → rule_of text around p ≡ Some r }
     ensures sheet { (text : List ℕ) → IsReading text (sheet_of text) }
     ensures sheet_only { (text : List ℕ) (s : Sheet) → IsReading text s → s ≡ sheet_of text }
 {}

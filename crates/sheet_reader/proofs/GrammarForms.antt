@@ -10,6 +10,7 @@ use Rattle.css_tokens.specs.declared.token.TokenKind.TheVariants as tokens
 use Rattle.sheet_reader.specs.declared.brackets.Stop.{Stop}
 use Rattle.sheet_reader.specs.declared.brackets.Stop.TheVariants as stops
 use Rattle.sheet_reader.specs.Brackets.{stops_at, until}
+use Rattle.sheet_reader.specs.declared.parts.Level.{Level}
 use Rattle.sheet_reader.specs.Parts.{EndingForm, block, PartForm, passed, at_rule, qualified, is_passed, block_at, ending_by, ending_at}
 use Rattle.sheet_reader.specs.Parts.{at_rule_at, qualified_at, part_by, part_at, ending_pieces, part_pieces, parts, parts_after}
 use Rattle.sheet_reader.specs.Grammar.{outside, AreValues, EndsBefore, IsEnding, at_text_end, at_semicolon, in_block, in_open_block}
@@ -106,22 +107,22 @@ rule_read stop ts weaker =
       };
     }
 
-record PartRead (p : PartForm) (all : List Token) : Type 0 where
+record PartRead (level : Level) (p : PartForm) (all : List Token) : Type 0 where
   rest : List Token
   is : all ≡ part_pieces p ++ rest
-  form : IsPart p rest
+  form : IsPart level p rest
 
-begins : (own rest : List Token) (t : Token) (ts : List Token) → t ∷ ts ≡ own ++ rest → 0 < length own → is_passed t.kind ≡ false
-    → is_at_keyword t.kind ≡ false → BeginsQualified own
-begins [] rest t ts e some a b = absurd (omega (arith, some))
-begins (u ∷ us) rest t ts e some a b =
+begins : (level : Level) (own rest : List Token) (t : Token) (ts : List Token) → t ∷ ts ≡ own ++ rest → 0 < length own → is_passed level t.kind ≡ false
+    → is_at_keyword t.kind ≡ false → BeginsQualified level own
+begins level [] rest t ts e some a b = absurd (omega (arith, some))
+begins level (u ∷ us) rest t ts e some a b =
     let same : t ≡ u = cc in
-    (subst (λ (x : Token). is_passed x.kind ≡ false) same a, subst (λ (x : Token). is_at_keyword x.kind ≡ false) same b)
+    (subst (λ (x : Token). is_passed level x.kind ≡ false) same a, subst (λ (x : Token). is_at_keyword x.kind ≡ false) same b)
 
-read_passed : (x : Bool) (t : Token) (ts : List Token) → is_passed t.kind ≡ x → is_at_keyword t.kind ≡ false
-    → PartRead (cond x (passed t) (qualified_at (t ∷ ts))) (t ∷ ts)
-read_passed true t ts e other = record { rest = ts; is = refl; form = passed_part t e }
-read_passed false t ts e other =
+read_passed : (level : Level) (x : Bool) (t : Token) (ts : List Token) → is_passed level t.kind ≡ x → is_at_keyword t.kind ≡ false
+    → PartRead level (cond x (passed t) (qualified_at (t ∷ ts))) (t ∷ ts)
+read_passed level true t ts e other = record { rest = ts; is = refl; form = passed_part t e }
+read_passed level false t ts e other =
     let n = until stops.Block (t ∷ ts) in
     let r = rule_read stops.Block (t ∷ ts) block_weaker in
     let own = take n (t ∷ ts) ++ ending_pieces (ending_at (drop n (t ∷ ts))) in
@@ -129,42 +130,42 @@ read_passed false t ts e other =
       rest = r.rest;
       is = r.is;
       form = qualified_part (take n (t ∷ ts)) (ending_at (drop n (t ∷ ts)))
-          (begins own r.rest t ts r.is (then_ending_some n t ts) e other) r.rule;
+          (begins level own r.rest t ts r.is (then_ending_some n t ts) e other) r.rule;
     }
 
-at_rule_read : (t : Token) (ts : List Token) → t.kind ≡ tokens.AtKeyword → PartRead (at_rule_at t ts) (t ∷ ts)
-at_rule_read t ts e =
+at_rule_read : (level : Level) (t : Token) (ts : List Token) → t.kind ≡ tokens.AtKeyword → PartRead level (at_rule_at t ts) (t ∷ ts)
+at_rule_read level t ts e =
     let r = rule_read stops.BlockOrSemicolon ts same_weaker in
     let n = until stops.BlockOrSemicolon ts in
     record { rest = r.rest; is = ap (λ (xs : List Token). t ∷ xs) r.is; form = at_rule_part t (take n ts) (ending_at (drop n ts)) e r.rule }
 
-part_by_read : (kind : TokenKind) (t : Token) (ts : List Token) → t.kind ≡ kind → PartRead (part_by t ts kind) (t ∷ ts)
-part_by_read tokens.AtKeyword t ts e = at_rule_read t ts e
-part_by_read kind t ts e = read_passed (is_passed kind) t ts (ap is_passed e) (ap is_at_keyword e)
+part_by_read : (level : Level) (kind : TokenKind) (t : Token) (ts : List Token) → t.kind ≡ kind → PartRead level (part_by level t ts kind) (t ∷ ts)
+part_by_read level tokens.AtKeyword t ts e = at_rule_read level t ts e
+part_by_read level kind t ts e = read_passed level (is_passed level kind) t ts (ap (is_passed level) e) (ap is_at_keyword e)
 
-part_read : (t : Token) (ts : List Token) → PartRead (part_at t ts) (t ∷ ts)
+part_read : (level : Level) (t : Token) (ts : List Token) → PartRead level (part_at level t ts) (t ∷ ts)
 unfolding part_at
-part_read t ts = part_by_read t.kind t ts refl
+part_read level t ts = part_by_read level t.kind t ts refl
 
-spelled_in : (n : ℕ) (ts : List Token) → length ts ≤ n → AreParts (parts ts) ts
+spelled_in : (level : Level) (n : ℕ) (ts : List Token) → length ts ≤ n → AreParts level (parts level ts) ts
 unfolding parts_after
-spelled_in n [] fits = refl
-spelled_in zero (t ∷ ts) fits = absurd (omega (arith, fits))
-spelled_in (suc n) (t ∷ ts) fits =
-    let p = part_at t ts in
-    let r = part_read t ts in
-    let some = part_some t ts in
+spelled_in level n [] fits = refl
+spelled_in level zero (t ∷ ts) fits = absurd (omega (arith, fits))
+spelled_in level (suc n) (t ∷ ts) fits =
+    let p = part_at level t ts in
+    let r = part_read level t ts in
+    let some = part_some level t ts in
     let len : length (t ∷ ts) ≡ length (part_pieces p)
     + length r.rest = ap (λ (xs : List Token). length xs) r.is ∙ length-append (part_pieces p) r.rest in
     let left : drop (length (part_pieces p)) (t ∷ ts)
     ≡ r.rest = ap (drop (length (part_pieces p))) r.is ∙ drop-append_seam (part_pieces p) r.rest in
-    let others = spelled_in n r.rest (omega (arith, fits, len, some)) in
-    subst (λ (ps : List PartForm). AreParts ps (t ∷ ts)) (sym (parts_step t ts))
-    (r.rest, r.is, r.form, subst (λ (xs : List Token). AreParts (parts xs) r.rest) (sym left) others)
+    let others = spelled_in level n r.rest (omega (arith, fits, len, some)) in
+    subst (λ (ps : List PartForm). AreParts level ps (t ∷ ts)) (sym (parts_step level t ts))
+    (r.rest, r.is, r.form, subst (λ (xs : List Token). AreParts level (parts level xs) r.rest) (sym left) others)
 
 -- the parts that are read are parts of the grammar
-pub parts_spelled : (ts : List Token) → AreParts (parts ts) ts
-parts_spelled ts = spelled_in (length ts) ts (omega arith)
+pub parts_spelled : (level : Level) (ts : List Token) → AreParts level (parts level ts) ts
+parts_spelled level ts = spelled_in level (length ts) ts (omega arith)
 
 -- ---- what is in the grammar is read
 
@@ -206,21 +207,21 @@ rule_again stop prelude ending rest all whole rule =
           (drop (length prelude)) is ∙ drop-append_seam prelude behind) ∙ ending_again ending rest rule.ends;
     }
 
-passed_again : (kind : TokenKind) (t : Token) (ts : List Token) → is_passed kind ≡ true → part_by t ts kind ≡ passed t
-passed_again tokens.AtKeyword t ts e = absurd (cc)
-passed_again kind t ts e = ap (λ (x : Bool). cond x (passed t) (qualified_at (t ∷ ts))) e
+passed_again : (level : Level) (kind : TokenKind) (t : Token) (ts : List Token) → is_passed level kind ≡ true → part_by level t ts kind ≡ passed t
+passed_again level tokens.AtKeyword t ts e = absurd (cc)
+passed_again level kind t ts e = ap (λ (x : Bool). cond x (passed t) (qualified_at (t ∷ ts))) e
 
-qualified_again : (kind : TokenKind) (t : Token) (ts : List Token) → is_passed kind ≡ false → is_at_keyword kind ≡ false
-    → part_by t ts kind ≡ qualified_at (t ∷ ts)
-qualified_again tokens.AtKeyword t ts e other = absurd (cc)
-qualified_again kind t ts e other = ap (λ (x : Bool). cond x (passed t) (qualified_at (t ∷ ts))) e
+qualified_again : (level : Level) (kind : TokenKind) (t : Token) (ts : List Token) → is_passed level kind ≡ false → is_at_keyword kind ≡ false
+    → part_by level t ts kind ≡ qualified_at (t ∷ ts)
+qualified_again level tokens.AtKeyword t ts e other = absurd (cc)
+qualified_again level kind t ts e other = ap (λ (x : Bool). cond x (passed t) (qualified_at (t ∷ ts))) e
 
 -- the part that begins where one stands is that one
-record PartAgain (p : PartForm) (all : List Token) : Type 0 where
+record PartAgain (level : Level) (p : PartForm) (all : List Token) : Type 0 where
   t : Token
   ts : List Token
   is : all ≡ t ∷ ts
-  form : part_at t ts ≡ p
+  form : part_at level t ts ≡ p
 
 pub at_rule_again : (keyword : Token) (prelude : List Token) (ending : EndingForm) (rest : List Token)
     → IsRule stops.BlockOrSemicolon prelude ending rest
@@ -229,42 +230,42 @@ at_rule_again keyword prelude ending rest rule =
     let r = rule_again stops.BlockOrSemicolon prelude ending rest ((prelude ++ ending_pieces ending) ++ rest) refl rule in
     λ i. at_rule keyword (r.prelude_is i) (r.ending_is i)
 
-begun_again : (own prelude : List Token) (ending : EndingForm) (rest : List Token) → own ≡ prelude ++ ending_pieces ending
-    → BeginsQualified own → IsRule stops.Block prelude ending rest → PartAgain (qualified prelude ending) (own ++ rest)
+begun_again : (level : Level) (own prelude : List Token) (ending : EndingForm) (rest : List Token) → own ≡ prelude ++ ending_pieces ending
+    → BeginsQualified level own → IsRule stops.Block prelude ending rest → PartAgain level (qualified prelude ending) (own ++ rest)
 unfolding part_at
-begun_again [] prelude ending rest is none rule = absurd none
-begun_again (t ∷ ts) prelude ending rest is first rule =
+begun_again level [] prelude ending rest is none rule = absurd none
+begun_again level (t ∷ ts) prelude ending rest is first rule =
     let r = rule_again stops.Block prelude ending rest (t ∷ (ts ++ rest)) (ap (λ (xs : List Token). xs ++ rest) is) rule in
     record {
       t = t;
       ts = ts ++ rest;
       is = refl;
-      form = qualified_again t.kind t (ts ++ rest) first.0 first.1 ∙ (λ i. qualified (r.prelude_is i) (r.ending_is i));
+      form = qualified_again level t.kind t (ts ++ rest) first.0 first.1 ∙ (λ i. qualified (r.prelude_is i) (r.ending_is i));
     }
 
-part_again : (p : PartForm) (rest : List Token) → IsPart p rest → PartAgain p (part_pieces p ++ rest)
+part_again : (level : Level) (p : PartForm) (rest : List Token) → IsPart level p rest → PartAgain level p (part_pieces p ++ rest)
 unfolding part_at
-part_again _ rest (passed_part t e) = record { t = t; ts = rest; is = refl; form = passed_again t.kind t rest e }
-part_again _ rest (at_rule_part keyword prelude ending e rule) = record {
+part_again level _ rest (passed_part t e) = record { t = t; ts = rest; is = refl; form = passed_again level t.kind t rest e }
+part_again level _ rest (at_rule_part keyword prelude ending e rule) = record {
   t = keyword;
   ts = (prelude ++ ending_pieces ending) ++ rest;
   is = refl;
-  form = ap (part_by keyword ((prelude ++ ending_pieces ending) ++ rest)) e ∙ at_rule_again keyword prelude ending rest rule;
+  form = ap (part_by level keyword ((prelude ++ ending_pieces ending) ++ rest)) e ∙ at_rule_again keyword prelude ending rest rule;
 }
-part_again _ rest (qualified_part prelude ending first rule) = begun_again
+part_again level _ rest (qualified_part prelude ending first rule) = begun_again level
     (prelude ++ ending_pieces ending) prelude ending rest refl first rule
 
 -- parts of the grammar are those that are read
-pub parts_only : (ps : List PartForm) (ts : List Token) → AreParts ps ts → ps ≡ parts ts
+pub parts_only : (level : Level) (ps : List PartForm) (ts : List Token) → AreParts level ps ts → ps ≡ parts level ts
 unfolding parts_after
-parts_only [] ts e = sym (ap parts e)
-parts_only (p ∷ ps) ts all =
+parts_only level [] ts e = sym (ap (parts level) e)
+parts_only level (p ∷ ps) ts all =
     let rest = all.0 in
-    let a = part_again p rest all.2 in
+    let a = part_again level p rest all.2 in
     let whole : ts ≡ a.t ∷ a.ts = all.1 ∙ a.is in
-    let left : drop (length (part_pieces (part_at a.t a.ts))) (a.t ∷ a.ts) ≡ rest =
+    let left : drop (length (part_pieces (part_at level a.t a.ts))) (a.t ∷ a.ts) ≡ rest =
     ap (λ (x : PartForm). drop (length (part_pieces x)) (a.t ∷ a.ts)) a.form ∙ ap (drop (length (part_pieces p)))
     (sym a.is) ∙ drop-append_seam (part_pieces p) rest in
-    sym (ap parts whole ∙ parts_step a.t a.ts ∙ ap
-    (λ (x : PartForm). x ∷ parts (drop (length (part_pieces (part_at a.t a.ts))) (a.t ∷ a.ts))) a.form
-    ∙ ap (λ (xs : List Token). p ∷ parts xs) left ∙ ap (λ (xs : List PartForm). p ∷ xs) (sym (parts_only ps rest all.3)))
+    sym (ap (parts level) whole ∙ parts_step level a.t a.ts ∙ ap
+    (λ (x : PartForm). x ∷ parts level (drop (length (part_pieces (part_at level a.t a.ts))) (a.t ∷ a.ts))) a.form
+    ∙ ap (λ (xs : List Token). p ∷ parts level xs) left ∙ ap (λ (xs : List PartForm). p ∷ xs) (sym (parts_only level ps rest all.3)))

@@ -6,6 +6,11 @@ pub mod PositionLemmas
 pub mod BookLemmas
 pub mod ValueForms
 pub mod GrammarForms
+pub mod LayoutForms
+pub mod FrameForms
+pub mod OpenForms
+pub mod AroundForms
+pub mod ExchangeForms
 pub mod ItemForms
 pub mod PlaceForms
 pub mod NestingForms

@@ -23,7 +23,7 @@ swap Curly Round = refl
 swap Curly Square = refl
 swap Curly Curly = refl
 
-plain_stays : (bs : List Bracket) (kind : TokenKind) → opened_by kind ≡ None → closed_by kind ≡ None → open_after bs kind ≡ bs
+pub plain_stays : (bs : List Bracket) (kind : TokenKind) → opened_by kind ≡ None → closed_by kind ≡ None → open_after bs kind ≡ bs
 plain_stays bs kind a b = ap (λ (o : Option Bracket). open_by bs o (closed_by kind)) a ∙ ap (open_by bs None) b
 
 opens_no_stray : (kind : TokenKind) (b : Bracket) (bs : List Bracket) → opened_by kind ≡ Some b → is_stray bs kind ≡ false

@@ -9,6 +9,7 @@ use Rattle.css_tokens.specs.declared.token.Token.{Token}
 use Rattle.css_tokens.specs.declared.token.TokenKind.{TokenKind}
 use Rattle.css_tokens.specs.declared.token.TokenKind.TheVariants as tokens
 use Rattle.sheet_reader.specs.declared.brackets.Stop.TheVariants as stops
+use Rattle.sheet_reader.specs.declared.parts.Level.{Level}
 use Rattle.sheet_reader.specs.Brackets.{stops_at, until}
 use Rattle.sheet_reader.specs.Parts.{block, PartForm, passed, is_passed, ending_by, ending_at, at_rule_at, qualified_at, part_by, part_at}
 use Rattle.sheet_reader.specs.Parts.{ending_pieces, part_pieces, parts_after, parts}
@@ -60,13 +61,13 @@ by_passed : (b : Bool) (t : Token) (ts : List Token) → IsFrontOf (part_pieces 
 by_passed true t ts = record { rest = ts; is = refl }
 by_passed false t ts = then_ending (t ∷ ts) (until stops.Block (t ∷ ts))
 
-part_by_front : (kind : TokenKind) (t : Token) (ts : List Token) → IsFrontOf (part_pieces (part_by t ts kind)) (t ∷ ts)
-part_by_front tokens.AtKeyword t ts = at_rule_front t ts
-part_by_front kind t ts = by_passed (is_passed kind) t ts
+part_by_front : (level : Level) (kind : TokenKind) (t : Token) (ts : List Token) → IsFrontOf (part_pieces (part_by level t ts kind)) (t ∷ ts)
+part_by_front level tokens.AtKeyword t ts = at_rule_front t ts
+part_by_front level kind t ts = by_passed (is_passed level kind) t ts
 
-pub part_front : (t : Token) (ts : List Token) → IsFrontOf (part_pieces (part_at t ts)) (t ∷ ts)
+pub part_front : (level : Level) (t : Token) (ts : List Token) → IsFrontOf (part_pieces (part_at level t ts)) (t ∷ ts)
 unfolding part_at
-part_front t ts = part_by_front t.kind t ts
+part_front level t ts = part_by_front level t.kind t ts
 
 ending_by_some : (kind : TokenKind) (t : Token) (ts : List Token) → 0 < length (ending_pieces (ending_by t ts kind))
 ending_by_some tokens.Semicolon t ts = omega arith
@@ -80,13 +81,13 @@ by_passed_some : (b : Bool) (t : Token) (ts : List Token) → 0 < length (part_p
 by_passed_some true t ts = omega arith
 by_passed_some false t ts = then_ending_some (until stops.Block (t ∷ ts)) t ts
 
-part_by_some : (kind : TokenKind) (t : Token) (ts : List Token) → 0 < length (part_pieces (part_by t ts kind))
-part_by_some tokens.AtKeyword t ts = omega arith
-part_by_some kind t ts = by_passed_some (is_passed kind) t ts
+part_by_some : (level : Level) (kind : TokenKind) (t : Token) (ts : List Token) → 0 < length (part_pieces (part_by level t ts kind))
+part_by_some level tokens.AtKeyword t ts = omega arith
+part_by_some level kind t ts = by_passed_some (is_passed level kind) t ts
 
-pub part_some : (t : Token) (ts : List Token) → 0 < length (part_pieces (part_at t ts))
+pub part_some : (level : Level) (t : Token) (ts : List Token) → 0 < length (part_pieces (part_at level t ts))
 unfolding part_at
-part_some t ts = part_by_some t.kind t ts
+part_some level t ts = part_by_some level t.kind t ts
 
 -- ---- what follows from being a front
 
@@ -99,21 +100,23 @@ front_all P front whole f all = subst (All P) (take-append_seam front f.rest)
 
 -- ---- one part more
 
-parts_skip : (n : ℕ) (ts : List Token) → parts_after n ts ≡ parts_after 0 (drop n ts)
+parts_skip : (level : Level) (n : ℕ) (ts : List Token) → parts_after level n ts ≡ parts_after level 0 (drop n ts)
 unfolding parts_after
-parts_skip zero ts = refl
-parts_skip (suc n) [] = refl
-parts_skip (suc n) (t ∷ ts) = parts_skip n ts
+parts_skip level zero ts = refl
+parts_skip level (suc n) [] = refl
+parts_skip level (suc n) (t ∷ ts) = parts_skip level n ts
 
 drop_front : (n : ℕ) (t : Token) (ts : List Token) → 0 < n → drop (n - 1) ts ≡ drop n (t ∷ ts)
 drop_front zero t ts some = absurd (omega (arith, some))
 drop_front (suc n) t ts some = let same : suc n - 1 ≡ n = omega arith in ap (λ (k : ℕ). drop k ts) same
 
-pub parts_step : (t : Token) (ts : List Token) → parts (t ∷ ts) ≡ part_at t ts ∷ parts (drop (length (part_pieces (part_at t ts))) (t ∷ ts))
+pub parts_step : (level : Level) (t : Token) (ts : List Token)
+    → parts level (t ∷ ts) ≡ part_at level t ts ∷ parts level (drop (length (part_pieces (part_at level t ts))) (t ∷ ts))
 unfolding parts_after
-parts_step t ts =
-    let n = length (part_pieces (part_at t ts)) in
-    ap (λ (ps : List PartForm). part_at t ts ∷ ps) (parts_skip (n - 1) ts ∙ ap (parts_after 0) (drop_front n t ts (part_some t ts)))
+parts_step level t ts =
+    let n = length (part_pieces (part_at level t ts)) in
+    ap (λ (ps : List PartForm). part_at level t ts ∷ ps)
+    (parts_skip level (n - 1) ts ∙ ap (parts_after level 0) (drop_front n t ts (part_some level t ts)))
 
 -- ---- items
 

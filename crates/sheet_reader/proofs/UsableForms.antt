@@ -1,9 +1,10 @@
 -- The parts of a sheet that are read stand where they can be cut out.
 use Rattle.std.proofs.Common.{◌≡◌, ℕ, zero, suc, ◌-◌, ◌<◌, ◌≤◌, ◌&&◌, not, Bool, true, false, List, [], ◌∷◌, ◌++◌, length, take, map, All}
-use Rattle.std.proofs.Common.{Option, Some, None, refl, sym, subst, arith}
+use Rattle.std.proofs.Common.{Option, Some, None, cond, ◌+◌, ◌⊎◌, inl, inr, refl, sym, ap, subst, ◌∙◌, append_assoc, arith}
+use Rattle.std.proofs.lemmas.List.{map-append}
 use Rattle.std.specs.Prelude.{option_to_list}
 use Rattle.std.specs.Str.{IsUtf8, IsCharBoundary}
-use Rattle.std.proofs.lemmas.List.Elements.{All-nil, All-cons}
+use Rattle.std.proofs.lemmas.List.Elements.{All-nil, All-cons, All-append}
 use Rattle.std.proofs.lemmas.Str.{IsCharBoundary-start}
 use Rattle.css_tokens.specs.declared.token.Range.{Range}
 use Rattle.css_tokens.specs.declared.token.Token.{Token}
@@ -16,11 +17,14 @@ use Rattle.selectors.specs.Forms.{SelectorForm, ◌>>=◌}
 use Rattle.selectors.specs.Reading.{word_value, range_of, selector_list_of, is_over}
 use Rattle.selectors.specs.Ranges.{IsRangeOf, AreBetween, AreTiles}
 use Rattle.selectors.proofs.Choices.{none_some, some_is, bind_some, passed_test, failed_test}
-use Rattle.selectors.proofs.RangeForms.{tiles_whole, tiles_order, tiles_cut, tiles_edge, between_order, between_from, range_at, AreWords}
+use Rattle.selectors.proofs.RangeForms.{tiles_whole, tiles_order, tiles_cut, tiles_edge, between_order, between_from, between_append, range_at, AreWords}
 use Rattle.selectors.proofs.RangeForms.{words_between, Spans, range_spans, list_between}
 use Rattle.sheet_reader.specs.declared.sheet.Property.{Property}
 use Rattle.sheet_reader.specs.Forms.{range, RuleForm}
 use Rattle.sheet_reader.specs.Parts.{EndingForm, text_end, semicolon, block, PartForm, passed, at_rule, qualified, ending_pieces}
+use Rattle.sheet_reader.specs.declared.parts.Level.{Level}
+use Rattle.sheet_reader.specs.declared.parts.Level.TheVariants.{Top, Inner}
+use Rattle.sheet_reader.specs.declared.sheet.MediaRule.{MediaRule}
 use Rattle.sheet_reader.specs.Parts.{part_pieces, parts}
 use Rattle.sheet_reader.specs.Declarations.{ItemForm, item_pieces, item_property, items_after, is_custom, is_important, plain_value}
 use Rattle.sheet_reader.specs.Declarations.{name_by, value_range, property, unless_empty, declared_by, declared_in, declaration_of}
@@ -29,9 +33,14 @@ use Rattle.sheet_reader.specs.Declarations as body
 use Rattle.sheet_reader.specs.Sheets.{body_end, style_rule, rule_by, rule_of, is_closed_comment, passed_place, ending_place, place_of}
 use Rattle.sheet_reader.specs.Sheets.{rules_in, places_in, sheet_of}
 use Rattle.sheet_reader.specs.Grammar.{IsEnding, at_text_end, at_semicolon, in_block, in_open_block, BeginsQualified, IsPart, passed_part}
-use Rattle.sheet_reader.specs.Grammar.{at_rule_part, qualified_part, AreParts, AreItems}
+use Rattle.sheet_reader.specs.Grammar.{at_rule_part, qualified_part, AreParts, AreItems, IsShutEnding, IsShut, AreShut}
+use Rattle.sheet_reader.specs.Layout.{MediaForm, names_media, media_by, media_form, prelude_range, media_rule, media_in, Laid, laid, laid_out, AreLaid}
+use Rattle.sheet_reader.specs.Layout.{none_laid, part_laid, media_laid}
 use Rattle.sheet_reader.specs.Usable.{IsPropertyOf, wholes_of, IsRuleOf, rule_range, AreEdgesBehind, IsSheetOf, AreDeclarationsOf}
-use Rattle.sheet_reader.proofs.GrammarForms.{parts_spelled}
+use Rattle.sheet_reader.proofs.GrammarForms.{parts_spelled, parts_only}
+use Rattle.sheet_reader.proofs.LayoutForms.{laid_spelled}
+use Rattle.sheet_reader.proofs.FrameForms.{media_append, media_cons}
+use Rattle.sheet_reader.proofs.OpenForms.{inside_shut}
 use Rattle.sheet_reader.proofs.ItemForms.{items_spelled}
 
 -- ---- declarations
@@ -152,17 +161,18 @@ record RuleIn (text : List ℕ) (from to : ℕ) (r : RuleForm) : Type 0 where
   is : IsRuleOf text r
   ends : r.body.end ≤ to
 
-styled : (text : List ℕ) (from seam start end : ℕ) (words : List Word) (inside : List Token) (r : RuleForm)
+styled : (text : List ℕ) (around : Option ℕ) (from seam start end : ℕ) (words : List Word) (inside : List Token) (r : RuleForm)
     → AreWords text from seam words → seam ≤ start → IsRangeOf text (range start end)
     → AreDeclarationsOf text start end (declarations text inside)
-    → style_rule text words (range start end) inside ≡ Some r → RuleIn text from end r
-styled text from seam start end words inside r all behind own declared e =
+    → style_rule text around words (range start end) inside ≡ Some r → RuleIn text from end r
+styled text around from seam start end words inside r all behind own declared e =
     let of : Range → List SelectorForm
     → RuleForm = λ prelude selectors. record {
       prelude = prelude;
       selectors = selectors;
       body = range start end;
       properties = declarations text inside;
+      media = around;
     } in
     let a = bind_some (range_of words)
     (λ prelude. selector_list_of (word_reading text words) >>= λ selectors. Some (of prelude selectors)) r e in
@@ -180,68 +190,70 @@ styled text from seam start end words inside r all behind own declared e =
     let in_place : RuleIn text from end (of a.0 b.0) = record { starts = s.starts; is = is; ends = omega arith } in
     subst (RuleIn text from end) same in_place
 
--- a block that is not closed ends with the text
-abbrev OpenAtEnd : EndingForm → List Token → Type 0
-OpenAtEnd (block first inside None) rest = rest ≡ []
-OpenAtEnd (block first inside (Some close)) rest = Unit {0}
-OpenAtEnd text_end rest = Unit {0}
-OpenAtEnd (semicolon t) rest = Unit {0}
+-- a block that is not closed ends where the text ends
+abbrev OpenEnds : EndingForm → ℕ → ℕ → Type 0
+OpenEnds (block first inside None) end size = end ≡ size
+OpenEnds (block first inside (Some close)) end size = Unit {0}
+OpenEnds text_end end size = Unit {0}
+OpenEnds (semicolon t) end size = Unit {0}
 
-abbrev PartOpenAtEnd : PartForm → List Token → Type 0
-PartOpenAtEnd (passed t) rest = Unit {0}
-PartOpenAtEnd (at_rule keyword prelude ending) rest = Unit {0}
-PartOpenAtEnd (qualified prelude ending) rest = OpenAtEnd ending rest
+abbrev PartOpenEnds : PartForm → ℕ → ℕ → Type 0
+PartOpenEnds (passed t) end size = Unit {0}
+PartOpenEnds (at_rule keyword prelude ending) end size = OpenEnds ending end size
+PartOpenEnds (qualified prelude ending) end size = OpenEnds ending end size
 
-ending_open : (e : EndingForm) (rest : List Token) → IsEnding e rest → OpenAtEnd e rest
-ending_open _ rest (at_text_end over) = tt
-ending_open _ rest (at_semicolon t kind) = tt
-ending_open _ rest (in_block first close within _ _ _) = tt
-ending_open _ rest (in_open_block first within _ _ over) = over
+ending_open : (text : List ℕ) (seam end : ℕ) (e : EndingForm) (rest : List Token) → IsEnding e rest → AreTiles text seam end rest
+    → IsShutEnding e ⊎ (end ≡ length text) → OpenEnds e seam (length text)
+ending_open text seam end _ rest (at_text_end over) all which = tt
+ending_open text seam end _ rest (at_semicolon t kind) all which = tt
+ending_open text seam end _ rest (in_block first close within _ _ _) all which = tt
+ending_open text seam end _ rest (in_open_block first within _ _ over) all (inl none) = absurd none
+ending_open text seam end _ rest (in_open_block first within _ _ over) all (inr last) =
+    let same : seam ≡ end = subst (AreTiles text seam end) over all in omega (arith, same, last)
 
-part_open : (p : PartForm) (rest : List Token) → IsPart p rest → PartOpenAtEnd p rest
-part_open _ rest (passed_part t e) = tt
-part_open _ rest (at_rule_part keyword prelude ending e rule) = tt
-part_open _ rest (qualified_part prelude ending first rule) = ending_open ending rest rule.ends
+part_open : (text : List ℕ) (seam end : ℕ) (level : Level) (p : PartForm) (rest : List Token) → IsPart level p rest
+    → AreTiles text seam end rest → IsShut p ⊎ (end ≡ length text) → PartOpenEnds p seam (length text)
+part_open text seam end level _ rest (passed_part t e) all which = tt
+part_open text seam end level _ rest (at_rule_part keyword prelude ending e rule) all which =
+    ending_open text seam end ending rest rule.ends all which
+part_open text seam end level _ rest (qualified_part prelude ending first rule) all which =
+    ending_open text seam end ending rest rule.ends all which
 
 -- where a body's pieces end, the body ends
-body_ends : (text : List ℕ) (seam end : ℕ) (first : Token) (inside rest : List Token) (close : Option Token)
-    → AreTiles text seam end (option_to_list close) → AreTiles text end (length text) rest → OpenAtEnd (block first inside close) rest
+body_ends : (text : List ℕ) (seam end : ℕ) (first : Token) (inside : List Token) (close : Option Token)
+    → AreTiles text seam end (option_to_list close) → OpenEnds (block first inside close) end (length text)
     → (body_end text close ≡ seam) × (seam ≤ end)
-body_ends text seam end first inside rest (Some close) own others open_end = (own.0, omega (arith, own.0, own.1.0, own.2))
-body_ends text seam end first inside rest None own others open_end =
-    let over : end ≡ length text = subst (AreTiles text end (length text)) open_end others in
-    (omega (arith, own, over), omega (arith, own))
+body_ends text seam end first inside (Some close) own open_end = (own.0, omega (arith, own.0, own.1.0, own.2))
+body_ends text seam end first inside None own open_end = (omega (arith, own, open_end), omega (arith, own))
 
-rule_in : (text : List ℕ) (from end : ℕ) (prelude : List Token) (ending : EndingForm) (rest : List Token) (r : RuleForm)
-    → AreTiles text from end (prelude ++ ending_pieces ending) → AreTiles text end (length text) rest → OpenAtEnd ending rest
-    → rule_by text prelude ending ≡ Some r → RuleIn text from end r
-rule_in text from end prelude text_end rest r own others open_end e = absurd (none_some r e)
-rule_in text from end prelude (semicolon t) rest r own others open_end e = absurd (none_some r e)
-rule_in text from end prelude (block first inside close) rest r own others open_end e =
+rule_in : (text : List ℕ) (around : Option ℕ) (from end : ℕ) (prelude : List Token) (ending : EndingForm) (r : RuleForm)
+    → AreTiles text from end (prelude ++ ending_pieces ending) → OpenEnds ending end (length text)
+    → rule_by text around prelude ending ≡ Some r → RuleIn text from end r
+rule_in text around from end prelude text_end r own open_end e = absurd (none_some r e)
+rule_in text around from end prelude (semicolon t) r own open_end e = absurd (none_some r e)
+rule_in text around from end prelude (block first inside close) r own open_end e =
     let front = tiles_cut text from end prelude (first ∷ (inside ++ option_to_list close)) own in
     let back = tiles_cut text first.end end inside (option_to_list close) front.right.2 in
-    let ends = body_ends text back.seam end first inside rest close back.right others open_end in
+    let ends = body_ends text back.seam end first inside close back.right open_end in
     let words = words_after text false prelude in
-    let at_seam : style_rule text words (range first.end back.seam) inside
-    ≡ Some r = subst (λ (n : ℕ). style_rule text words (range first.end n) inside ≡ Some r) ends.0 e in
+    let at_seam : style_rule text around words (range first.end back.seam) inside
+    ≡ Some r = subst (λ (n : ℕ). style_rule text around words (range first.end n) inside ≡ Some r) ends.0 e in
     let whole : IsRangeOf text (range first.end back.seam) = record {
       order = tiles_order text first.end back.seam inside back.left;
       front = front.right.1.2;
       back = tiles_edge text first.end back.seam inside front.right.1.2 back.left;
     } in
-    let in_place = styled text from front.seam first.end back.seam words inside r
+    let in_place = styled text around from front.seam first.end back.seam words inside r
     (words_between text false from front.seam prelude front.left)
     (omega (arith, front.right.0, front.right.1.0)) whole (declarations_usable text first.end back.seam inside back.left) at_seam in
     record { starts = in_place.starts; is = in_place.is; ends = omega (arith, in_place.ends, ends.1) }
 
-part_rule : (text : List ℕ) (from end : ℕ) (p : PartForm) (rest : List Token) (r : RuleForm)
-    → AreTiles text from end (part_pieces p) → AreTiles text end (length text) rest → IsPart p rest → rule_of text p ≡ Some r
-    → RuleIn text from end r
+part_rule : (text : List ℕ) (around : Option ℕ) (from end : ℕ) (p : PartForm) (r : RuleForm) → AreTiles text from end (part_pieces p)
+    → PartOpenEnds p end (length text) → rule_of text around p ≡ Some r → RuleIn text from end r
 unfolding rule_of
-part_rule text from end (passed t) rest r own others is e = absurd (none_some r e)
-part_rule text from end (at_rule keyword prelude ending) rest r own others is e = absurd (none_some r e)
-part_rule text from end (qualified prelude ending) rest r own others is e = rule_in text from end prelude ending rest r own others
-    (part_open (qualified prelude ending) rest is) e
+part_rule text around from end (passed t) r own open_end e = absurd (none_some r e)
+part_rule text around from end (at_rule keyword prelude ending) r own open_end e = absurd (none_some r e)
+part_rule text around from end (qualified prelude ending) r own open_end e = rule_in text around from end prelude ending r own open_end e
 
 -- ---- places
 
@@ -270,14 +282,14 @@ part_ends text from end (qualified prelude ending) n own e =
     let back = tiles_cut text from end prelude (ending_pieces ending) own in
     ending_ends text back.seam end ending n back.right e
 
-begins_some : (ts : List Token) → BeginsQualified ts → 0 < length ts
-begins_some [] none = absurd none
-begins_some (t ∷ ts) first = omega arith
+begins_some : (level : Level) (ts : List Token) → BeginsQualified level ts → 0 < length ts
+begins_some level [] none = absurd none
+begins_some level (t ∷ ts) first = omega arith
 
-part_some : (p : PartForm) (rest : List Token) → IsPart p rest → 0 < length (part_pieces p)
-part_some _ rest (passed_part t e) = omega arith
-part_some _ rest (at_rule_part keyword prelude ending e rule) = omega arith
-part_some _ rest (qualified_part prelude ending first rule) = begins_some (prelude ++ ending_pieces ending) first
+part_some : (level : Level) (p : PartForm) (rest : List Token) → IsPart level p rest → 0 < length (part_pieces p)
+part_some level _ rest (passed_part t e) = omega arith
+part_some level _ rest (at_rule_part keyword prelude ending e rule) = omega arith
+part_some level _ rest (qualified_part prelude ending first rule) = begins_some level (prelude ++ ending_pieces ending) first
 
 tiles_some : (text : List ℕ) (from end : ℕ) (ts : List Token) → 0 < length ts → AreTiles text from end ts → from < end
 tiles_some text from end [] some all = absurd (omega (arith, some))
@@ -288,21 +300,111 @@ edges_behind : (text : List ℕ) (place other : ℕ) (edges : List ℕ) → othe
 edges_behind text place other [] less all = tt
 edges_behind text place other (edge ∷ edges) less all = (omega (arith, less, all.0), all.1, all.2)
 
+-- ---- media rules
+
+-- what a part is that is a media rule
+pub record MediaIs (p : PartForm) (m : MediaForm) : Type 0 where
+  pub first : Token
+  pub close : Option Token
+  pub is : p ≡ at_rule m.keyword m.prelude (block first m.inside close)
+
+media_by_is : (keyword : Token) (prelude : List Token) (ending : EndingForm) (m : MediaForm) → media_by keyword prelude ending ≡ Some m
+    → MediaIs (at_rule keyword prelude ending) m
+media_by_is keyword prelude text_end m e = absurd (none_some m e)
+media_by_is keyword prelude (semicolon t) m e = absurd (none_some m e)
+media_by_is keyword prelude (block first inside close) m e =
+    subst (MediaIs (at_rule keyword prelude (block first inside close)))
+    (some_is (record { keyword = keyword; prelude = prelude; inside = inside }) m e) (record { first = first; close = close; is = refl })
+
+pub media_is : (text : List ℕ) (p : PartForm) (m : MediaForm) → media_form text p ≡ Some m → MediaIs p m
+unfolding media_form
+media_is text (passed t) m e = absurd (none_some m e)
+media_is text (qualified prelude ending) m e = absurd (none_some m e)
+media_is text (at_rule keyword prelude ending) m e = by (names_media text keyword keyword.kind) e
+  where
+    by : (b : Bool) → cond b (media_by keyword prelude ending) None ≡ Some m → MediaIs (at_rule keyword prelude ending) m
+    by false e = absurd (none_some m e)
+    by true e = media_by_is keyword prelude ending m e
+
+at_rule_ends : (level : Level) (keyword : Token) (prelude : List Token) (ending : EndingForm) (rest : List Token)
+    → IsPart level (at_rule keyword prelude ending) rest → IsEnding ending rest
+at_rule_ends level keyword prelude ending rest (at_rule_part _ _ _ e rule) = rule.ends
+
+-- where the pieces of a media rule's block stand, and its prelude before them
+record MediaSpan (text : List ℕ) (from end : ℕ) (m : MediaForm) : Type 0 where
+  start : ℕ
+  stop : ℕ
+  prelude : Valued text from start (prelude_range m.keyword (range_of (words_after text false m.prelude)))
+  edge : IsCharBoundary text start
+  tiles : AreTiles text start stop m.inside
+  ends : stop ≤ end
+  last : AreShut (parts Inner m.inside) ⊎ (stop ≡ length text)
+
+-- the range of a prelude behind its at-keyword
+preluded : (text : List ℕ) (from to : ℕ) (keyword : Token) (ts : List Token) → from ≤ keyword.end → IsCharBoundary text keyword.end
+    → AreTiles text keyword.end to ts → Valued text from to (prelude_range keyword (range_of (words_after text false ts)))
+preluded text from to keyword ts less edge all = by (range_of words) refl
+  where
+    words : List Word
+    words = words_after text false ts
+
+    placed : AreWords text keyword.end to words
+    placed = words_between text false keyword.end to ts all
+
+    by : (o : Option Range) → range_of words ≡ o → Valued text from to (prelude_range keyword o)
+    by None e =
+        let order = tiles_order text keyword.end to ts all in
+        record { starts = less; is = record { order = omega arith; front = edge; back = edge }; ends = order }
+    by (Some r) e = let s = range_spans text keyword.end to words r e placed in
+        record { starts = omega (arith, less, s.starts); is = s.is; ends = s.ends }
+
+media_last : (text : List ℕ) (stop end : ℕ) (first : Token) (inside rest : List Token) (close : Option Token)
+    → IsEnding (block first inside close) rest → OpenEnds (block first inside close) end (length text)
+    → AreTiles text stop end (option_to_list close) → AreShut (parts Inner inside) ⊎ (stop ≡ length text)
+media_last text stop end first inside rest (Some close) is open_end own = inl (inside_shut Inner first close inside rest is)
+media_last text stop end first inside rest None is open_end own = inr (omega (arith, own, open_end))
+
+media_spans : (text : List ℕ) (from end : ℕ) (level : Level) (keyword : Token) (prelude : List Token) (first : Token)
+    (inside rest : List Token) (close : Option Token)
+    → AreTiles text from end (part_pieces (at_rule keyword prelude (block first inside close)))
+    → OpenEnds (block first inside close) end (length text) → IsEnding (block first inside close) rest
+    → MediaSpan text from end (record { keyword = keyword; prelude = prelude; inside = inside })
+media_spans text from end level keyword prelude first inside rest close all open_end is =
+    let front = tiles_cut text keyword.end end prelude (first ∷ (inside ++ option_to_list close)) all.2 in
+    let back = tiles_cut text first.end end inside (option_to_list close) front.right.2 in
+    let before = preluded text from front.seam keyword prelude (omega (arith, all.0, all.1.0)) all.1.2 front.left in
+    record {
+      start = first.end;
+      stop = back.seam;
+      prelude = record {
+        starts = before.starts;
+        is = before.is;
+        ends = omega (arith, before.ends, front.right.0, front.right.1.0);
+      };
+      edge = front.right.1.2;
+      tiles = back.left;
+      ends = tiles_order text back.seam end (option_to_list close) back.right;
+      last = media_last text back.seam end first inside rest close is open_end back.right;
+    }
+
+media_span : (text : List ℕ) (from end : ℕ) (level : Level) (p : PartForm) (m : MediaForm) (rest : List Token) → MediaIs p m
+    → AreTiles text from end (part_pieces p) → PartOpenEnds p end (length text) → IsPart level p rest → MediaSpan text from end m
+media_span text from end level p m rest form all open_end is =
+    media_spans text from end level m.keyword m.prelude form.first m.inside rest form.close
+    (subst (λ (x : PartForm). AreTiles text from end (part_pieces x)) form.is all)
+    (subst (λ (x : PartForm). PartOpenEnds x end (length text)) form.is open_end)
+    (at_rule_ends level m.keyword m.prelude (block form.first m.inside form.close) rest
+    (subst (λ (x : PartForm). IsPart level x rest) form.is is))
+
 -- ---- sheets
 
--- what some parts of a sheet say, behind a place
-record Says (text : List ℕ) (from : ℕ) (rules : List RuleForm) (places : List ℕ) : Type 0 where
-  ranges : AreBetween text from (length text) (map rule_range rules)
-  each : All (IsRuleOf text) rules
-  edges : AreEdgesBehind text from places
-
 -- one rule, where there is one
-one_rule : (text : List ℕ) (from seam : ℕ) (o : Option RuleForm) (rules : List RuleForm) → from ≤ seam
+one_rule : (text : List ℕ) (from seam to : ℕ) (o : Option RuleForm) (rules : List RuleForm) → from ≤ seam
     → ((r : RuleForm) → o ≡ Some r → RuleIn text from seam r)
-    → AreBetween text seam (length text) (map rule_range rules)
-    → AreBetween text from (length text) (map rule_range (option_to_list o ++ rules))
-one_rule text from seam None rules less own more = between_from text seam from (length text) (map rule_range rules) less more
-one_rule text from seam (Some r) rules less own more =
+    → AreBetween text seam to (map rule_range rules)
+    → AreBetween text from to (map rule_range (option_to_list o ++ rules))
+one_rule text from seam to None rules less own more = between_from text seam from to (map rule_range rules) less more
+one_rule text from seam to (Some r) rules less own more =
     let in_place = own r refl in
     let is = in_place.is in
     let whole : IsRangeOf text (rule_range r) = record {
@@ -310,7 +412,7 @@ one_rule text from seam (Some r) rules less own more =
       front = is.prelude.front;
       back = is.body.back;
     } in
-    (in_place.starts, whole, between_from text seam r.body.end (length text) (map rule_range rules) in_place.ends more)
+    (in_place.starts, whole, between_from text seam r.body.end to (map rule_range rules) in_place.ends more)
 
 each_rule : (text : List ℕ) (from seam : ℕ) (o : Option RuleForm) (rules : List RuleForm)
     → ((r : RuleForm) → o ≡ Some r → RuleIn text from seam r) → All (IsRuleOf text) rules → All (IsRuleOf text) (option_to_list o ++ rules)
@@ -329,31 +431,129 @@ one_place text from seam (Some n) places less edge own more =
           (sym same) more,
     )
 
-parts_say : (text : List ℕ) (from : ℕ) (ps : List PartForm) (ts : List Token) → AreParts ps ts → IsCharBoundary text from
-    → AreTiles text from (length text) ts → Says text from (rules_in text ps) (places_in text ps)
-unfolding rules_in places_in
-parts_say text from [] ts e edge all = record {
-  ranges = tiles_order text from (length text) ts all;
-  each = All-nil (IsRuleOf text);
-  edges = tt;
-}
-parts_say text from (p ∷ ps) ts is edge all =
+-- the places behind some parts
+places_say : (text : List ℕ) (from : ℕ) (level : Level) (ps : List PartForm) (ts : List Token) → AreParts level ps ts
+    → IsCharBoundary text from → AreTiles text from (length text) ts → AreEdgesBehind text from (places_in text ps)
+unfolding places_in
+places_say text from level [] ts e edge all = tt
+places_say text from level (p ∷ ps) ts is edge all =
     let cut = tiles_cut text from (length text) (part_pieces p) is.0 (subst (AreTiles text from (length text)) is.1 all) in
     let edge_behind = tiles_edge text from cut.seam (part_pieces p) edge cut.left in
-    let more = parts_say text cut.seam ps is.0 is.3 edge_behind cut.right in
-    let own : (r : RuleForm) → rule_of text p ≡ Some r
-    → RuleIn text from cut.seam r = λ r e. part_rule text from cut.seam p is.0 r cut.left cut.right is.2 e in
+    one_place text from cut.seam (place_of text p) (places_in text ps)
+    (tiles_some text from cut.seam (part_pieces p) (part_some level p is.0 is.2) cut.left) edge_behind
+    (λ n e. part_ends text from cut.seam p n cut.left e) (places_say text cut.seam level ps is.0 is.3 edge_behind cut.right)
+
+-- what some parts say, between two places
+record Says (text : List ℕ) (from to : ℕ) (rules : List RuleForm) (media : List MediaRule) : Type 0 where
+  ranges : AreBetween text from to (map rule_range rules)
+  each : All (IsRuleOf text) rules
+  preludes : AreBetween text from to (map (λ m. m.prelude) media)
+
+says_append : (text : List ℕ) (from stop seam to : ℕ) (rs more : List RuleForm) (ms others : List MediaRule) → stop ≤ seam
+    → Says text from stop rs ms → Says text seam to more others → Says text from to (rs ++ more) (ms ++ others)
+says_append text from stop seam to rs more ms others less a b = record {
+  ranges = subst (AreBetween text from to) (sym (map-append rule_range rs more))
+      (between_append text from stop to (map rule_range rs) (map rule_range more) a.ranges
+      (between_from text seam stop to (map rule_range more) less b.ranges));
+  each = All-append (IsRuleOf text) rs more a.each b.each;
+  preludes = subst (AreBetween text from to) (sym (map-append (λ (m : MediaRule). m.prelude) ms others))
+      (between_append text from stop to (map (λ m. m.prelude) ms) (map (λ m. m.prelude) others) a.preludes
+      (between_from text seam stop to (map (λ m. m.prelude) others) less b.preludes));
+}
+
+pub rules_append : (text : List ℕ) (xs ys : List Laid) → rules_in text (xs ++ ys) ≡ rules_in text xs ++ rules_in text ys
+unfolding rules_in
+rules_append text [] ys = refl
+rules_append text (l ∷ ls) ys =
+    ap (λ (rs : List RuleForm). option_to_list (rule_of text l.around l.part) ++ rs) (rules_append text ls ys)
+    ∙ sym (append_assoc (option_to_list (rule_of text l.around l.part)) (rules_in text ls) (rules_in text ys))
+
+-- an at-rule is no style rule
+pub no_rule : (text : List ℕ) (around : Option ℕ) (p : PartForm) (m : MediaForm) (ls : List Laid) → MediaIs p m
+    → rules_in text (laid around p ∷ ls) ≡ rules_in text ls
+unfolding rules_in rule_of
+no_rule text around p m ls form = ap (λ (x : PartForm). option_to_list (rule_of text around x) ++ rules_in text ls) form.is
+
+media_says : (text : List ℕ) (around : Option ℕ) (from seam to : ℕ) (p : PartForm) (m : MediaForm) (within ls : List Laid)
+    → media_form text p ≡ Some m → (span : MediaSpan text from seam m)
+    → Says text span.start span.stop (rules_in text within) (media_in text within)
+    → Says text seam to (rules_in text ls) (media_in text ls)
+    → Says text from to (rules_in text (laid around p ∷ (within ++ ls))) (media_in text (laid around p ∷ (within ++ ls)))
+media_says text around from seam to p m within ls e span inner more =
+    let both = says_append text span.start span.stop seam to (rules_in text within) (rules_in text ls) (media_in text within)
+    (media_in text ls) span.ends inner more in
+    let less : from ≤ span.start = omega (arith, span.prelude.starts, span.prelude.is.order, span.prelude.ends) in
+    let all : Says text from to (rules_in text within ++ rules_in text ls)
+    (media_rule text around m ∷ (media_in text within ++ media_in text ls)) = record {
+      ranges = between_from text span.start from to (map rule_range (rules_in text within ++ rules_in text ls)) less both.ranges;
+      each = both.each;
+      preludes = (
+        span.prelude.starts,
+        span.prelude.is,
+        between_from text span.start (media_rule text around m).prelude.end to
+            (map (λ m. m.prelude) (media_in text within ++ media_in text ls)) span.prelude.ends both.preludes,
+      );
+    } in
+    let rules = no_rule text around p m (within ++ ls) (media_is text p m e) ∙ rules_append text within ls in
+    let media = media_cons text around p (within ++ ls) (Some m) e
+    ∙ ap (λ (ms : List MediaRule). media_rule text around m ∷ ms) (media_append text within ls) in
+    subst (λ (rs : List RuleForm). Says text from to rs (media_in text (laid around p ∷ (within ++ ls)))) (sym rules)
+    (subst (Says text from to (rules_in text within ++ rules_in text ls)) (sym media) all)
+
+part_which : (text : List ℕ) (end : ℕ) (p : PartForm) (ps : List PartForm) → AreShut (p ∷ ps) ⊎ (end ≡ length text)
+    → (IsShut p ⊎ (end ≡ length text)) × (AreShut ps ⊎ (end ≡ length text))
+part_which text end p ps (inl shut) = (inl shut.0, inl shut.1)
+part_which text end p ps (inr last) = (inr last, inr last)
+
+inner_which : (inner ps : List PartForm) (stop size : ℕ) → inner ≡ ps → AreShut ps ⊎ (stop ≡ size) → AreShut inner ⊎ (stop ≡ size)
+inner_which inner ps stop size same which = subst (λ (xs : List PartForm). AreShut xs ⊎ (stop ≡ size)) (sym same) which
+
+laid_say : (text : List ℕ) (around : Option ℕ) (k : ℕ) (ps : List PartForm) (ls : List Laid) → AreLaid text around k ps ls
+    → (level : Level) (ts : List Token) (from to : ℕ) → AreParts level ps ts → IsCharBoundary text from → AreTiles text from to ts
+    → AreShut ps ⊎ (to ≡ length text) → Says text from to (rules_in text ls) (media_in text ls)
+unfolding rules_in media_in
+laid_say text around k _ _ none_laid level ts from to is edge all which = record {
+  ranges = tiles_order text from to ts all;
+  each = All-nil (IsRuleOf text);
+  preludes = tiles_order text from to ts all;
+}
+laid_say text around k _ _ (part_laid p ps ls e others) level ts from to is edge all which =
+    let cut = tiles_cut text from to (part_pieces p) is.0 (subst (AreTiles text from to) is.1 all) in
+    let edge_behind = tiles_edge text from cut.seam (part_pieces p) edge cut.left in
+    let w = part_which text to p ps which in
+    let more = laid_say text around k ps ls others level is.0 cut.seam to is.3 edge_behind cut.right w.1 in
+    let open_end = part_open text cut.seam to level p is.0 is.2 cut.right w.0 in
+    let own : (r : RuleForm) → rule_of text around p ≡ Some r
+    → RuleIn text from cut.seam r = λ r f. part_rule text around from cut.seam p r cut.left open_end f in
+    let less = tiles_order text from cut.seam (part_pieces p) cut.left in
     record {
-      ranges = one_rule text from cut.seam (rule_of text p) (rules_in text ps)
-          (tiles_order text from cut.seam (part_pieces p) cut.left) own more.ranges;
-      each = each_rule text from cut.seam (rule_of text p) (rules_in text ps) own more.each;
-      edges = one_place text from cut.seam (place_of text p) (places_in text ps)
-          (tiles_some text from cut.seam (part_pieces p) (part_some p is.0 is.2) cut.left) edge_behind
-          (λ n e. part_ends text from cut.seam p n cut.left e) more.edges;
+      ranges = one_rule text from cut.seam to (rule_of text around p) (rules_in text ls) less own more.ranges;
+      each = each_rule text from cut.seam (rule_of text around p) (rules_in text ls) own more.each;
+      preludes = subst (λ (ms : List MediaRule). AreBetween text from to (map (λ m. m.prelude) ms))
+          (sym (media_cons text around p ls None e))
+          (between_from text cut.seam from to (map (λ m. m.prelude) (media_in text ls)) less more.preludes);
     }
+laid_say text around k _ _ (media_laid p m inner ps within ls e is_inner own others) level ts from to is edge all which =
+    let cut = tiles_cut text from to (part_pieces p) is.0 (subst (AreTiles text from to) is.1 all) in
+    let edge_behind = tiles_edge text from cut.seam (part_pieces p) edge cut.left in
+    let w = part_which text to p ps which in
+    let more = laid_say text around (suc k + length (media_in text within)) ps ls others level is.0 cut.seam to is.3 edge_behind cut.right w.1 in
+    let open_end = part_open text cut.seam to level p is.0 is.2 cut.right w.0 in
+    let span = media_span text from cut.seam level p m is.0 (media_is text p m e) cut.left open_end is.2 in
+    let inside = laid_say text (Some k) (suc k) inner within own Inner m.inside span.start span.stop is_inner span.edge span.tiles
+    (inner_which inner (parts Inner m.inside) span.stop (length text) (parts_only Inner inner m.inside is_inner) span.last) in
+    media_says text around from cut.seam to p m within ls e span inside more
 
 pub sheet_usable : (text : List ℕ) → IsUtf8 text → IsSheetOf text (sheet_of text)
 sheet_usable text utf8 =
     let start = IsCharBoundary-start text utf8 in
-    let s = parts_say text 0 (parts (pieces text)) (pieces text) (parts_spelled (pieces text)) start (tiles_whole text utf8) in
-    record { rules = s.ranges; each = s.each; places = (start, s.edges) }
+    let ts = pieces text in
+    let whole = tiles_whole text utf8 in
+    let s = laid_say text None 0 (parts Top ts) (laid_out text None 0 ts) (laid_spelled text None 0 ts) Top ts 0 (length text)
+    (parts_spelled Top ts) start whole (inr refl) in
+    record {
+      rules = s.ranges;
+      each = s.each;
+      places = (start, places_say text 0 Top (parts Top ts) ts (parts_spelled Top ts) start whole);
+      media = s.preludes;
+    }

@@ -7,6 +7,7 @@ use Rattle.css_tokens.specs.declared.token.TokenKind.TheVariants.{Comment, White
 use Rattle.sheet_reader.specs.declared.brackets.Bracket.{Bracket}
 use Rattle.sheet_reader.specs.declared.brackets.Stop.{Stop}
 use Rattle.sheet_reader.specs.declared.brackets.Stop.TheVariants as stops
+use Rattle.sheet_reader.specs.declared.parts.Level.{Level}
 use Rattle.sheet_reader.specs.Brackets.{opened_by, closed_by, is_same, stops_at}
 use Rattle.sheet_reader.specs.Parts.{EndingForm, text_end, semicolon, block, PartForm, passed, at_rule, qualified, is_passed, ending_pieces}
 use Rattle.sheet_reader.specs.Parts.{part_pieces}
@@ -64,9 +65,9 @@ is_at_keyword AtKeyword = true
 is_at_keyword _ = false
 
 -- neither a piece that is passed over nor an at-keyword stands first
-abbrev pub BeginsQualified : List Token → Type 0
-BeginsQualified [] = ⊥
-BeginsQualified (t ∷ ts) = (is_passed t.kind ≡ false) × (is_at_keyword t.kind ≡ false)
+abbrev pub BeginsQualified : Level → List Token → Type 0
+BeginsQualified level [] = ⊥
+BeginsQualified level (t ∷ ts) = (is_passed level t.kind ≡ false) × (is_at_keyword t.kind ≡ false)
 
 -- component values as a prelude, up to what stops them, and an ending
 pub record IsRule (stop : Stop) (prelude : List Token) (ending : EndingForm) (rest : List Token) : Type 0 where
@@ -74,18 +75,18 @@ pub record IsRule (stop : Stop) (prelude : List Token) (ending : EndingForm) (re
   pub stopped : EndsBefore (outside stop) (ending_pieces ending ++ rest)
   pub ends : IsEnding ending rest
 
--- a part of a sheet, and what follows it
-pub data IsPart : PartForm → List Token → Type 0 where
-  passed_part : {rest : List Token} (t : Token) → is_passed t.kind ≡ true → IsPart (passed t) rest
+-- a part of a sheet or of the block of a media rule, and what follows it
+pub data IsPart (level : Level) : PartForm → List Token → Type 0 where
+  passed_part : {rest : List Token} (t : Token) → is_passed level t.kind ≡ true → IsPart level (passed t) rest
   at_rule_part : {rest : List Token} (keyword : Token) (prelude : List Token) (ending : EndingForm) → keyword.kind ≡ AtKeyword
-      → IsRule stops.BlockOrSemicolon prelude ending rest → IsPart (at_rule keyword prelude ending) rest
-  qualified_part : {rest : List Token} (prelude : List Token) (ending : EndingForm) → BeginsQualified (prelude ++ ending_pieces ending)
-      → IsRule stops.Block prelude ending rest → IsPart (qualified prelude ending) rest
+      → IsRule stops.BlockOrSemicolon prelude ending rest → IsPart level (at_rule keyword prelude ending) rest
+  qualified_part : {rest : List Token} (prelude : List Token) (ending : EndingForm) → BeginsQualified level (prelude ++ ending_pieces ending)
+      → IsRule stops.Block prelude ending rest → IsPart level (qualified prelude ending) rest
 
--- the parts of a sheet, one behind the other
-abbrev pub AreParts : List PartForm → List Token → Type 0
-AreParts [] ts = ts ≡ []
-AreParts (p ∷ ps) ts = (rest : List Token) × (ts ≡ part_pieces p ++ rest) × IsPart p rest × AreParts ps rest
+-- the parts of a sheet, or of the block of a media rule, one behind the other
+abbrev pub AreParts : Level → List PartForm → List Token → Type 0
+AreParts level [] ts = ts ≡ []
+AreParts level (p ∷ ps) ts = (rest : List Token) × (ts ≡ part_pieces p ++ rest) × IsPart level p rest × AreParts level ps rest
 
 -- a comment, white space or a semicolon
 abbrev pub is_separator : TokenKind → Bool
@@ -123,3 +124,21 @@ pub data AreNested : List Token → Type 0 where
   plain_and : (t : Token) (ts : List Token) → opened_by t.kind ≡ None → closed_by t.kind ≡ None → AreNested ts → AreNested (t ∷ ts)
   nested_and : {all : List Token} (t close : Token) (within ts : List Token) (b : Bracket) → all ≡ t ∷ (within ++ close ∷ ts)
       → opened_by t.kind ≡ Some b → AreNested within → is_closing b close.kind ≡ true → AreNested ts → AreNested all
+
+-- the text's end does not cut a block short
+abbrev pub IsShutEnding : EndingForm → Type 0
+IsShutEnding text_end = Unit {0}
+IsShutEnding (semicolon t) = Unit {0}
+IsShutEnding (block first within None) = ⊥
+IsShutEnding (block first within (Some close)) = Unit {0}
+
+-- nor the block of a part, if it has one
+abbrev pub IsShut : PartForm → Type 0
+IsShut (passed t) = Unit {0}
+IsShut (at_rule keyword prelude ending) = IsShutEnding ending
+IsShut (qualified prelude ending) = IsShutEnding ending
+
+-- nor that of any of these parts
+abbrev pub AreShut : List PartForm → Type 0
+AreShut [] = Unit {0}
+AreShut (p ∷ ps) = IsShut p × AreShut ps

@@ -2,11 +2,14 @@ pub mod Brackets
 pub mod Forms
 pub mod Parts
 pub mod Declarations
+pub mod Layout
 pub mod Sheets
+pub mod Frames
 pub mod Sealing
 pub mod Positions
 pub mod Seen
 pub mod Books
 pub mod Grammar
 pub mod Usable
+pub mod Around
 pub mod Lone

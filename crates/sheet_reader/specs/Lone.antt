@@ -7,6 +7,7 @@ use Rattle.css_tokens.specs.declared.token.TokenKind.TheVariants.{Comment, White
 use Rattle.css_tokens.specs.Pieces.{pieces}
 use Rattle.sheet_reader.specs.declared.lone.LoneRule.{LoneRule}
 use Rattle.sheet_reader.specs.declared.lone.LoneRule.TheVariants.{Other, Dropped, Style}
+use Rattle.sheet_reader.specs.declared.parts.Level.TheVariants.{Top}
 use Rattle.sheet_reader.specs.Parts.{EndingForm, text_end, semicolon, block, PartForm, passed, at_rule, qualified, parts}
 use Rattle.sheet_reader.specs.Sheets.{rule_of}
 
@@ -49,7 +50,7 @@ solid_parts ps = filter (λ p. not (is_blank_part p)) ps
 
 -- a closed rule is dropped where its prelude is no selector list
 abbrev pub lone_by : List ℕ → PartForm → LoneRule
-lone_by text p = if is_closed_rule p then (if is_some (rule_of text p) then Style else Dropped) else Other
+lone_by text p = if is_closed_rule p then (if is_some (rule_of text None p) then Style else Dropped) else Other
 
 -- what these parts are as one rule: what the part is where there is just one, and no such rule where there is none or more
 abbrev pub lone_of : List ℕ → List PartForm → LoneRule
@@ -59,4 +60,4 @@ lone_of text (p ∷ q ∷ ps) = Other
 
 -- what a text is as one rule
 abbrev pub lone_rule : List ℕ → LoneRule
-lone_rule text = lone_of text (solid_parts (parts (pieces text)))
+lone_rule text = lone_of text (solid_parts (parts Top (pieces text)))

@@ -5,6 +5,8 @@ use Rattle.css_tokens.specs.declared.token.Token.{Token}
 use Rattle.css_tokens.specs.declared.token.TokenKind.{TokenKind}
 use Rattle.css_tokens.specs.declared.token.TokenKind.TheVariants.{Comment, WhiteSpace, Cdo, Cdc, AtKeyword, Semicolon}
 use Rattle.sheet_reader.specs.declared.brackets.Stop.TheVariants as stops
+use Rattle.sheet_reader.specs.declared.parts.Level.{Level}
+use Rattle.sheet_reader.specs.declared.parts.Level.TheVariants.{Top}
 use Rattle.sheet_reader.specs.Brackets.{until}
 
 -- where a rule ends: at the text's end, at a semicolon, or in a block, which is closed unless the text ends before
@@ -20,13 +22,13 @@ pub data PartForm : Type 0 where
   at_rule : Token → List Token → EndingForm → PartForm
   qualified : List Token → EndingForm → PartForm
 
--- a comment, white space, `<!--` or `-->`
-abbrev pub is_passed : TokenKind → Bool
-is_passed Comment = true
-is_passed WhiteSpace = true
-is_passed Cdo = true
-is_passed Cdc = true
-is_passed _ = false
+-- a comment or white space; at top level also `<!--` and `-->`, which are plain pieces in the block of a media rule
+abbrev pub is_passed : Level → TokenKind → Bool
+is_passed level Comment = true
+is_passed level WhiteSpace = true
+is_passed Top Cdo = true
+is_passed Top Cdc = true
+is_passed _ _ = false
 
 -- what follows `{`: component values up to and with its `}`, or to the text's end
 abbrev pub block_at : Token → List Token → EndingForm
@@ -52,13 +54,13 @@ abbrev pub qualified_at : List Token → PartForm
 qualified_at ts = qualified (take (until stops.Block ts) ts) (ending_at (drop (until stops.Block ts) ts))
 
 -- the part that begins with this piece and goes on in the pieces behind it, by the piece's kind
-abbrev pub part_by : Token → List Token → TokenKind → PartForm
-part_by t ts AtKeyword = at_rule_at t ts
-part_by t ts kind = if is_passed kind then passed t else qualified_at (t ∷ ts)
+abbrev pub part_by : Level → Token → List Token → TokenKind → PartForm
+part_by level t ts AtKeyword = at_rule_at t ts
+part_by level t ts kind = if is_passed level kind then passed t else qualified_at (t ∷ ts)
 
 -- the part that begins with this piece
-unfoldable pub part_at : Token → List Token → PartForm
-part_at t ts = part_by t ts t.kind
+unfoldable pub part_at : Level → Token → List Token → PartForm
+part_at level t ts = part_by level t ts t.kind
 
 -- ---- the pieces of a part
 
@@ -75,11 +77,11 @@ part_pieces (at_rule keyword prelude ending) = keyword ∷ (prelude ++ ending_pi
 part_pieces (qualified prelude ending) = prelude ++ ending_pieces ending
 
 -- the parts of the pieces, one behind the other; the first `skip` pieces belong to a part already
-unfoldable pub parts_after : ℕ → List Token → List PartForm
-parts_after skip [] = []
-parts_after (suc skip) (t ∷ ts) = parts_after skip ts
-parts_after zero (t ∷ ts) = part_at t ts ∷ parts_after (length (part_pieces (part_at t ts)) - 1) ts
+unfoldable pub parts_after : Level → ℕ → List Token → List PartForm
+parts_after level skip [] = []
+parts_after level (suc skip) (t ∷ ts) = parts_after level skip ts
+parts_after level zero (t ∷ ts) = part_at level t ts ∷ parts_after level (length (part_pieces (part_at level t ts)) - 1) ts
 
--- the parts of a sheet with these pieces
-abbrev pub parts : List Token → List PartForm
-parts ts = parts_after 0 ts
+-- the parts of a sheet with these pieces, or of the block of a media rule
+abbrev pub parts : Level → List Token → List PartForm
+parts level ts = parts_after level 0 ts

@@ -6,6 +6,10 @@ use Rattle.sheet_reader.specs.declared.parts.Part.TheVariants as part_kinds
 use Rattle.sheet_reader.specs.declared.declarations.Item.{Item}
 use Rattle.sheet_reader.specs.declared.declarations.Item.TheVariants as item_kinds
 use Rattle.sheet_reader.specs.Declarations as items
+use Rattle.sheet_reader.specs.declared.media.Media.{Media}
+use Rattle.sheet_reader.specs.declared.frames.Frame.{Frame}
+use Rattle.sheet_reader.specs.Layout.{MediaForm}
+use Rattle.sheet_reader.specs.Frames.{FrameForm}
 use Rattle.sheet_reader.specs.Parts.{EndingForm, text_end, semicolon, block, PartForm, passed, at_rule, qualified}
 
 -- the ending of a rule, a block's body as the list of its pieces
@@ -19,6 +23,14 @@ abbrev pub part_seen : Part → PartForm
 part_seen (part_kinds.Passed t) = passed t
 part_seen (part_kinds.AtRule keyword prelude ending) = at_rule keyword prelude.now (ending_seen ending)
 part_seen (part_kinds.Qualified prelude ending) = qualified prelude.now (ending_seen ending)
+
+-- a media rule, its prelude and its block as lists of their pieces
+abbrev pub media_seen : Media → MediaForm
+media_seen m = record { keyword = m.keyword; prelude = m.prelude.now; inside = m.inside.now }
+
+-- pieces that are left, as their list
+abbrev pub frame_seen : Frame → FrameForm
+frame_seen f = record { left = f.left.now; around = f.around }
 
 -- an item of a body, its pieces as a list
 abbrev pub item_seen : Item → items.ItemForm

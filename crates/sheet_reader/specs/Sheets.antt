@@ -10,9 +10,11 @@ use Rattle.selectors.specs.declared.words.Word.{Word}
 use Rattle.selectors.specs.Words.{word_reading, words_after}
 use Rattle.selectors.specs.Forms.{◌>>=◌}
 use Rattle.selectors.specs.Reading.{range_of, selector_list_of}
+use Rattle.sheet_reader.specs.declared.parts.Level.TheVariants.{Top}
 use Rattle.sheet_reader.specs.declared.sheet.Sheet.{Sheet}
 use Rattle.sheet_reader.specs.Forms.{range, RuleForm}
 use Rattle.sheet_reader.specs.Parts.{PartForm, passed, at_rule, qualified, EndingForm, text_end, semicolon, block, parts}
+use Rattle.sheet_reader.specs.Layout.{Laid, media_in, laid_out}
 use Rattle.sheet_reader.specs.Declarations.{declarations}
 
 -- where a body ends: before its `}`, or at the text's end
@@ -21,23 +23,30 @@ body_end text (Some close) = close.start
 body_end text None = length text
 
 -- the style rule whose prelude has these words, if they spell a selector list
-abbrev pub style_rule : List ℕ → List Word → Range → List Token → Option RuleForm
-style_rule text words body inside =
+abbrev pub style_rule : List ℕ → Option ℕ → List Word → Range → List Token → Option RuleForm
+style_rule text around words body inside =
     range_of words >>= λ prelude. selector_list_of (word_reading text words) >>= λ selectors.
-    Some (record { prelude = prelude; selectors = selectors; body = body; properties = declarations text inside })
+    Some (record {
+      prelude = prelude;
+      selectors = selectors;
+      body = body;
+      properties = declarations text inside;
+      media = around;
+    })
 
 -- the style rule with this prelude and this ending: none where it ends without a block, or the prelude is no selector list
-abbrev pub rule_by : List ℕ → List Token → EndingForm → Option RuleForm
-rule_by text prelude (block first inside close) = style_rule text (words_after text false prelude)
+abbrev pub rule_by : List ℕ → Option ℕ → List Token → EndingForm → Option RuleForm
+rule_by text around prelude (block first inside close) = style_rule text around (words_after text false prelude)
     (range first.end (body_end text close)) inside
-rule_by text prelude (semicolon t) = None
-rule_by text prelude text_end = None
+rule_by text around prelude (semicolon t) = None
+rule_by text around prelude text_end = None
 
--- the style rule that a part is: a qualified rule whose prelude is a selector list
-unfoldable pub rule_of : List ℕ → PartForm → Option RuleForm
-rule_of text (qualified prelude ending) = rule_by text prelude ending
-rule_of text (passed t) = None
-rule_of text (at_rule keyword prelude ending) = None
+-- the style rule that a part is: a qualified rule whose prelude is a selector list; with the place of the innermost media rule
+-- around it
+unfoldable pub rule_of : List ℕ → Option ℕ → PartForm → Option RuleForm
+rule_of text around (qualified prelude ending) = rule_by text around prelude ending
+rule_of text around (passed t) = None
+rule_of text around (at_rule keyword prelude ending) = None
 
 -- `*/` ends it
 abbrev pub is_closed_comment : List ℕ → Token → Bool
@@ -66,9 +75,9 @@ place_of text (at_rule keyword prelude ending) = ending_place ending
 place_of text (qualified prelude ending) = ending_place ending
 
 -- the style rules among these parts, in their order
-unfoldable pub rules_in : List ℕ → List PartForm → List RuleForm
+unfoldable pub rules_in : List ℕ → List Laid → List RuleForm
 rules_in text [] = []
-rules_in text (p ∷ ps) = option_to_list (rule_of text p) ++ rules_in text ps
+rules_in text (l ∷ ls) = option_to_list (rule_of text l.around l.part) ++ rules_in text ls
 
 -- the places behind these parts, in their order
 unfoldable pub places_in : List ℕ → List PartForm → List ℕ
@@ -77,4 +86,8 @@ places_in text (p ∷ ps) = option_to_list (place_of text p) ++ places_in text p
 
 -- the reading of a text
 abbrev pub sheet_of : List ℕ → Sheet
-sheet_of text = record { rules = rules_in text (parts (pieces text)); places = 0 ∷ places_in text (parts (pieces text)) }
+sheet_of text = record {
+  rules = rules_in text (laid_out text None 0 (pieces text));
+  places = 0 ∷ places_in text (parts Top (pieces text));
+  media = media_in text (laid_out text None 0 (pieces text));
+}

@@ -42,11 +42,12 @@ abbrev pub AreEdges : List ℕ → List ℕ → Type 0
 AreEdges text [] = Unit {0}
 AreEdges text (edge ∷ edges) = IsCharBoundary text edge × AreEdgesBehind text edge edges
 
--- the rules of a sheet stand one behind the other, and so do its places
+-- the rules of a sheet stand one behind the other, and so do its places, and the preludes of its media rules
 pub record IsSheetOf (text : List ℕ) (s : Sheet) : Type 0 where
   pub rules : AreBetween text 0 (length text) (map rule_range s.rules)
   pub each : All (IsRuleOf text) s.rules
   pub places : AreEdges text s.places
+  pub media : AreBetween text 0 (length text) (map (λ m. m.prelude) s.media)
 
 -- declarations stand one behind the other, between two places
 pub record AreDeclarationsOf (text : List ℕ) (from to : ℕ) (ps : List Property) : Type 0 where

@@ -1,24 +1,35 @@
 //! Laws of the definitions: sheets and bodies in the words of their grammar.
 
-ghost use Rattle.std.specs.Prelude.{◌≡◌, ℕ, List, length};
+ghost use Rattle.std.specs.Prelude.{◌≡◌, ◌≤◌, ◌+◌, ◌++◌, ◌∷◌, [], ℕ, Bool, true, List, length, Option, Some, None};
 ghost use Rattle.css_tokens.specs.declared.token.Token.{Token};
-ghost use Rattle.sheet_reader.specs.Parts.{PartForm, parts};
+ghost use Rattle.sheet_reader.specs.declared.parts.Level.{Level};
+ghost use Rattle.sheet_reader.specs.declared.parts.Level.TheVariants.{Top, Inner};
+ghost use Rattle.sheet_reader.specs.Parts.{PartForm, block, parts};
+ghost use Rattle.sheet_reader.specs.Layout.{AreLaid, Laid, laid_out};
+ghost use Rattle.css_tokens.specs.Pieces.{pieces};
 ghost use Rattle.sheet_reader.specs.Declarations.{ItemForm, items_after, style_of};
-ghost use Rattle.sheet_reader.specs.Grammar.{AreParts, AreItems, AreNested};
-ghost use Rattle.sheet_reader.specs.Brackets.{nesting};
+ghost use Rattle.sheet_reader.specs.Grammar.{AreParts, IsEnding, AreShut, AreItems, AreNested};
+ghost use Rattle.sheet_reader.specs.Brackets.{nesting, until};
+ghost use Rattle.sheet_reader.specs.declared.brackets.Stop.{Stop};
+ghost use Rattle.css_tokens.specs.declared.token.TokenKind.TheVariants.{OpenCurly};
 ghost use Rattle.sheet_reader.specs.declared.brackets.Nesting.TheVariants.{Closed};
 ghost use Rattle.sheet_reader.specs.Positions.{units_at, units_of, position_of};
 ghost use Rattle.std.specs.Char.{encode_utf8};
 ghost use Rattle.std.specs.List.{sum_by};
 ghost use Rattle.std.specs.Str.{IsUtf8, IsCharBoundary};
 ghost use Rattle.sheet_reader.specs.Sheets.{sheet_of};
+ghost use Rattle.sheet_reader.specs.Around.{AreThere, AreBelow, IsBelow, AllHold, held, held_at};
+ghost use Rattle.sheet_reader.specs.declared.sheet.MediaRule.{MediaRule};
 ghost use Rattle.sheet_reader.specs.Usable.{IsSheetOf, AreDeclarationsOf};
 
 /// Pieces are cut into the parts of a sheet, and into the items of a body, as the grammar of CSS Syntax 3, section 5, has it, and
 /// in no other way: each part or item has its form, and the whole is one behind the other.
 pub fn grammar_law()
-    ensures parts { (ts : List Token) → AreParts (parts ts) ts }
-    ensures parts_only { (ps : List PartForm) (ts : List Token) → AreParts ps ts → ps ≡ parts ts }
+    ensures parts { (level : Level) (ts : List Token) → AreParts level (parts level ts) ts }
+    ensures parts_only { (level : Level) (ps : List PartForm) (ts : List Token) → AreParts level ps ts → ps ≡ parts level ts }
+    ensures laid { (text : List ℕ) → AreLaid text None 0 (parts Top (pieces text)) (laid_out text None 0 (pieces text)) }
+    ensures laid_only { (text : List ℕ) (ls : List Laid) → AreLaid text None 0 (parts Top (pieces text)) ls → ls ≡ laid_out text None 0 (pieces text) }
+    ensures shut { (first close : Token) (inside rest : List Token) → IsEnding (block first inside (Some close)) rest → AreShut (parts Inner inside) }
     ensures items { (ts : List Token) → AreItems (items_after 0 ts) ts }
     ensures items_only { (xs : List ItemForm) (ts : List Token) → AreItems xs ts → xs ≡ items_after 0 ts }
 {}
@@ -27,6 +38,9 @@ pub fn grammar_law()
 pub fn nesting_law()
     ensures closed { (ts : List Token) → nesting ts ≡ Closed → AreNested ts }
     ensures nested { (ts : List Token) → AreNested ts → nesting ts ≡ Closed }
+    ensures exchanged { (stop : Stop) (xs old new ys : List Token) (first : Token) → first.kind ≡ OpenCurly → AreNested old → AreNested new
+        → length (xs ++ first ∷ []) ≤ until stop ((xs ++ first ∷ []) ++ (old ++ ys))
+        → until stop ((xs ++ first ∷ []) ++ (new ++ ys)) + length old ≡ until stop ((xs ++ first ∷ []) ++ (old ++ ys)) + length new }
 {}
 
 /// Each character counts the UTF-16 units that it has, whatever its bytes; and no two edges of characters in a text have one
@@ -43,4 +57,12 @@ pub fn position_law()
 pub fn usable_law()
     ensures sheet { (text : List ℕ) → IsUtf8 text → IsSheetOf text (sheet_of text) }
     ensures style { (text : List ℕ) → IsUtf8 text → AreDeclarationsOf text 0 (length text) (style_of text) }
+{}
+
+/// Media rules are judged one after the other, each with what was said of the one around it: what is said of a place is that every
+/// media rule from there outwards holds.
+pub fn around_law()
+    ensures there { (text : List ℕ) → AreThere (sheet_of text) }
+    ensures held { (holds : MediaRule → Bool) (ms : List MediaRule) (around : Option ℕ) → AreBelow 0 ms → IsBelow (length ms) around
+        → (held_at (held holds ms) around ≡ true → AllHold holds ms around) × (AllHold holds ms around → held_at (held holds ms) around ≡ true) }
 {}

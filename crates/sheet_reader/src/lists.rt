@@ -1,9 +1,10 @@
 //! The lists of a sheet. Each is made from a `Vec` and gives it back without taking memory.
 
-ghost use Rattle.std.specs.Prelude.{◌≡◌, ◌<◌, length, map};
+ghost use Rattle.std.specs.Prelude.{◌≡◌, ◌<◌, ◌++◌, ◌∷◌, [], length, map, OnOk};
 ghost use Rattle.sheet_reader.specs.Forms.{rule_seen};
 
-use crate::sheet::{Property, StyleRule};
+use crate::sheet::{MediaRule, Property, StyleRule};
+use std::alloc::AllocError;
 use std::marker::Model;
 
 /// The declarations of a body, in the order of the text.
@@ -74,6 +75,13 @@ impl StyleRules {
         StyleRules { rules }
     }
 
+    pub(crate) fn push(&mut self, rule: StyleRule) -> Result<(), AllocError>
+        ensures { OnOk result (self.new ≡ self.old ++ rule_seen rule ∷ []) }
+    {
+        self.rules.push(rule)?;
+        Ok(())
+    }
+
     /// The rules, in their order.
     pub fn as_slice(&self) -> &[StyleRule]
         ensures { map rule_seen result.now ≡ self.now }
@@ -118,6 +126,13 @@ impl Places {
         Places { places }
     }
 
+    pub(crate) fn push(&mut self, place: usize) -> Result<(), AllocError>
+        ensures { OnOk result (self.new ≡ self.old ++ place ∷ []) }
+    {
+        self.places.push(place)?;
+        Ok(())
+    }
+
     /// The places, in bytes, in their order.
     pub fn as_slice(&self) -> &[usize]
         ensures { result.now ≡ self.now }
@@ -130,5 +145,50 @@ impl Places {
         ensures { result.items ≡ self }
     {
         self.places
+    }
+}
+
+/// The media rules of a sheet, in the order of the text.
+#[derive(Drop)]
+pub struct MediaRules {
+    rules: Vec<MediaRule>,
+}
+
+impl Model for MediaRules {
+    ghost use Rattle.std.specs.Prelude.{List};
+    ghost use Rattle.sheet_reader.specs.declared.sheet.MediaRule.{MediaRule};
+
+    ghost Value = { List MediaRule };
+
+    ghost view = { λ l. l.rules.items };
+}
+
+impl MediaRules {
+    /// The rules, in their order.
+    pub fn new(rules: Vec<MediaRule>) -> MediaRules
+        ensures { result ≡ rules.items }
+    {
+        MediaRules { rules }
+    }
+
+    /// How many there are.
+    pub fn len(&self) -> usize
+        ensures { result ≡ length self.now }
+    {
+        self.rules.len()
+    }
+
+    pub(crate) fn push(&mut self, rule: MediaRule) -> Result<(), AllocError>
+        ensures { OnOk result (self.new ≡ self.old ++ rule ∷ []) }
+    {
+        self.rules.push(rule)?;
+        Ok(())
+    }
+
+    /// The rules, in their order.
+    pub fn as_slice(&self) -> &[MediaRule]
+        ensures { result.now ≡ self.now }
+    {
+        self.rules.as_slice()
     }
 }

@@ -7,7 +7,7 @@ ghost use Rattle.sheet_reader.specs.Seen.{part_seen, ending_seen};
 ghost use Rattle.sheet_reader.specs.Parts.{part_pieces};
 ghost use Rattle.sheet_reader.specs.Lone.{is_blank_kind, is_blank_piece, skip_blank, is_closed_ending, is_closed_rule, lone_by, lone_rule};
 
-use crate::parts::{Ending, Part, behind, part_at, part_len};
+use crate::parts::{Ending, Level, Part, behind, part_at, part_len};
 use crate::rules::rule_of;
 use css_tokens::{Token, TokenKind, all_tokens};
 use std::alloc::{AllocError, Global};
@@ -73,7 +73,7 @@ fn lone_by(alloc: Global, text: &str, part: Part) -> Result<LoneRule, AllocError
     if !is_closed_rule(part) {
         return Ok(LoneRule::Other);
     }
-    match rule_of(alloc, text, part)? {
+    match rule_of(alloc, text, None, part)? {
         Some(_rule) => Ok(LoneRule::Style),
         None => Ok(LoneRule::Dropped),
     }
@@ -88,7 +88,7 @@ pub fn lone_rule(alloc: Global, text: &str) -> Result<LoneRule, AllocError>
     let [first, ..] = left else {
         return Ok(LoneRule::Other);
     };
-    let part = part_at(alloc, *first, left)?;
+    let part = part_at(alloc, Level::Top, *first, left)?;
     let rest = skip_blank(behind(left, part_len(part)));
     if !rest.is_empty() {
         return Ok(LoneRule::Other);

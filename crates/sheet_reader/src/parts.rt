@@ -8,6 +8,13 @@ use crate::brackets::{Stop, until};
 use css_tokens::{Token, TokenKind};
 use std::alloc::{AllocError, Global};
 
+/// Where parts stand: in the sheet itself, or in the block of a media rule.
+#[derive(Clone, Copy)]
+pub(crate) enum Level {
+    Top,
+    Inner,
+}
+
 /// Where a rule ends.
 #[derive(Clone, Copy)]
 pub(crate) enum Ending<'a> {
@@ -24,7 +31,7 @@ pub(crate) enum Ending<'a> {
 /// A part of a sheet.
 #[derive(Clone, Copy)]
 pub(crate) enum Part<'a> {
-    /// White space, a comment, `<!--` or `-->`.
+    /// White space or a comment, at top level also `<!--` or `-->`.
     Passed(Token),
     AtRule {
         keyword: Token,
@@ -83,29 +90,31 @@ fn qualified_at<'a>(alloc: Global, pieces: &'a [Token]) -> Result<Part<'a>, Allo
     })
 }
 
-fn is_passed(kind: TokenKind) -> bool
-    ensures { result ≡ is_passed kind }
+fn is_passed(level: Level, kind: TokenKind) -> bool
+    ensures { result ≡ is_passed level kind }
 {
-    matches!(
-        kind,
-        TokenKind::Comment | TokenKind::WhiteSpace | TokenKind::Cdo | TokenKind::Cdc
-    )
+    match kind {
+        TokenKind::Comment | TokenKind::WhiteSpace => true,
+        TokenKind::Cdo | TokenKind::Cdc => matches!(level, Level::Top),
+        _ => false,
+    }
 }
 
 /// The part that begins with the first piece.
 #[tactic(auto, unfolding(crate::specs::Parts::part_at))]
 pub(crate) fn part_at<'a>(
     alloc: Global,
+    level: Level,
     first: Token,
     pieces: &'a [Token],
 ) -> Result<Part<'a>, AllocError>
     requires { slice_get pieces.now 0 ≡ Some first }
-    ensures { IfOk result (λ p. part_seen p ≡ part_at first (drop 1 pieces.now)) }
+    ensures { IfOk result (λ p. part_seen p ≡ part_at level first (drop 1 pieces.now)) }
 {
     if matches!(first.kind, TokenKind::AtKeyword) {
         return at_rule_at(alloc, first, &pieces[1..]);
     }
-    if is_passed(first.kind) {
+    if is_passed(level, first.kind) {
         return Ok(Part::Passed(first));
     }
     qualified_at(alloc, pieces)

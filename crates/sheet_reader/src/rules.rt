@@ -1,16 +1,19 @@
 //! Style rules, and sheets.
 
-ghost use Rattle.std.specs.Prelude.{◌≡◌, ◌++◌, All, map, false, IfOk, option_map, option_to_list};
+ghost use Rattle.std.specs.Prelude.{◌≡◌, ◌<◌, ◌++◌, ◌∷◌, All, false, IfOk, OnOk, option_map, option_to_list};
 ghost use Rattle.css_tokens.specs.Marks.{IsPieceOf};
 ghost use Rattle.selectors.specs.Words.{words_after};
-ghost use Rattle.sheet_reader.specs.Seen.{part_seen, ending_seen};
+ghost use Rattle.sheet_reader.specs.Seen.{part_seen, ending_seen, frame_seen};
 ghost use Rattle.sheet_reader.specs.Parts.{part_pieces, ending_pieces};
 ghost use Rattle.sheet_reader.specs.Forms.{rule_seen};
 ghost use Rattle.sheet_reader.specs.Sheets.{body_end, style_rule, rule_by, rule_of, is_closed_comment, passed_place, ending_place};
 ghost use Rattle.sheet_reader.specs.Sheets.{place_of, sheet_of};
+ghost use Rattle.sheet_reader.specs.Frames.{top_place, with_part, read_on, left_size, AreLeftOf, empty_sheet};
 
 use crate::declarations::read_body;
-use crate::lists::{Places, Properties, StyleRules};
+use crate::frames::{Frame, Frames};
+use crate::lists::{MediaRules, Places, Properties, StyleRules};
+use crate::media::{level_of, open_media};
 use crate::parts::{Ending, Part, behind, part_at, part_len};
 use crate::sheet::{Sheet, StyleRule};
 use css_tokens::{Range, Token, TokenKind, all_tokens};
@@ -31,13 +34,14 @@ fn body_end(text: &str, close: Option<Token>) -> usize
 fn style_rule(
     alloc: Global,
     text: &str,
+    around: Option<usize>,
     prelude: &[Token],
     body: Range,
     inside: &[Token],
 ) -> Result<Option<StyleRule>, AllocError>
     requires prelude { All (IsPieceOf text.now) prelude.now }
     requires inside { All (IsPieceOf text.now) inside.now }
-    ensures { IfOk result (λ r. option_map rule_seen r ≡ style_rule text.now (words_after text.now false prelude.now) body inside.now) }
+    ensures { IfOk result (λ r. option_map rule_seen r ≡ style_rule text.now around (words_after text.now false prelude.now) body inside.now) }
 {
     let words = words_among(alloc, text, prelude)?;
     let Some(range) = range_of(words.as_slice()) else {
@@ -51,6 +55,7 @@ fn style_rule(
                 selectors,
                 body,
                 properties: Properties::new(properties),
+                media: around,
             }))
         }
         Err(SelErr::Invalid) => Ok(None),
@@ -61,12 +66,13 @@ fn style_rule(
 fn rule_by(
     alloc: Global,
     text: &str,
+    around: Option<usize>,
     prelude: &[Token],
     ending: Ending,
 ) -> Result<Option<StyleRule>, AllocError>
     requires prelude { All (IsPieceOf text.now) prelude.now }
     requires inside { All (IsPieceOf text.now) (ending_pieces (ending_seen ending)) }
-    ensures { IfOk result (λ r. option_map rule_seen r ≡ rule_by text.now prelude.now (ending_seen ending.entry)) }
+    ensures { IfOk result (λ r. option_map rule_seen r ≡ rule_by text.now around prelude.now (ending_seen ending.entry)) }
 {
     match ending {
         Ending::Block { first, body, close } => {
@@ -74,7 +80,7 @@ fn rule_by(
                 start: first.end,
                 end: body_end(text, close),
             };
-            style_rule(alloc, text, prelude, range, body)
+            style_rule(alloc, text, around, prelude, range, body)
         }
         _ => Ok(None),
     }
@@ -85,13 +91,14 @@ fn rule_by(
 pub(crate) fn rule_of(
     alloc: Global,
     text: &str,
+    around: Option<usize>,
     part: Part,
 ) -> Result<Option<StyleRule>, AllocError>
     requires { All (IsPieceOf text.now) (part_pieces (part_seen part)) }
-    ensures { IfOk result (λ r. option_map rule_seen r ≡ rule_of text.now (part_seen part.entry)) }
+    ensures { IfOk result (λ r. option_map rule_seen r ≡ rule_of text.now around (part_seen part.entry)) }
 {
     match part {
-        Part::Qualified { prelude, ending } => rule_by(alloc, text, prelude, ending),
+        Part::Qualified { prelude, ending } => rule_by(alloc, text, around, prelude, ending),
         _ => Ok(None),
     }
 }
@@ -145,18 +152,35 @@ fn place_of(text: &str, part: Part) -> Option<usize>
     }
 }
 
-fn push_rule(rules: &mut Vec<StyleRule>, rule: Option<StyleRule>) -> Result<(), AllocError>
-    ensures { IfOk result (λ _. map rule_seen rules.new.items
-        ≡ map rule_seen rules.old.items ++ option_to_list (option_map rule_seen rule)) }
+fn add_rule(
+    alloc: Global,
+    text: &str,
+    around: Option<usize>,
+    part: Part,
+    rules: &mut StyleRules,
+) -> Result<(), AllocError>
+    requires { All (IsPieceOf text.now) (part_pieces (part_seen part)) }
+    ensures { OnOk result (rules.new ≡ rules.old ++ option_to_list (rule_of text.now around (part_seen part.entry))) }
 {
-    if let Some(rule) = rule {
+    if let Some(rule) = rule_of(alloc, text, around, part)? {
         rules.push(rule)?;
     }
     Ok(())
 }
 
-fn push_place(places: &mut Vec<usize>, place: Option<usize>) -> Result<(), AllocError>
-    ensures { IfOk result (λ _. places.new.items ≡ places.old.items ++ option_to_list place) }
+/// The place behind a part, where it stands at top level.
+fn top_place(text: &str, around: Option<usize>, part: Part) -> Option<usize>
+    requires { All (IsPieceOf text.now) (part_pieces (part_seen part)) }
+    ensures { result ≡ top_place text.now around (part_seen part.entry) }
+{
+    match around {
+        Some(_) => None,
+        None => place_of(text, part),
+    }
+}
+
+fn add_place(places: &mut Places, place: Option<usize>) -> Result<(), AllocError>
+    ensures { OnOk result (places.new ≡ places.old ++ option_to_list place) }
 {
     if let Some(place) = place {
         places.push(place)?;
@@ -164,24 +188,72 @@ fn push_place(places: &mut Vec<usize>, place: Option<usize>) -> Result<(), Alloc
     Ok(())
 }
 
+/// Adds what a part is, but for media rules.
+fn add_part(
+    alloc: Global,
+    text: &str,
+    around: Option<usize>,
+    part: Part,
+    sheet: &mut Sheet,
+) -> Result<(), AllocError>
+    requires { All (IsPieceOf text.now) (part_pieces (part_seen part)) }
+    ensures { OnOk result (sheet.new ≡ with_part text.now around (part_seen part.entry) sheet.old) }
+{
+    add_rule(alloc, text, around, part, &mut sheet.rules)?;
+    add_place(&mut sheet.places, top_place(text, around, part))
+}
+
+/// Reads the first part of what is left in a frame.
+fn read_part<'a>(
+    alloc: Global,
+    text: &str,
+    frame: Frame<'a>,
+    frames: &mut Frames<'a>,
+    sheet: &mut Sheet,
+) -> Result<(), AllocError>
+    requires { AreLeftOf text.now (frame_seen frame ∷ frames.old) }
+    ensures same { OnOk result (read_on text.now sheet.new frames.new ≡ read_on text.now sheet.old (frame_seen frame.entry ∷ frames.old)) }
+    ensures smaller { OnOk result (left_size frames.new < left_size (frame_seen frame.entry ∷ frames.old)) }
+    ensures each { OnOk result (AreLeftOf text.now frames.new) }
+{
+    let [first, ..] = frame.left else {
+        return Ok(());
+    };
+    let part = part_at(alloc, level_of(frame.around), *first, frame.left)?;
+    frames.push(Frame {
+        left: behind(frame.left, part_len(part)),
+        around: frame.around,
+    })?;
+    add_part(alloc, text, frame.around, part, sheet)?;
+    open_media(alloc, text, frame.around, part, frames, sheet)?;
+    Ok(())
+}
+
+fn empty_sheet(alloc: Global) -> Result<Sheet, AllocError>
+    ensures { IfOk result (λ s. s ≡ empty_sheet) }
+{
+    let mut places = Places::new(Vec::new(alloc));
+    places.push(0)?;
+    Ok(Sheet {
+        rules: StyleRules::new(Vec::new(alloc)),
+        places,
+        media: MediaRules::new(Vec::new(alloc)),
+    })
+}
+
 /// What a text says as a style sheet.
 pub fn read_sheet(alloc: Global, text: &str) -> Result<Sheet, AllocError>
     ensures { IfOk result (λ s. s ≡ sheet_of text.now) }
 {
     let pieces = all_tokens(alloc, text)?;
-    let mut rules = Vec::new(alloc);
-    let mut places = Vec::new(alloc);
-    places.push(0)?;
-    let mut left = pieces.as_slice();
-    'parts: while let [first, ..] = left {
-        let part = part_at(alloc, *first, left)?;
-        let rule = rule_of(alloc, text, part)?;
-        push_rule(&mut rules, rule)?;
-        push_place(&mut places, place_of(text, part))?;
-        left = behind(left, part_len(part));
+    let mut sheet = empty_sheet(alloc)?;
+    let mut frames = Frames::new(alloc);
+    frames.push(Frame {
+        left: pieces.as_slice(),
+        around: None,
+    })?;
+    'frames: while let Some(frame) = frames.pop() {
+        read_part(alloc, text, frame, &mut frames, &mut sheet)?;
     }
-    Ok(Sheet {
-        rules: StyleRules::new(rules),
-        places: Places::new(places),
-    })
+    Ok(sheet)
 }

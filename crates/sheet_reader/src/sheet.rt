@@ -1,6 +1,6 @@
 //! Sheets as they are read.
 
-use crate::lists::{Places, Properties, StyleRules};
+use crate::lists::{MediaRules, Places, Properties, StyleRules};
 use css_tokens::Range;
 use node_tree::Text;
 use selectors::SelectorList;
@@ -28,6 +28,18 @@ pub struct StyleRule {
     /// Between the braces, or up to the text's end.
     pub body: Range,
     pub properties: Properties,
+    /// The innermost media rule around it, by its place among the media rules of the sheet.
+    pub media: Option<usize>,
+}
+
+/// An at-rule named `media` with a block.
+#[derive(Clone, Copy)]
+pub struct MediaRule {
+    /// From the first to the last piece of the prelude that is neither white space nor comment. Empty, and right behind the
+    /// at-keyword, where there is none.
+    pub prelude: Range,
+    /// The innermost media rule around it, by its place among the media rules of the sheet.
+    pub inside: Option<usize>,
 }
 
 /// What the text of a style sheet says.
@@ -36,4 +48,5 @@ pub struct Sheet {
     pub rules: StyleRules,
     /// Where a rule may be added: 0, and the end of each whole part at top level, ascending.
     pub places: Places,
+    pub media: MediaRules,
 }

@@ -1,28 +1,11 @@
-ghost use Rattle.std.specs.Prelude.{◌≡◌, ◌+◌, ◌<◌, ◌^◌, [], ◌∷◌, option_map, IfOk, OnOk, OnErr};
+ghost use Rattle.std.specs.Prelude.{◌≡◌, ◌+◌, ◌<◌, ◌^◌, [], ◌∷◌, length, option_map, OnOk, OnErr};
 ghost use Rattle.undo_marks.specs.Marks.{entry_count, newest, older, onto_newest};
 
 use crate::inverse_lists::Inverse;
 use std::alloc::{AllocError, Global};
 use std::marker::Model;
 
-/// The most edits that groups hold; one more than that is want of memory.
-const MOST: u64 = 0x7fff_ffff_ffff_ffff;
-
-/// The count with so many more; where that is above the most, it is want of memory.
-fn grown(count: u64, more: usize) -> Result<u64, AllocError>
-    requires count { count < 2 ^ 63 }
-    requires more { more < 2 ^ 63 }
-    ensures sum { IfOk result (λ n. n ≡ count + more) }
-    ensures fits { IfOk result (λ n. n < 2 ^ 63) }
-{
-    let sum = count + more as u64;
-    if sum > MOST {
-        return Err(AllocError);
-    }
-    Ok(sum)
-}
-
-/// A stack of groups, which contracts see with the newest first.
+/// A stack of groups, which contracts see with the newest first. Their edits are counted, and are fewer than 2^63.
 #[derive(Drop)]
 pub struct Groups {
     alloc: Global,
@@ -69,10 +52,11 @@ impl Groups {
 
     /// Puts a group on top.
     pub fn push(&mut self, group: Vec<Inverse>) -> Result<(), AllocError>
+        requires room { entry_count self.old + length group.items < 2 ^ 63 }
         ensures ok { OnOk result (self.new ≡ group.items ∷ self.old) }
         ensures err { OnErr result (self.new ≡ self.old) }
     {
-        let count = grown(self.count, group.len())?;
+        let count = self.count + group.len() as u64;
         self.groups.push(group)?;
         self.count = count;
         Ok(())
@@ -80,6 +64,7 @@ impl Groups {
 
     /// Puts a group of one edit on top.
     pub fn start(&mut self, inverse: Inverse) -> Result<(), AllocError>
+        requires room { entry_count self.old < 2 ^ 62 }
         ensures ok { OnOk result (self.new ≡ (inverse ∷ []) ∷ self.old) }
         ensures err { OnErr result (self.new ≡ self.old) }
     {
@@ -90,10 +75,11 @@ impl Groups {
 
     /// Puts the edit last into the newest group, or into a first one.
     pub fn join(&mut self, inverse: Inverse) -> Result<(), AllocError>
+        requires room { entry_count self.old < 2 ^ 62 }
         ensures ok { OnOk result (self.new ≡ onto_newest (inverse ∷ []) self.old) }
         ensures err { OnErr result (self.new ≡ self.old) }
     {
-        let count = grown(self.count, 1)?;
+        let count = self.count + 1;
         let Some(group) = self.groups.last_mut() else {
             return self.start(inverse);
         };

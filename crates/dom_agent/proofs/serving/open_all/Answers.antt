@@ -1,4 +1,4 @@
-use Rattle.std.proofs.Common.{drop_of_length-le, append-nil, sym, ◌∙◌}
+use Rattle.std.proofs.Common.{drop_of_length-le, append-nil, sym, ◌∙◌, arith}
 use Rattle.dom_agent.proofs.ServingLemmas.{opens_start, opens_turn, opens_end, next_container, next_room}
 use Rattle.dom_agent.proofs.serving.open_all.Goals as goal
 
@@ -27,3 +27,9 @@ returns-clause-sent c =
     let last = opens_end c.args.openings.now c.loop-opening.opening-index _ _ _ _ _
     (drop_of_length-le c.args.openings.now c.loop-opening-test.false) c.loop-opening.invariant in
     λ n d. sym (append-nil _) ∙ last.frames n d
+
+pub returns-clause-few : goal.returns-clause-few
+returns-clause-few c =
+    let last = opens_end c.args.openings.now c.loop-opening.opening-index _ _ _ _ _
+    (drop_of_length-le c.args.openings.now c.loop-opening-test.false) c.loop-opening.invariant in
+    omega (arith, last.few)

@@ -6,6 +6,7 @@ use Rattle.css_tokens.specs.Marks.{IsPieceOf}
 use Rattle.sheet_reader.specs.declared.lone.LoneRule.{LoneRule}
 use Rattle.sheet_reader.specs.Lone.{is_blank_piece}
 use Rattle.sheet_reader.specs.Seen.{part_seen}
+use Rattle.sheet_reader.specs.declared.parts.Level.TheVariants.{Top}
 use Rattle.sheet_reader.proofs.SheetLemmas.{part_all, part_fits}
 use Rattle.sheet_reader.proofs.LoneForms.{lone_none, lone_many, lone_one}
 use Rattle.std.specs.List.{prefix_len}
@@ -17,7 +18,7 @@ returns-in_default c = lone_none c.args.text.now c.as_slice.result.now c.skip_bl
 
 pub behind-requires : goal.behind-requires
 behind-requires c =
-    let fits = part_fits c.skip_blank-left.result.now _ (part_seen c.in_ok-part.part)
+    let fits = part_fits Top c.skip_blank-left.result.now _ (part_seen c.in_ok-part.part)
     (omega (arith, c.in-len1-up.len_at_least)) c.in_ok-part.ensures in
     omega (arith, fits, c.part_len.ensures)
 
@@ -34,7 +35,7 @@ lone_by-requires c =
     let ts = c.as_slice.result.now in
     let all : All (IsPieceOf c.args.text.now) ts = subst (All (IsPieceOf c.args.text.now))
     (sym c.as_slice.ensures.value) c.in_ok-pieces.ensures.each in
-    part_all (IsPieceOf c.args.text.now) c.skip_blank-left.result.now _ (part_seen c.in_ok-part.part)
+    part_all Top (IsPieceOf c.args.text.now) c.skip_blank-left.result.now _ (part_seen c.in_ok-part.part)
     (omega (arith, c.in-len1-up.len_at_least)) c.in_ok-part.ensures
     (subst (All (IsPieceOf c.args.text.now)) (sym c.skip_blank-left.ensures)
     (All-drop (IsPieceOf c.args.text.now) (prefix_len is_blank_piece ts) ts all))

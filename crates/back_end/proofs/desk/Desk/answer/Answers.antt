@@ -1,5 +1,6 @@
 -- Each part of the seat answers its commands; where it leaves the history alone, what is kept is kept on.
 use Rattle.std.proofs.Common.{◌≡◌, true, sym, ap, subst, ◌∙◌}
+use Rattle.std.proofs.Math.Logic.{∥∥₁_map}
 use Rattle.serde_json.specs.View.{view}
 use Rattle.cdp_messages.specs.Asked.{fits_command}
 use Rattle.cdp_messages.specs.declared.command.Command.{Command}
@@ -10,6 +11,9 @@ use Rattle.back_end.proofs.desk.Desk.answer.Goals as goal
 
 pub ask_agent-requires-clause-ask : goal.ask_agent-requires-clause-ask
 ask_agent-requires-clause-ask c = subst (λ (x : Command). fits_command x ≡ true) c.in-AskDom.is c.requires.command
+
+pub ask_agent-requires-clause-standing : goal.ask_agent-requires-clause-standing
+ask_agent-requires-clause-standing c = ∥∥₁_map c.requires.standing (λ p. (p.0, p.1.stands))
 
 pub returns-in-DomEnable-clause-stands : goal.returns-in-DomEnable-clause-stands
 returns-in-DomEnable-clause-stands c = λ state both.

@@ -1,6 +1,7 @@
 -- What the agent is asked is carried out, or refused since DOM is off.
 use Rattle.std.proofs.Common.{refl}
 use Rattle.back_end.proofs.SeatLemmas.{on_ok, asked-stands, asked-sent, refused-sent}
+use Rattle.back_end.proofs.AskCounts.{ask-few}
 use Rattle.back_end.proofs.desk.Desk.ask_agent.Goals as goal
 
 pub returns-then-is_refused-clause-sent : goal.returns-then-is_refused-clause-sent
@@ -24,3 +25,8 @@ pub returns-clause-sent : goal.returns-clause-sent
 returns-clause-sent c = λ state stands.
     asked-sent c.args.self.now c.args.side.now state c.args.id c.args.ask.now c.page.result.now c.args.out.now.items c.ask.new.out.items
     c.requires.ask c.if-is_refused.ensures stands c.page.ensures c.in_ok-ask.ensures.sent
+
+pub ask-requires-clause-few : goal.ask-requires-clause-few
+ask-requires-clause-few c =
+    ask-few c.args.self.now c.args.side.now c.page.result.now c.args.ask.now c.requires.ask c.requires.room.ids c.page.ensures
+    c.requires.standing

@@ -10,5 +10,5 @@ returns-clause-stands c = λ state stands can. in_any c.tell_paused.result _ ((c
 pub returns-clause-sent : goal.returns-clause-sent
 returns-clause-sent c = λ state stands can.
     on_ok c.tell_paused.result _ _ c.tell_paused.ensures
-    (removal-sent state c.args.node c.in_ok-node.node c.args.out.now.items c.push_with_room.new.out.items c.tell_paused.new.out.items
+    (removal-sent state c.args.node c.in_ok-node.node c.args.out.now.items c.push.new.out.items c.tell_paused.new.out.items
     ((c.in_ok-node.ensures {u = tt}).id state stands can) ((c.in_ok-node.ensures {u = tt}).sent state stands can))

@@ -18,7 +18,7 @@ returns-clause-sent c = λ state stands can aimed.
     let can_after = after-can c.args.node c.args.target state can aimed.there in
     on_ok c.tell_paused.result _ _ c.tell_paused.ensures
     (subtree-sent state c.args.node c.args.target c.in_ok-node.node c.in_ok-target.target c.args.insertion c.args.out.now.items
-    c.push_with_room.new.out.items c.push_with_room-2.new.out.items
+    c.push.new.out.items c.push-2.new.out.items
     c.tell_paused.new.out.items stands.now can ((c.in_ok-node.ensures {u = tt}).id state stands can)
     ((c.in_ok-target.ensures {u = tt}).id after stands_after can_after)
     ((c.in_ok-node.ensures {u = tt}).sent state stands can) ((c.in_ok-target.ensures {u = tt}).sent after stands_after can_after))

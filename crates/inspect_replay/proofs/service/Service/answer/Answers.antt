@@ -2,7 +2,7 @@
 use Rattle.std.proofs.Common.{[], ◌∷◌}
 use Rattle.inspect_world.specs.World.{steps}
 use Rattle.inspect_replay.specs.Serving.{served_step, serve_moment}
-use Rattle.inspect_replay.proofs.ServeLemmas.{frame-answered, frame-in-part, frame-lost, unwritten}
+use Rattle.inspect_replay.proofs.ServeLemmas.{frame-answered, frame-in-part, frame-lost}
 use Rattle.inspect_replay.proofs.service.Service.answer.Goals as goal
 
 pub returns-in-Ok-clause-answers : goal.returns-in-Ok-clause-answers
@@ -31,9 +31,6 @@ returns-clause-answers g c = λ state stands.
     frame-in-part state c.args.frame.now c.new-message.result.items c.take_message.new.out.items c.deref.result.now
     (g.K.Sink.taken c.args.out.now) (g.K.Sink.taken c.write_all.new.out)
     c.new-message.ensures.items (c.in_ok-take_message.ensures.sent state stands) c.deref.ensures.value c.in-Err-Memory.ensures.err
-
-pub returns-then-not-has_room-clause-answers : goal.returns-then-not-has_room-clause-answers
-returns-then-not-has_room-clause-answers g c = λ state stands. unwritten (g.K.Sink.taken c.args.out.now) _
 
 pub returns-in_err-take_message-clause-answers : goal.returns-in_err-take_message-clause-answers
 returns-in_err-take_message-clause-answers g c = λ state stands.

@@ -3,6 +3,7 @@ use Rattle.std.proofs.Common.{◌∷◌, arith, refl, sym, ap, ◌∙◌}
 use Rattle.pipe_frames.specs.Frames.{Frames}
 use Rattle.inspect_replay.specs.Serving.{serve_moment}
 use Rattle.inspect_replay.proofs.ServeLemmas.{one-answered, one-in-part, all-answered}
+use Rattle.inspect_replay.proofs.ServeRoom.{came-room, came-more}
 use Rattle.inspect_replay.proofs.service.Service.answer_whole.Goals as goal
 
 pub returns-in-Err-clause-answers : goal.returns-in-Err-clause-answers
@@ -22,7 +23,14 @@ loop-frame-preserved g c = record {
       (g.K.Sink.taken c.args.out.now) c.deref.result.now c.next.new.self.whole (c.loop-frame.invariant.answers state stands)
       (c.in-Some.ensures.first ∙ ap (λ f. f ∷ c.next.new.self.whole) (sym c.deref.ensures.value))
       (ap (λ (f : Frames). f.whole) c.answer.ensures.same) (c.in-Ok.ensures {u = c.in-Ok.field-0}).answers;
+  few = came-more c.loop-frame.self c.answer.new.self c.deref.result.now c.next.new.self.whole c.loop-frame.invariant.few
+      (c.in-Some.ensures.first ∙ ap (λ f. f ∷ c.next.new.self.whole) (sym c.deref.ensures.value))
+      (ap (λ (f : Frames). f.whole) c.answer.ensures.same)
+      (λ state stands. ((c.in-Ok.ensures {u = c.in-Ok.field-0}).answers state stands).0);
 }
+
+pub answer-requires : goal.answer-requires
+answer-requires g c = record { room = came-room c.loop-frame.self c.loop-frame.invariant.few }
 
 pub returns-clause-answers : goal.returns-clause-answers
 returns-clause-answers g c = λ state stands.

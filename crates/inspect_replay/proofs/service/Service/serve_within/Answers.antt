@@ -64,3 +64,8 @@ returns-clause-served g c =
     (g.K.Sink.taken c.args.out.now)
     (serve_moment c.loop-came.self
     (g.K.Sink.taken c.loop-came.out)) c.loop-came.came c.end_of_input.result c.loop-came.invariant.so_far full c.end_of_input.ensures.met
+
+pub serve_piece-requires-clause-left : goal.serve_piece-requires-clause-left
+serve_piece-requires-clause-left g c =
+    let so_far = c.loop-came.invariant.so_far in
+    record { bytes = so_far.bytes; is_serving = so_far.serves.is_serving; few = grind (arith, length-take, so_far.count) }

@@ -1,4 +1,4 @@
-use Rattle.std.proofs.Common.{arith}
+use Rattle.std.proofs.Common.{◌≡◌, ◌-◌, refl, ap, ◌∙◌, arith}
 use Rattle.pipe_frames.proofs.FlowLemmas.{Moves-lie}
 use Rattle.pipe_frames.proofs.lying.LyingLinkLink.get_down.Goals as goal
 
@@ -7,7 +7,7 @@ returns-clause-down c = rw (← c.self.view_is) (
   c.in_ok-count.ensures.gets.0,
   Moves-lie c.self.inside.place c.self.inside.to c.self.inside.down c.get.new.self
       c.args.into.now.items c.get.new.into.items c.replace_byte.new.bytes.items
-      c.in_ok-count.count c.len-start.result c.passed-passed.result
-      c.in_ok-count.ensures.gets.1 (omega arith) c.passed-passed.ensures.passed c.passed-passed.ensures.within
-      (rw c.saturating_sub.ensures at c.replace_byte.ensures),
+      c.in_ok-count.count c.len-start.result c.self.inside.down.passed
+      c.in_ok-count.ensures.gets.1 (omega arith) refl c.get.ensures.within
+      (rw c.self.invariant at c.replace_byte.ensures),
 )

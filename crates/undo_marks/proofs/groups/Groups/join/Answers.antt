@@ -10,7 +10,7 @@ invariant_of-self-2 c =
     (omega (arith, c.self.inside.groups.ok)) c.in-Some.ensures.value in
     let more = entry_count-joined c.args.inverse c.in-Some.group.now.items l.rest _ _ l.old
     (l.new ∙ ap (λ g. g ∷ l.rest) c.in_ok-push.ensures.items) in
-    (omega (arith, c.self.invariant.0, c.in_ok-count.ensures.sum), c.in_ok-count.ensures.fits)
+    (omega (arith, c.self.invariant.0), omega (arith, c.self.invariant.0, ap entry_count c.self.view_is, c.requires))
 
 pub returns-clause-ok : goal.returns-clause-ok
 returns-clause-ok c =

@@ -1,0 +1,36 @@
+-- What the agent is asked draws no more ids than the page has nodes.
+use Rattle.std.proofs.Common.{◌≡◌, ℕ, ◌+◌, ◌<◌, ◌≤◌, ◌^◌, Bool, true, length, refl, sym, ◌∙◌, ap, subst, arith}
+use Rattle.std.proofs.Math.Logic.{∥∥₁_elim}
+use Rattle.std.proofs.Props.{props}
+use Rattle.node_tree.specs.Nodes.{node_count}
+use Rattle.page_tree.specs.Pages.{PageValue}
+use Rattle.node_binding.specs.Bindings.{Stands}
+use Rattle.node_binding.specs.Sessions.{Session}
+use Rattle.node_binding.proofs.StartLemmas.{count-alone}
+use Rattle.cdp_messages.specs.declared.dom_ask.DomAsk.{DomAsk}
+use Rattle.cdp_messages.specs.DomAsks.{fits_ask}
+use Rattle.dom_agent.specs.Laws.{session_outcome, binding_outcome}
+use Rattle.dom_agent.specs.Requests.{Outcome, state_after}
+use Rattle.dom_agent.proofs.OutcomeLemmas.{draws_few}
+use Rattle.dom_agent.proofs.KeeperLemmas.{stays_bound}
+use Rattle.back_end.specs.declared.desk.Desk.{Desk}
+use Rattle.back_end.specs.declared.side.PageSide.{PageSide}
+use Rattle.back_end.specs.States.{State, page_nodes}
+use Rattle.back_end.specs.Seats.{DeskStandsFor}
+
+state-few : (d : Desk) (s : PageSide) (page : PageValue) (c : DomAsk) → fits_ask c ≡ true → d.agent.next < 2 ^ 50 → page ≡ s.page
+    → (state : State) → DeskStandsFor d s state → (state_after d.agent (binding_outcome page c d.agent)).next < 2 ^ 60
+state-few d s page c fits room is state stands =
+    let w : Session = state.client.session in
+    let o : Outcome Session = session_outcome state.side.page c w in
+    let bound : Stands (page_nodes state) (state_after w o) (state_after d.agent (binding_outcome state.side.page c d.agent)) =
+    stays_bound state.side.page c w d.agent stands.now.page fits stands.now.session stands.stands in
+    let few : length (state_after w o).pushed ≤ length w.pushed + node_count (page_nodes state) =
+    draws_few state.side.page c w stands.now.page fits stands.now.session in
+    let count : node_count (page_nodes state) ≤ 100000 = count-alone state.side.page stands.now.page in
+    subst (λ (p : PageValue). (state_after d.agent (binding_outcome p c d.agent)).next < 2 ^ 60) (sym (is ∙ stands.page_is))
+    (omega (arith, bound.next_is, few, count, stands.stands.next_is, room))
+
+pub ask-few : (d : Desk) (s : PageSide) (page : PageValue) (c : DomAsk) → fits_ask c ≡ true → d.agent.next < 2 ^ 50 → page ≡ s.page
+    → ∥ ((state : State) × DeskStandsFor d s state) ∥₁ → (state_after d.agent (binding_outcome page c d.agent)).next < 2 ^ 60
+ask-few d s page c fits room is standing = ∥∥₁_elim standing (hlevel props) (λ p. state-few d s page c fits room is p.0 p.1)

@@ -1,0 +1,16 @@
+-- The steps are those of the list.
+use Rattle.std.proofs.Common.{◌≡◌, Bool, List, ◌++◌, map, OnOk, subst, ap, ◌∙◌}
+use Rattle.std.specs.List.{filter}
+use Rattle.page_tree.specs.Zippers.{Zipper, serial_of, below}
+use Rattle.selectors.specs.Lists.{list_seen}
+use Rattle.select_match.specs.declared.steps.Step.{Step}
+use Rattle.select_match.specs.Steps.{step_seen}
+use Rattle.select_match.proofs.StepLemmas.{steps-match}
+use Rattle.select_match.proofs.walks.add_by_steps.Goals as goal
+
+pub returns : goal.returns
+returns c =
+    let same = ap (λ (l : List Step). map step_seen l) c.as_slice-steps.ensures.value ∙ (c.in_ok-list.ensures {u = tt}) in
+    subst (λ (p : Zipper → Bool). OnOk c.add_stepped.result
+    (c.add_stepped.new.found.items ≡ c.args.found.now.items ++ map serial_of (filter p (below c.args.node.now))))
+    (steps-match (map step_seen c.as_slice-steps.result.now) (list_seen c.args.l.now) same c.requires) c.add_stepped.ensures

@@ -1,0 +1,127 @@
+//! Media rules: at-rules named `media` that have a block.
+
+ghost use Rattle.std.specs.Prelude.{◌≡◌, ◌++◌, ◌∷◌, [], All, IfOk, OnOk, option_map, length};
+ghost use Rattle.css_tokens.specs.Marks.{IsPieceOf};
+ghost use Rattle.sheet_reader.specs.Parts.{part_pieces};
+ghost use Rattle.sheet_reader.specs.Seen.{part_seen, media_seen, frame_seen};
+ghost use Rattle.sheet_reader.specs.Layout.{level_of, names_media, media_form, media_rule};
+ghost use Rattle.sheet_reader.specs.Frames.{opened, with_media};
+
+use crate::frames::{Frame, Frames};
+use crate::parts::{Ending, Level, Part};
+use crate::sheet::{MediaRule, Sheet};
+use css_tokens::{Range, Token, TokenKind, unescape};
+use selectors::{range_of, words_among};
+use std::alloc::{AllocError, Global};
+
+/// A media rule.
+#[derive(Clone, Copy)]
+pub(crate) struct Media<'a> {
+    pub keyword: Token,
+    pub prelude: &'a [Token],
+    pub inside: &'a [Token],
+}
+
+/// What stands around a part with no media rule around it is the sheet itself.
+pub(crate) fn level_of(around: Option<usize>) -> Level
+    ensures { result ≡ level_of around }
+{
+    match around {
+        Some(_) => Level::Inner,
+        None => Level::Top,
+    }
+}
+
+/// Whether a piece is an at-keyword with the name `media`.
+fn names_media(alloc: Global, text: &str, piece: Token) -> Result<bool, AllocError>
+    requires { IsPieceOf text.now piece }
+    ensures { IfOk result (λ b. b ≡ names_media text.now piece piece.kind) }
+{
+    match piece.kind {
+        TokenKind::AtKeyword => {
+            let mut name = unescape(alloc, &text[piece.start + 1..piece.end])?;
+            name.make_ascii_lowercase();
+            Ok(name.as_str() == "media")
+        }
+        _ => Ok(false),
+    }
+}
+
+/// The media rule that a part is, if it is one.
+#[tactic(auto, unfolding(crate::specs::Layout::media_form))]
+fn media_form<'a>(
+    alloc: Global,
+    text: &str,
+    part: Part<'a>,
+) -> Result<Option<Media<'a>>, AllocError>
+    requires { All (IsPieceOf text.now) (part_pieces (part_seen part)) }
+    ensures { IfOk result (λ m. option_map media_seen m ≡ media_form text.now (part_seen part.entry)) }
+{
+    match part {
+        Part::AtRule {
+            keyword,
+            prelude,
+            ending: Ending::Block { body, .. },
+        } => {
+            if names_media(alloc, text, keyword)? {
+                Ok(Some(Media {
+                    keyword,
+                    prelude,
+                    inside: body,
+                }))
+            } else {
+                Ok(None)
+            }
+        }
+        _ => Ok(None),
+    }
+}
+
+/// The media rule as a sheet has it.
+fn media_rule(
+    alloc: Global,
+    text: &str,
+    around: Option<usize>,
+    media: Media,
+) -> Result<MediaRule, AllocError>
+    requires { All (IsPieceOf text.now) media.prelude.now }
+    ensures { IfOk result (λ r. r ≡ media_rule text.now around (media_seen media.entry)) }
+{
+    let words = words_among(alloc, text, media.prelude)?;
+    let prelude = match range_of(words.as_slice()) {
+        Some(range) => range,
+        None => Range {
+            start: media.keyword.end,
+            end: media.keyword.end,
+        },
+    };
+    Ok(MediaRule {
+        prelude,
+        inside: around,
+    })
+}
+
+/// Where a part is a media rule, adds it to the sheet, and what stands in its block to what is still to be read.
+pub(crate) fn open_media<'a>(
+    alloc: Global,
+    text: &str,
+    around: Option<usize>,
+    part: Part<'a>,
+    frames: &mut Frames<'a>,
+    sheet: &mut Sheet,
+) -> Result<(), AllocError>
+    requires { All (IsPieceOf text.now) (part_pieces (part_seen part)) }
+    ensures frames { OnOk result (frames.new ≡ opened (length sheet.old.media) (media_form text.now (part_seen part.entry)) frames.old) }
+    ensures sheet { OnOk result (sheet.new ≡ with_media text.now around (media_form text.now (part_seen part.entry)) sheet.old) }
+{
+    if let Some(media) = media_form(alloc, text, part)? {
+        let place = sheet.media.len();
+        let rule = media_rule(alloc, text, around, media)?;
+        sheet.media.push(rule)?;
+        frames.push(Frame {
+            left: media.inside,
+            around: Some(place),
+        })?;
+    }
+    Ok(())
+}
