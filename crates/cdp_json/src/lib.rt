@@ -15,4 +15,4 @@ pub use laws::read_back_law;
 pub use lists::{texts_of, whole_list, wholes_of};
 pub use values::{depth_of, flag_of, list_of, object_of, signed_of, text_of, whole_of};
 pub use whole::all_whole;
-pub use write::ObjectBuilder;
+pub use write::{ObjectBuilder, put};

@@ -1,5 +1,5 @@
 // Making an object field by field.
-ghost use Rattle.std.specs.Prelude.{◌≡◌, string_bytes, ◌++◌, ◌∷◌, [], true, Some, option_map, IfOk, OnOk};
+ghost use Rattle.std.specs.Prelude.{◌≡◌, string_bytes, ◌++◌, ◌∷◌, [], true, Some, option_map, IfOk, OnOk, OnErr};
 ghost use Rattle.serde_json.specs.Data.{object, string, put as put_member};
 ghost use Rattle.serde_json.specs.View.{view, members_view};
 ghost use Rattle.cdp_json.specs.Rows.{members_of};
@@ -65,10 +65,27 @@ impl ObjectBuilder {
     }
 }
 
-// Puts the value under the name, also where another stands there.
-fn put(object: &mut Map<String, Value>, name: String, value: Value) -> Result<(), AllocError>
-    ensures { OnOk result (members_view object.new.entries
+/// Puts the value under the name, in the place of one that stands there; the other members stay. After want of memory the
+/// object has the members that it had.
+pub fn put(
+    alloc: Global,
+    object: &mut Map<String, Value>,
+    name: &str,
+    value: Value,
+) -> Result<(), AllocError>
+    ensures put { OnOk result (members_view object.new.entries
+        ≡ put_member name.now (view value) (members_view object.old.entries)) }
+    ensures kept { OnErr result (object.new.entries ≡ object.old.entries) }
+{
+    let name = String::from_str(alloc, name)?;
+    put_named(object, name, value)
+}
+
+// The same with a name that is owned.
+fn put_named(object: &mut Map<String, Value>, name: String, value: Value) -> Result<(), AllocError>
+    ensures put { OnOk result (members_view object.new.entries
         ≡ put_member (string_bytes name) (view value) (members_view object.old.entries)) }
+    ensures kept { OnErr result (object.new.entries ≡ object.old.entries) }
 {
     drop(object.insert(name, value)?);
     Ok(())
@@ -84,7 +101,7 @@ fn put_some(
         ≡ put_if_some (string_bytes name) (option_map view value) (members_view object.old.entries)) }
 {
     match value {
-        Some(value) => put(object, name, value),
+        Some(value) => put_named(object, name, value),
         None => Ok(()),
     }
 }
