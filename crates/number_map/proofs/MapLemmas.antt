@@ -115,6 +115,16 @@ take-both f g old new es fs key same alike =
     ∙ out_of (q == key) (row_at f old q) _
     ∙ ap (cond (q == key) None) (sym (get-both f old es q)))
 
+-- nothing put: another row, in which the same stands under each key, beside the same entries
+pub same-both : (f g : ℕ) (old new : List (Option ℕ)) (es fs : List (ℕ × ℕ))
+    → ((q : ℕ) → row_at g new q ≡ row_at f old q) → fs ≡ es → both g new fs ≡ both f old es
+same-both f g old new es fs same is =
+    map.same_map nat_cmp_total map.nat_cmp-IsAntisymmetric _ _
+    (λ q. get-both g new fs q
+    ∙ ap (λ o. option_or o (lookup (eq_by_cmp nat_cmp q) fs)) (same q)
+    ∙ ap (λ xs. option_or (row_at f old q) (lookup (eq_by_cmp nat_cmp q) xs)) is
+    ∙ sym (get-both f old es q))
+
 -- ---- the keys of a map as a set
 
 or-cond : (b x : Bool) → cond b true x ≡ (b || x)

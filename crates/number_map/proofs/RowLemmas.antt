@@ -1,7 +1,7 @@
 -- What stands in a row, and what a change of the row comes to.
 use Rattle.std.proofs.Common.{◌≡◌, ℕ, zero, suc, ◌+◌, ◌-◌, ◌<◌, ◌≤◌, ◌==◌, Bool, true, false, cond}
 use Rattle.std.proofs.Common.{List, [], ◌∷◌, ◌++◌, length, replicate, take, slice_get, slice_set, get_or, append-nil, length-append}
-use Rattle.std.proofs.Common.{option_to_list, Option, Some, None, refl, sym, ap, ◌∙◌, arith}
+use Rattle.std.proofs.Common.{option_to_list, Option, Some, None, Result, Ok, Err, OnErr, refl, sym, ap, ◌∙◌, arith}
 use Rattle.std.proofs.lemmas.Bool.Decides.{nat_tests}
 use Rattle.std.proofs.lemmas.Option.{slice_get_read}
 use Rattle.std.specs.Option.{option_or}
@@ -173,3 +173,16 @@ row-popped first old new (Some x) place key is at none =
     sym (last_of new x) ∙ ap (λ xs. slice_get xs (length xs - 1)) (sym is) ∙ at in
     let blank : x ≡ None = (let e : x ≡ place = cc in e ∙ none) in
     sym (ap (λ xs. row_at first xs key) (is ∙ ap (λ o. new ++ o ∷ []) blank) ∙ row-pop first new key)
+
+-- what holds anyway holds where a call fails
+pub on_err : {T E : Type 0} (result : Result T E) (P : Type 0) → P → OnErr result P
+on_err (Ok x) P p = tt
+on_err (Err e) P p = p
+
+-- a row that was lengthened by places without a number
+pub row-long : (first : ℕ) (row wide new : List (Option ℕ)) (place : ℕ) (key : ℕ)
+    → new ≡ wide → wide ≡ row ++ replicate (place - length row) None → row_at first new key ≡ row_at first row key
+row-long first row wide new place key same is =
+    ap (λ xs. row_at first xs key) (same ∙ is) ∙ row-append first row (replicate (place - length row) None) key
+    ∙ ap (option_or (row_at first row key)) (row-blank (first + length row) (place - length row) key)
+    ∙ option_or-none _

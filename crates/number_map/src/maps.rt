@@ -1,4 +1,4 @@
-ghost use Rattle.std.specs.Prelude.{◌≡◌, ◌++◌, ℕ, OnOk};
+ghost use Rattle.std.specs.Prelude.{◌≡◌, ◌++◌, ℕ, OnOk, OnErr};
 ghost use Rattle.std.specs.Ordering.{nat_cmp};
 ghost use Rattle.std.specs.Coded.{coded_ℕ};
 ghost use Rattle.std.specs.FinMap as map;
@@ -43,7 +43,8 @@ impl NumberSet {
 
     /// Puts the number in; one that is there stays. After want of memory the set is as before.
     pub fn insert(&mut self, number: u64) -> Result<(), AllocError>
-        ensures { OnOk result (self.new ≡ set.insert self.old number) }
+        ensures put { OnOk result (self.new ≡ set.insert self.old number) }
+        ensures kept { OnErr result (self.new ≡ self.old) }
     {
         self.numbers.insert(number, 0)?;
         Ok(())
@@ -100,7 +101,8 @@ impl NumberMap {
 
     /// Puts the number under the key, in the place of one that is there. After want of memory the map is as before.
     pub fn insert(&mut self, key: u64, number: u64) -> Result<(), AllocError>
-        ensures { OnOk result (self.new ≡ map.insert self.old key number) }
+        ensures put { OnOk result (self.new ≡ map.insert self.old key number) }
+        ensures kept { OnErr result (self.new ≡ self.old) }
     {
         if self.row.put(key, number)? {
             return Ok(());

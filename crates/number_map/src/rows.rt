@@ -1,5 +1,5 @@
 // Numbers under keys that follow one another, for which a look-up takes one step.
-ghost use Rattle.std.specs.Prelude.{◌≡◌, ℕ, ◌+◌, ◌<◌, ◌==◌, ◌&&◌, cond, false, length, [], None, Some, IfOk, IfSome, IfNone};
+ghost use Rattle.std.specs.Prelude.{◌≡◌, ℕ, ◌+◌, ◌<◌, ◌==◌, ◌&&◌, cond, false, length, [], None, Some, IfOk, OnErr, IfSome, IfNone};
 ghost use Rattle.number_map.specs.Rows.{row_at};
 
 use std::alloc::{AllocError, Global};
@@ -62,6 +62,8 @@ impl Row {
         ensures put { IfOk result (λ is_put. (other : ℕ) → row_at self.new.first self.new.numbers.items other
             ≡ cond (is_put && other == key) (Some number) (row_at self.old.first self.old.numbers.items other)) }
         ensures far { IfOk result (λ is_put. is_put ≡ false → row_at self.old.first self.old.numbers.items key ≡ None) }
+        ensures kept { OnErr result ((other : ℕ) → row_at self.new.first self.new.numbers.items other
+            ≡ row_at self.old.first self.old.numbers.items other) }
     {
         self.begin(key);
         if key < self.first {
@@ -86,6 +88,8 @@ impl Row {
             ≡ cond (is_put && other == self.old.first + place) (Some number) (row_at self.old.first self.old.numbers.items other)) }
         ensures far { IfOk result (λ is_put. is_put ≡ false
             → row_at self.old.first self.old.numbers.items (self.old.first + place) ≡ None) }
+        ensures kept { OnErr result ((other : ℕ) → row_at self.new.first self.new.numbers.items other
+            ≡ row_at self.old.first self.old.numbers.items other) }
     {
         let len = self.numbers.len();
         if place < len {
