@@ -3,7 +3,7 @@ use Rattle.std.proofs.Common.{◌≡◌, ℕ, ◌+◌, ◌-◌, ◌≤◌, ◌<�
 use Rattle.std.proofs.Common.{length-append}
 use Rattle.std.proofs.lemmas.Bool.{cases_lt, cases_eq, ne_eqb}
 use Rattle.std.proofs.Math.Seq.{drop-append-add}
-use Rattle.std.proofs.lemmas.List.{take-append-drop, take-take, take_min, drop-take, length-take, length-take-le, length-drop, set-append_left}
+use Rattle.std.proofs.lemmas.List.{take-append-drop, take-take, take_min, drop-take, length-take-le, length-drop, set-append_left}
 use Rattle.std.proofs.lemmas.List.{set-append_right, set_past, length-set, take_at, drop_at}
 use Rattle.pipe_frames.specs.Pipe.{Pipe, GivesPiece, waiting}
 use Rattle.pipe_frames.specs.Calls.{Flow, pipe_of, replaced, lying_pipe}

@@ -1,5 +1,5 @@
 -- What is read of a whole source, and written of a whole piece.
-use Rattle.std.specs.Prelude.{◌≡◌, ℕ, ◌≤◌, ◌<◌, List, [], ◌++◌, length, Option, Some, None, ⊤}
+use Rattle.std.specs.Prelude.{◌≡◌, ℕ, ◌-◌, ◌≤◌, ◌<◌, List, [], ◌++◌, length, take, Option, Some, None, option_map, ⊤}
 use Rattle.std.specs.Io.KnownBytes.{Appends, Consumes}
 
 -- the bytes are all that a source had left, and it has none left now
@@ -25,3 +25,7 @@ pub record WrotePart (before after : Option (List ℕ)) (text : List ℕ) : Type
   pub rest : List ℕ
   pub whole : text ≡ part ++ rest
   pub wrote : Appends before after part
+
+-- what a writer handed on of the bytes that it took, where it keeps the last of them
+abbrev pub handed_on : ℕ → Option (List ℕ) → Option (List ℕ)
+handed_on kept bytes = option_map (λ all. take (length all - kept) all) bytes

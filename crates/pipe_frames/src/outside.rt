@@ -23,7 +23,7 @@ pub enum OutErr {
 
 /// What bytes are read from.
 pub trait Source {
-    ghost use Rattle.pipe_frames.specs.Fault.{HasReadCause};
+    ghost use Rattle.pipe_frames.specs.Fault.{HasReadCause, next_count};
 
     // The bytes that reads will give from here on, where the source can tell.
     ghost left: { Self → Option (List ℕ) };
@@ -31,11 +31,15 @@ pub trait Source {
     // How often the source failed.
     ghost faults: { Self → ℕ };
 
+    // How often it was read.
+    ghost calls: { Self → ℕ };
+
     /// Moves the next bytes into the front of `buf` and answers their number. 0 into a buffer that is not empty is the end.
     fn read(&mut self, buf: &mut [u8]) -> Result<usize, Failed>
         ensures bound { ReadsAtMost result buf.new }
         ensures bytes { ReadConsumes (left self.old) (left self.new) result buf.new }
-        ensures cause { HasReadCause (faults self.old) (faults self.new) result };
+        ensures cause { HasReadCause (faults self.old) (faults self.new) result }
+        ensures counted { calls self.new ≡ next_count (calls self.old) };
 }
 
 /// What bytes are written to.

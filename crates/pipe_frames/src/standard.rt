@@ -1,22 +1,30 @@
-ghost use Rattle.std.specs.Prelude.{◌≡◌};
+ghost use Rattle.std.specs.Prelude.{◌≡◌, ◌≤◌, ◌<◌, length, take, IfSome, IfNone};
+ghost use Rattle.std.specs.Io.KnownBytes.{Appends, Keeps};
+ghost use Rattle.pipe_frames.specs.Whole.{handed_on};
 
 use crate::outside::{Failed, OutErr, Sink, Source};
 use std::io::{Read, Write};
 
-/// A source over a reader, as standard input.
+/// A source over a reader, as standard input: a read is one call of the reader.
 #[derive(Drop)]
 pub struct StdSource<R> {
     reader: R,
     faults: u64,
+    calls: u64,
 }
 
 impl<R: Read> StdSource<R> {
-    /// The reader as a source; no call has failed yet.
+    /// The reader as a source; it was not read yet.
     pub fn new(reader: R) -> StdSource<R>
         ensures faults { ⟦<StdSource<R> as Source>⟧.faults result ≡ 0 }
+        ensures calls { ⟦<StdSource<R> as Source>⟧.calls result ≡ 0 }
         ensures left { ⟦<StdSource<R> as Source>⟧.left result ≡ R.remaining reader }
     {
-        StdSource { reader, faults: 0 }
+        StdSource {
+            reader,
+            faults: 0,
+            calls: 0,
+        }
     }
 }
 
@@ -25,7 +33,10 @@ impl<R: Read> Source for StdSource<R> {
 
     ghost faults = { λ s. s.faults };
 
+    ghost calls = { λ s. s.calls };
+
     fn read(&mut self, buf: &mut [u8]) -> Result<usize, Failed> {
+        self.calls = self.calls.saturating_add(1);
         match self.reader.read(buf) {
             Ok(count) => Ok(count),
             Err(_) => {
@@ -36,11 +47,15 @@ impl<R: Read> Source for StdSource<R> {
     }
 }
 
-/// A sink over a writer, as standard output.
+/// A sink over a writer, as standard output: what it took was handed on before it answers, so a write is followed by a flush.
+///
+/// Where the writer took bytes and could not hand them on, the write fails, and so do all later ones: the writer may hold these
+/// bytes still, and nothing may come behind them. They count as not taken.
 #[derive(Drop)]
 pub struct StdSink<W> {
     writer: W,
     faults: u64,
+    kept: usize,
 }
 
 impl<W: Write> StdSink<W> {
@@ -49,19 +64,48 @@ impl<W: Write> StdSink<W> {
         ensures faults { ⟦<StdSink<W> as Sink>⟧.faults result ≡ 0 }
         ensures taken { ⟦<StdSink<W> as Sink>⟧.taken result ≡ W.contents writer }
     {
-        StdSink { writer, faults: 0 }
+        StdSink {
+            writer,
+            faults: 0,
+            kept: 0,
+        }
+    }
+
+    // Has the writer take bytes from the front of the piece and hand them on: their number, if both went well.
+    fn pass_on(&mut self, piece: &[u8]) -> Option<usize>
+        ensures bound { IfSome result (λ n. n ≤ length piece.now) }
+        ensures some { IfSome result (λ n. 0 < length piece.now → 0 < n) }
+        ensures bytes { IfSome result (λ n. Appends (handed_on self.old.kept (W.contents self.old.writer))
+            (handed_on self.new.kept (W.contents self.new.writer)) (take n piece.now)) }
+        ensures kept { IfNone result (Keeps (handed_on self.old.kept (W.contents self.old.writer))
+            (handed_on self.new.kept (W.contents self.new.writer))) }
+        ensures faults { self.new.faults ≡ self.old.faults }
+    {
+        if self.kept > 0 {
+            return None;
+        }
+        match self.writer.write(piece) {
+            Ok(count) if count > 0 || piece.is_empty() => match self.writer.flush() {
+                Ok(()) => Some(count),
+                Err(_) => {
+                    self.kept = count;
+                    None
+                }
+            },
+            _ => None,
+        }
     }
 }
 
 impl<W: Write> Sink for StdSink<W> {
-    ghost taken = { λ s. W.contents s.writer };
+    ghost taken = { λ s. handed_on s.kept (W.contents s.writer) };
 
     ghost faults = { λ s. s.faults };
 
     fn write(&mut self, piece: &[u8]) -> Result<usize, OutErr> {
-        match self.writer.write(piece) {
-            Ok(count) if count > 0 || piece.is_empty() => Ok(count),
-            _ => {
+        match self.pass_on(piece) {
+            Some(count) => Ok(count),
+            None => {
                 self.faults = self.faults.saturating_add(1);
                 Err(OutErr::Failed)
             }

@@ -31,6 +31,7 @@ pub fn read_all<S: Source>(alloc: Global, src: &mut S, limit: usize) -> Result<V
     ensures too_long { IsErrOf result ReadErr.TooLong → HasMoreThan (S.left src.old) limit }
     ensures later { S.faults src.old ≤ S.faults src.new }
     ensures failed { IsErrOf result ReadErr.Failed → Rose (S.faults src.old) (S.faults src.new) }
+    ensures answered { S.faults src.old < S.faults src.new → IsErrOf result ReadErr.Failed }
     ensures part { ReadPart (S.left src.old) (S.left src.new) (limit + 1) }
 {
     let mut buf = zeros(alloc, PIECE)?;
@@ -50,13 +51,16 @@ fn read_by<S: Source>(
     ensures too_long { IsErrOf result ReadErr.TooLong → HasMoreThan (S.left src.old) limit }
     ensures later { S.faults src.old ≤ S.faults src.new }
     ensures failed { IsErrOf result ReadErr.Failed → Rose (S.faults src.old) (S.faults src.new) }
+    ensures answered { S.faults src.old < S.faults src.new → IsErrOf result ReadErr.Failed }
     ensures part { ReadPart (S.left src.old) (S.left src.new) (limit + 1) }
 {
     let mut all = Vec::new(alloc);
     while all.len() <= limit {
         let room = buf.len().min((limit - all.len()).saturating_add(1));
-        if read_more(src, &mut buf[..room], &mut all)? == 0 {
-            return Ok(all);
+        match read_more(src, &mut buf[..room], &mut all) {
+            Ok(0) => return Ok(all),
+            Ok(_) => {}
+            Err(err) => return Err(err),
         }
     }
     Err(ReadErr::TooLong)
@@ -82,6 +86,7 @@ fn read_more<S: Source>(src: &mut S, buf: &mut [u8], all: &mut Vec<u8>) -> Resul
     ensures part { OnErr result (ReadPart (S.left src.old) (S.left src.new) (length buf.new)) }
     ensures later { S.faults src.old ≤ S.faults src.new }
     ensures failed { IsErrOf result ReadErr.Failed → Rose (S.faults src.old) (S.faults src.new) }
+    ensures answered { S.faults src.old < S.faults src.new → IsErrOf result ReadErr.Failed }
     ensures never { result ≢ Err ReadErr.TooLong }
 {
     match src.read(buf) {
@@ -101,8 +106,10 @@ pub fn write_all<K: Sink>(out: &mut K, piece: &[u8]) -> Result<(), OutErr>
 {
     let mut rest = piece;
     while !rest.is_empty() {
-        let count = out.write(rest)?;
-        rest = rest.split_at(count).1;
+        match out.write(rest) {
+            Ok(count) => rest = rest.split_at(count).1,
+            Err(err) => return Err(err),
+        }
     }
     Ok(())
 }

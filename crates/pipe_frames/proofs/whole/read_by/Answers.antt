@@ -3,7 +3,7 @@ use Rattle.std.proofs.lemmas.List.{length-take}
 use Rattle.pipe_frames.proofs.WholeLemmas.{ReadPart-after}
 use Rattle.pipe_frames.proofs.whole.read_by.Goals as goal
 
-pub returns-in_err-read_more-clause-part : goal.returns-in_err-read_more-clause-part
-returns-in_err-read_more-clause-part g c =
+pub returns-in-Err-clause-part : goal.returns-in-Err-clause-part
+returns-in-Err-clause-part g c =
     ReadPart-after _ _ _ c.loop-all.all.items (length c.read_more.new.buf) (c.args.limit + 1) c.loop-all.invariant.read
-    c.in_err-read_more.ensures.part (grind (arith, length-take))
+    c.in-Err.ensures.part (grind (arith, length-take))

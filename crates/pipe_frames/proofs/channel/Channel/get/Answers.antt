@@ -1,5 +1,5 @@
 -- All that waits is handed over.
-use Rattle.std.proofs.Common.{◌≡◌, ◌∙◌, ap, ◌+◌, ◌≤◌, length, length-append, arith}
+use Rattle.std.proofs.Common.{◌≡◌, ◌∙◌, ap, ◌≤◌, length, length-append, arith}
 use Rattle.pipe_frames.specs.Pipe.{waiting}
 use Rattle.pipe_frames.specs.Calls.{Flow, pipe_of}
 use Rattle.pipe_frames.proofs.FlowLemmas.{waiting-count}

@@ -1,4 +1,4 @@
-use Rattle.std.proofs.Common.{◌≡◌, ◌-◌, refl, ap, ◌∙◌, arith}
+use Rattle.std.proofs.Common.{refl, arith}
 use Rattle.pipe_frames.proofs.FlowLemmas.{Moves-lie}
 use Rattle.pipe_frames.proofs.lying.LyingLinkLink.get_down.Goals as goal
 
