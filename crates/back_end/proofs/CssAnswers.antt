@@ -14,9 +14,9 @@ use Rattle.cdp_messages.specs.declared.command.Command.TheVariants.{AskCss}
 use Rattle.cdp_messages.specs.declared.command.Why.{Why}
 use Rattle.cdp_messages.specs.declared.down.ReplyBody.TheVariants.{ClassNames}
 use Rattle.cdp_messages.specs.Asked.{method_name}
-use Rattle.cdp_messages.specs.Laws.{PairsHaveUtf8}
-use Rattle.cdp_messages.specs.Views.{shown_text}
-use Rattle.cdp_messages.specs.Moves.{Moves}
+use Rattle.node_tree.specs.Labels.{PairsHaveUtf8}
+use Rattle.client_views.specs.Views.{shown_text}
+use Rattle.client_views.specs.Moves.{Moves}
 use Rattle.cdp_messages.specs.declared.css_ask.CssAsk.{CssAsk}
 use Rattle.cdp_messages.specs.declared.css_ask.CssAsk.TheVariants as css
 use Rattle.css_agent.specs.Asks.{sheet_named, if_sheet, answer_move}

@@ -23,8 +23,8 @@ use Rattle.cdp_messages.specs.declared.dom_ask.DomAsk.TheVariants as ask
 use Rattle.cdp_messages.specs.declared.down.ReplyBody.TheVariants.{Nothing}
 use Rattle.cdp_messages.specs.Asked.{asked, method_name, fits_command}
 use Rattle.cdp_messages.specs.DomAsks.{ask_name, fits_ask}
-use Rattle.cdp_messages.specs.Views.{ShownSheet}
-use Rattle.cdp_messages.specs.Moves.{replied, all_off, failed, CanBeTold, Course, ends, goes}
+use Rattle.client_views.specs.Views.{ShownSheet}
+use Rattle.client_views.specs.Moves.{replied, all_off, failed, CanBeTold, Course, ends, goes}
 use Rattle.cdp_messages.specs.declared.css_ask.CssAsk.{CssAsk}
 use Rattle.cdp_messages.specs.declared.css_ask.CssAsk.TheVariants as css
 use Rattle.cdp_messages.specs.declared.css_edit.CssEdit.{CssEdit}

@@ -6,7 +6,7 @@ use Rattle.node_binding.specs.Sessions.{Session}
 use Rattle.cdp_messages.specs.declared.command.Why.{Why}
 use Rattle.cdp_messages.specs.declared.command.Why.TheVariants.{DomOff, CssOff}
 use Rattle.cdp_messages.specs.declared.dom_ask.DomAsk.{DomAsk}
-use Rattle.cdp_messages.specs.Moves.{frames_of_moves}
+use Rattle.client_views.specs.Moves.{frames_of_moves}
 use Rattle.cdp_messages.specs.declared.css_ask.CssAsk.{CssAsk}
 use Rattle.std.specs.Result.{OnOk}
 use Rattle.dom_agent.specs.Requests.{Outcome, shows_root, served, refused}

@@ -20,7 +20,7 @@ use Rattle.node_binding.proofs.StartLemmas.{distinct-alone}
 use Rattle.cdp_messages.specs.declared.down.PauseData.{PauseData}
 use Rattle.cdp_messages.specs.declared.down.PauseData.TheVariants as told_pause
 use Rattle.pipe_frames.specs.Frames.{framed}
-use Rattle.cdp_messages.specs.Moves.{Move, met, frames_of_moves, move_text}
+use Rattle.client_views.specs.Moves.{Move, met, frames_of_moves, move_text}
 use Rattle.dom_agent.specs.Keepers.{session_keeper}
 use Rattle.dom_agent.specs.Requests.{Opening, pushing, all_opened, pushed}
 use Rattle.dom_agent.proofs.OpeningsLemmas.{AreOpenings, pushing-are}

@@ -20,7 +20,7 @@ use Rattle.node_binding.specs.Sessions.{Session, session_ids, cut_by}
 use Rattle.node_binding.proofs.PairLemmas.{find-there}
 use Rattle.node_binding.proofs.SessionLemmas.{times-known}
 use Rattle.node_binding.proofs.StartLemmas.{distinct-alone}
-use Rattle.cdp_messages.specs.Moves.{met, AreShown, paused_nodes}
+use Rattle.client_views.specs.Moves.{met, AreShown, paused_nodes}
 use Rattle.dom_agent.specs.Requests.{pushing}
 use Rattle.dom_agent.proofs.KnownLemmas.{pushed-known}
 use Rattle.dom_agent.proofs.OpeningsLemmas.{opened_all-grows}

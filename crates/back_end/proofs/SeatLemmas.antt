@@ -7,7 +7,7 @@ use Rattle.node_binding.specs.Bindings.{Stands, cleared}
 use Rattle.node_binding.specs.Sessions.{Session, reset}
 use Rattle.node_binding.proofs.StandsLemmas.{Stands-reset}
 use Rattle.cdp_messages.specs.DomAsks.{fits_ask}
-use Rattle.cdp_messages.specs.Moves.{frames_of_moves}
+use Rattle.client_views.specs.Moves.{frames_of_moves}
 use Rattle.cdp_messages.specs.declared.dom_ask.DomAsk.{DomAsk}
 use Rattle.cdp_messages.specs.declared.dom_ask.DomAsk.TheVariants.{GetDocument, RequestChildNodes, PushByPath, PushBySerials, QuerySelector}
 use Rattle.cdp_messages.specs.declared.dom_ask.DomAsk.TheVariants.{QuerySelectorAll, GetAttributes, DescribeNode}

@@ -27,8 +27,8 @@ use Rattle.cdp_messages.specs.declared.down.ReplyBody.TheVariants.{Nothing, Shee
 use Rattle.pipe_frames.specs.Frames.{framed}
 use Rattle.cdp_messages.specs.Events.{News, sheet_added, sheet_removed}
 use Rattle.cdp_messages.specs.Replies.{Message, event, event_text, reply_text}
-use Rattle.cdp_messages.specs.Views.{ShownSheet, sheet_header}
-use Rattle.cdp_messages.specs.Moves.{Move, clear, added, dropped, replied, message_of, move_text, frames_of_moves}
+use Rattle.client_views.specs.Views.{ShownSheet, sheet_header}
+use Rattle.client_views.specs.Moves.{Move, clear, added, dropped, replied, message_of, move_text, frames_of_moves}
 use Rattle.cascade_match.proofs.MatchLemmas.{drop-at}
 use Rattle.cdp_messages.specs.declared.css_ask.CssAsk.{CssAsk}
 use Rattle.cdp_messages.specs.declared.css_ask.CssAsk.TheVariants as css

@@ -25,7 +25,7 @@ use Rattle.page_tree.proofs.FaultLemmas.{move_live}
 use Rattle.page_tree.proofs.InsertLemmas.{copy-leads}
 use Rattle.page_tree.proofs.MoveLemmas.{move-leads}
 use Rattle.cdp_messages.specs.declared.command.Why.{Why}
-use Rattle.cdp_messages.specs.Moves.{Move as Told, frames_of_moves, move_text}
+use Rattle.client_views.specs.Moves.{Move as Told, frames_of_moves, move_text}
 use Rattle.pipe_frames.specs.Frames.{framed}
 use Rattle.cdp_messages.specs.declared.dom_edit.DomEdit.{DomEdit}
 use Rattle.back_end.specs.declared.node_edits.NodeEdit.{NodeEdit}

@@ -20,7 +20,7 @@ use Rattle.node_binding.specs.Sessions.{Session, session_ids}
 use Rattle.cdp_messages.specs.declared.command.Why.{Why}
 use Rattle.cdp_messages.specs.declared.command.Why.TheVariants.{UnknownNode}
 use Rattle.cdp_messages.specs.declared.down.ReplyBody.TheVariants.{Nothing, NodeId}
-use Rattle.cdp_messages.specs.Moves.{replied, Course}
+use Rattle.client_views.specs.Moves.{replied, Course}
 use Rattle.sheet_reader.specs.declared.book.SheetEntry.{SheetEntry}
 use Rattle.dom_agent.proofs.StepLemmas.{is_small, ids-below}
 use Rattle.cdp_messages.specs.declared.dom_edit.DomEdit.{DomEdit}

@@ -8,10 +8,10 @@ use Rattle.cdp_messages.specs.declared.command.Asked.{Asked}
 use Rattle.cdp_messages.specs.declared.command.Refused.{Refused}
 use Rattle.cdp_messages.specs.Asked.{asked, method_name}
 use Rattle.cdp_messages.specs.Laws.{answers}
-use Rattle.cdp_messages.specs.declared.effects.Effect.TheVariants.{NothingElse}
-use Rattle.cdp_messages.specs.Effects.{effect_of_method}
-use Rattle.cdp_messages.specs.Moves.{Move, change, clear, met, added, dropped, rewritten, root, texted, replied, all_off, sheets_off}
-use Rattle.cdp_messages.specs.Moves.{failed, Course}
+use Rattle.client_views.specs.declared.effects.Effect.TheVariants.{NothingElse}
+use Rattle.client_views.specs.Effects.{effect_of_method}
+use Rattle.client_views.specs.Moves.{Move, change, clear, met, added, dropped, rewritten, root, texted, replied, all_off, sheets_off}
+use Rattle.client_views.specs.Moves.{failed, Course}
 use Rattle.css_objects.specs.Sheets.{sheet_in}
 use Rattle.cdp_messages.specs.declared.command.Command.{Command}
 use Rattle.cdp_messages.specs.declared.css_ask.CssAsk.{CssAsk}

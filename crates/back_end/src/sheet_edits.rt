@@ -1,6 +1,6 @@
 // A client's edits of sheets.
 ghost use Rattle.std.specs.Prelude.{◌≡◌, ◌+◌, ◌<◌, ◌^◌, ◌++◌, map, length, OnOk};
-ghost use Rattle.cdp_messages.specs.Moves.{frames_of_moves};
+ghost use Rattle.client_views.specs.Moves.{frames_of_moves};
 ghost use Rattle.css_agent.specs.EditLaws.{HasEditTexts};
 ghost use Rattle.undo_marks.specs.Marks.{entry_count, noted_singly};
 ghost use Rattle.undo_marks.specs.declared.inverse_lists.Inverse.TheVariants as kept;

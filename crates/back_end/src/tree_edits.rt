@@ -6,7 +6,7 @@ ghost use Rattle.undo_marks.specs.Changes.{back_all};
 ghost use Rattle.undo_marks.specs.Marks.{entry_count, noted, noted_singly};
 ghost use Rattle.undo_marks.specs.SavedEdits.{saved_of, page_after, way_back};
 ghost use Rattle.undo_marks.specs.declared.inverse_lists.Inverse.TheVariants as kept;
-ghost use Rattle.cdp_messages.specs.Moves.{frames_of_moves};
+ghost use Rattle.client_views.specs.Moves.{frames_of_moves};
 ghost use Rattle.back_end.specs.declared.node_edits.NodeEdit.TheVariants.{MoveNode, CopyNode};
 ghost use Rattle.back_end.specs.States.{State};
 ghost use Rattle.back_end.specs.Plans.{node_edit_fault, node_edit_plan, node_put};

@@ -1,5 +1,5 @@
 -- Events are read as they are written.
-use Rattle.std.proofs.Common.{◌≡◌, ℕ, Bool, true, Option, Some, None, option_map, option_and_then, refl, sym, ap, ◌∙◌, subst}
+use Rattle.std.proofs.Common.{◌≡◌, ℕ, Bool, true, Option, Some, None, option_map, option_and_then, refl, sym, ap, ◌∙◌, subst, lt-ltb}
 use Rattle.std.specs.Prelude.{nat_lt, ⊤}
 use Rattle.serde_json.specs.Data.{Data, Items, no_items, item}
 use Rattle.node_tree.specs.Names.{is_attribute_name}
@@ -19,14 +19,18 @@ use Rattle.cdp_messages.specs.declared.event_names.EventName.{EventName}
 use Rattle.cdp_messages.specs.declared.event_names.EventName.TheVariants as name
 use Rattle.cdp_messages.specs.Events.{News, attribute_modified, attribute_removed, text_modified, count_updated, inserted, removed}
 use Rattle.cdp_messages.specs.Events.{set_children, document_updated, sheet_added, sheet_changed, sheet_removed, paused, event_name}
-use Rattle.cdp_messages.specs.Events.{all_events, event_named, shows_no_children, node_id, attribute_name, modified_kind, dropped_kind}
+use Rattle.cdp_messages.specs.Events.{all_events, event_named, node_id, attribute_name, modified_kind, dropped_kind}
+use Rattle.dom_objects.specs.NodeKinds.{shows_no_children}
 use Rattle.cdp_messages.specs.Events.{data_kind, count_kind, inserted_kind, removed_kind, children_kind, added_kind, sheet_id_kind}
 use Rattle.cdp_messages.specs.Events.{empty_kind, watch_name, all_watches, watch, pause_fields, pause_by, pause_from, pause_kind}
 use Rattle.cdp_messages.specs.Events.{paused_kind, NewsForm, news_form_of, news_form, envelope, news_data, fits_news, news_by, news_of_name}
 use Rattle.cdp_messages.specs.Events.{news_inside, news_in, no_call_frames}
 use Rattle.css_objects.specs.Styles.{has_none}
-use Rattle.cdp_messages.proofs.Options.{and_then_some, map_some}
-use Rattle.cdp_messages.proofs.NodeTrees.{nodes_lawful, tree_lawful}
+use Rattle.cdp_json.proofs.Options.{and_then_some, map_some, both}
+use Rattle.dom_objects.proofs.NodeTrees.{nodes_lawful, tree_lawful}
+use Rattle.dom_objects.specs.Told.{told_nodes}
+use Rattle.cdp_messages.specs.Laws.{ShownChildrenFit}
+use Rattle.dom_objects.proofs.TellableLaws.{fits-told_nodes}
 
 -- ---- the parameters
 
@@ -218,3 +222,8 @@ news_take d n e =
 
 pub news_plain : (n : News) → fits_news n ≡ true → is_plain (news_data n) ≡ true
 news_plain n f = envelope_lawful.plain (event_name (news_form n).name, ((news_form n).params, tt)) refl (news_params_plain n f)
+
+pub shown_children_fit : ShownChildrenFit
+shown_children_fit p n c z s =
+    let positive : nat_lt 0 p ≡ true = lt-ltb 0 p z in
+    both (fits-told_nodes p n c positive s) (both (both c positive) refl)

@@ -1,5 +1,5 @@
 -- Events: what the back end tells unasked.
-use Rattle.std.specs.Prelude.{ℕ, List, [], ◌∷◌, codes, Bool, true, false, not, nat_lt, Option, Some, None, option_map, option_and_then, ⊤}
+use Rattle.std.specs.Prelude.{ℕ, List, [], ◌∷◌, codes, Bool, true, false, nat_lt, Option, Some, None, option_map, option_and_then, ⊤}
 use Rattle.std.specs.Borrow.{Bor}
 use Rattle.serde_json.specs.Data.{Data, null, boolean, number, string, array, object, Items, no_items}
 use Rattle.serde_json.specs.View.{view, items_view}
@@ -8,7 +8,6 @@ use Rattle.cdp_json.specs.Kinds.{Kind, whole, text, flag, anything, any_items, o
 use Rattle.cdp_json.specs.Rows.{ends, and_need, and_may, object_of, unit_if}
 use Rattle.node_tree.specs.Names.{is_attribute_name}
 use Rattle.node_tree.specs.Nodes.{Nodes, Branch, nodes_of}
-use Rattle.node_tree.specs.Seen.{is_opened}
 use Rattle.cdp_messages.specs.declared.command.WatchWord.{WatchWord}
 use Rattle.cdp_messages.specs.declared.command.WatchWord.TheVariants.{Subtree, Attribute, Removed}
 use Rattle.cdp_messages.specs.declared.down.Event.{Event}
@@ -22,10 +21,9 @@ use Rattle.cdp_messages.specs.declared.down.PauseData.{PauseData}
 use Rattle.cdp_messages.specs.declared.down.PauseData.TheVariants as pause
 use Rattle.cdp_messages.specs.declared.event_names.EventName.{EventName}
 use Rattle.cdp_messages.specs.declared.event_names.EventName.TheVariants as name
-use Rattle.cdp_messages.specs.declared.node_rules.Manner.TheVariants.{Pushed}
-use Rattle.cdp_messages.specs.Told.{Told}
-use Rattle.cdp_messages.specs.NodeData.{tree_data, tree_told, tree_items, trees_told, fits_tree, fits_nodes}
+use Rattle.dom_objects.specs.Told.{Told}
 use Rattle.css_objects.specs.Styles.{has_none}
+use Rattle.dom_objects.specs.NodeKinds.{nodes_kind, bare_kind}
 
 -- what an event tells
 pub data News : Type 0 where
@@ -107,22 +105,6 @@ abbrev pub event_named : List ℕ → Option EventName
 event_named = named event_name all_events
 
 -- ---- the parameters
-
--- nodes that are no document, each with all that is shown of it
-abbrev pub nodes_kind : Kind (Nodes Told)
-nodes_kind = record { spell = λ n. array (tree_items n); reads = trees_told Pushed; fits = fits_nodes; loose = None }
-
--- one such node
-abbrev pub tree_kind : Kind (Branch Told)
-tree_kind = record { spell = tree_data; reads = tree_told Pushed false; fits = fits_tree false; loose = None }
-
--- no children are shown
-abbrev pub shows_no_children : Branch Told → Bool
-shows_no_children b = not (is_opened b.row.seen.hold)
-
--- one such node, none of whose children are shown
-abbrev pub bare_kind : Kind (Branch Told)
-bare_kind = refined tree_kind shows_no_children
 
 -- an id of a node: from 1
 abbrev pub node_id : Kind ℕ

@@ -17,7 +17,7 @@ use Rattle.cdp_messages.specs.declared.down.ReplyBody.TheVariants.{Styles, Selec
 use Rattle.cdp_messages.specs.declared.method.Method.{Method}
 use Rattle.cdp_messages.specs.declared.result_forms.ResultForm.{ResultForm}
 use Rattle.cdp_messages.specs.declared.result_forms.ResultForm.TheVariants as form
-use Rattle.cdp_messages.specs.NodeData.{fits_tree, fits_described_tree}
+use Rattle.dom_objects.specs.NodeData.{fits_tree, fits_described_tree}
 use Rattle.cdp_messages.specs.Methods.{method_named}
 use Rattle.cdp_messages.specs.Refusals.{code_of, refusal_words}
 use Rattle.cdp_messages.specs.Asked.{json_of}

@@ -15,13 +15,12 @@ use Rattle.cdp_messages.specs.declared.method.Method.TheVariants.{RemoveNode, Mo
 use Rattle.cdp_messages.specs.declared.method.Method.TheVariants.{CssDisable, GetMatchedStyles, GetStyleSheetText, CollectClassNames}
 use Rattle.cdp_messages.specs.declared.method.Method.TheVariants.{SetStyleTexts, SetRuleSelector, SetStyleSheetText, AddRule, SetBreakpoint}
 use Rattle.cdp_messages.specs.declared.method.Method.TheVariants.{RemoveBreakpoint, ReplayLoad, ReplayAct}
-use Rattle.cdp_messages.specs.declared.node_rules.Manner.TheVariants.{Pushed, Described}
 use Rattle.cdp_messages.specs.declared.result_forms.ResultForm.{ResultForm}
 use Rattle.cdp_messages.specs.declared.result_forms.ResultForm.TheVariants as form
-use Rattle.cdp_messages.specs.Told.{Told}
-use Rattle.cdp_messages.specs.NodeObject.{attribute_list}
-use Rattle.cdp_messages.specs.NodeData.{tree_data, tree_told, fits_tree, fits_described_tree}
+use Rattle.dom_objects.specs.Told.{Told}
+use Rattle.dom_objects.specs.NodeObject.{attribute_list}
 use Rattle.cdp_messages.specs.Events.{is_object}
+use Rattle.dom_objects.specs.NodeKinds.{document_kind, described_kind}
 
 -- ---- kinds
 
@@ -29,17 +28,9 @@ use Rattle.cdp_messages.specs.Events.{is_object}
 abbrev pub nothing_kind : Kind ⊤
 nothing_kind = record { spell = λ _. object no_members; reads = λ d. unit_if (is_object d); fits = λ _. true; loose = None }
 
--- a document with all that is shown of it
-abbrev pub document_kind : Kind (Branch Told)
-document_kind = record { spell = tree_data; reads = tree_told Pushed true; fits = fits_tree true; loose = None }
-
 -- of `DOM.getDocument`: the document
 abbrev pub root_kind : Kind (Branch Told × ⊤)
 root_kind = object_of (and_need (codes "root") document_kind ends)
-
--- a node that is described alone, with all that is shown of it
-abbrev pub described_kind : Kind (Branch Told)
-described_kind = record { spell = tree_data; reads = tree_told Described true; fits = fits_described_tree; loose = None }
 
 -- of `DOM.describeNode`: the node
 abbrev pub node_kind : Kind (Branch Told × ⊤)

@@ -13,7 +13,7 @@ use Rattle.cdp_messages.specs.declared.command.Why.{Why}
 use Rattle.cdp_messages.specs.declared.command.Why.TheVariants.{NoSheet}
 use Rattle.cdp_messages.specs.declared.down.ReplyBody.{ReplyBody}
 use Rattle.cdp_messages.specs.declared.down.ReplyBody.TheVariants as body
-use Rattle.cdp_messages.specs.Moves.{Move, replied, failed}
+use Rattle.client_views.specs.Moves.{Move, replied, failed}
 use Rattle.cdp_messages.specs.declared.css_ask.CssAsk.{CssAsk}
 use Rattle.cdp_messages.specs.declared.css_ask.CssAsk.TheVariants as ask
 use Rattle.css_agent.specs.ClassNames.{class_names}

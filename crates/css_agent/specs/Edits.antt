@@ -20,7 +20,7 @@ use Rattle.style_edits.specs.EditedRules.{edited_rule, edited_rules}
 use Rattle.cdp_messages.specs.declared.down.ReplyBody.{ReplyBody}
 use Rattle.cdp_messages.specs.declared.down.ReplyBody.TheVariants as body
 use Rattle.cdp_messages.specs.declared.edits.TextEdit.{TextEdit}
-use Rattle.cdp_messages.specs.Moves.{Move, rewritten, replied}
+use Rattle.client_views.specs.Moves.{Move, rewritten, replied}
 use Rattle.cdp_messages.specs.declared.css_edit.CssEdit.{CssEdit}
 use Rattle.cdp_messages.specs.declared.css_edit.CssEdit.TheVariants as edit
 use Rattle.css_agent.specs.RuleObjects.{told_rule}

@@ -1,5 +1,5 @@
 ghost use Rattle.std.specs.Prelude.{◌≡◌, ◌++◌, [], ◌∷◌, false, Ok, Err, IfOk, OnOk, OnErr};
-ghost use Rattle.cdp_messages.specs.Moves.{frames_of_moves};
+ghost use Rattle.client_views.specs.Moves.{frames_of_moves};
 ghost use Rattle.cdp_messages.specs.Events.{news_of};
 ghost use Rattle.style_edits.specs.Edits.{IfFault};
 ghost use Rattle.css_agent.specs.Told.{turn_messages, event_messages, message_frames};

@@ -8,8 +8,8 @@ use Rattle.page_tree.specs.declared.edits.TreeEdit.{TreeEdit}
 use Rattle.node_binding.specs.Sessions.{Session, IsSession}
 use Rattle.node_binding.specs.Bindings.{BindingValue}
 use Rattle.node_binding.specs.Changes.{BindingStandsFor}
-use Rattle.cdp_messages.specs.Views.{ShownSheet}
-use Rattle.cdp_messages.specs.Moves.{Course}
+use Rattle.client_views.specs.Views.{ShownSheet}
+use Rattle.client_views.specs.Moves.{Course}
 use Rattle.dom_agent.specs.Keepers.{session_keeper, binding_keeper}
 use Rattle.dom_agent.specs.Edits.{Edited, edited}
 use Rattle.dom_agent.specs.Laws.{CanTell, CanTellSheets, session_view}

@@ -4,7 +4,7 @@ use Rattle.std.specs.Prelude.{option_map, option_and_then, bytes_eq}
 use Rattle.std.specs.List.{list_all, onto_first}
 use Rattle.node_tree.specs.Nodes.{Nodes, Branch, tree_at}
 use Rattle.page_tree.specs.Pages.{PageRow}
-use Rattle.cdp_messages.specs.NodeObject.{node_name}
+use Rattle.dom_objects.specs.NodeObject.{node_name}
 
 -- the stretches between commas
 abbrev pub parts_of : List ℕ → List (List ℕ)

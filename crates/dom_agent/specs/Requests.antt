@@ -15,7 +15,7 @@ use Rattle.cdp_messages.specs.declared.command.Why.{Why}
 use Rattle.cdp_messages.specs.declared.command.Why.TheVariants.{UnknownNode, NotPushed, NoPath, NotElement}
 use Rattle.cdp_messages.specs.declared.down.ReplyBody.{ReplyBody}
 use Rattle.cdp_messages.specs.declared.down.ReplyBody.TheVariants.{Nothing, Node, NodeId, NodeIds, Attributes}
-use Rattle.cdp_messages.specs.Moves.{Move, change, root, replied, failed, shows, frames_of_moves}
+use Rattle.client_views.specs.Moves.{Move, change, root, replied, failed, shows, frames_of_moves}
 use Rattle.dom_agent.specs.Keepers.{Keeper}
 use Rattle.dom_agent.specs.Paths.{node_at_path}
 use Rattle.dom_agent.specs.Described.{described}

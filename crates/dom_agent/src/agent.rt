@@ -10,7 +10,7 @@ ghost use Rattle.node_binding.specs.Bindings.{empty_from, cleared, id_in};
 ghost use Rattle.cdp_messages.specs.DomAsks.{fits_ask};
 ghost use Rattle.cdp_messages.specs.declared.dom_ask.DomAsk.TheVariants.{GetDocument, RequestChildNodes, PushByPath, PushBySerials};
 ghost use Rattle.cdp_messages.specs.declared.dom_ask.DomAsk.TheVariants.{QuerySelector, QuerySelectorAll, GetAttributes, DescribeNode};
-ghost use Rattle.cdp_messages.specs.Moves.{replied, failed, frames_of_moves};
+ghost use Rattle.client_views.specs.Moves.{replied, failed, frames_of_moves};
 ghost use Rattle.dom_agent.specs.Keepers.{binding_keeper};
 ghost use Rattle.dom_agent.specs.Queries.{query_seen};
 ghost use Rattle.dom_agent.specs.Requests.{state_after, answer, pushed, all_pushed, with_id, with_ids, first_asked, all_asked, frames_told};

@@ -6,7 +6,7 @@ ghost use Rattle.page_tree.specs.Edits.{after, back_tree, children_at};
 ghost use Rattle.page_tree.specs.EditFaults.{first_fault, CanAttach, IsReady, RefusesEdit};
 ghost use Rattle.page_tree.specs.declared.edits.TreeEdit.TheVariants.{Attach, Detach};
 ghost use Rattle.node_binding.specs.Bindings.{id_in};
-ghost use Rattle.cdp_messages.specs.Moves.{sets, drops, says, frames_of_moves};
+ghost use Rattle.client_views.specs.Moves.{sets, drops, says, frames_of_moves};
 ghost use Rattle.dom_agent.specs.Keepers.{binding_keeper};
 ghost use Rattle.dom_agent.specs.Edits.{id_before, told_where_known, told_count, family, insertion, child_came, edited, event_frames};
 ghost use Rattle.dom_agent.specs.Edits.{OnFault};

@@ -7,17 +7,17 @@ use Rattle.node_tree.specs.declared.Kind.TheVariants as kind
 use Rattle.node_tree.specs.Nodes.{Nodes, none, node, Branch, alone, height, is_no_node}
 use Rattle.node_tree.specs.Names.{is_attribute_name}
 use Rattle.node_tree.specs.Labels.{Pair, Label, is_document, is_element, has_value, is_ascending, is_formed_label, is_named_label}
-use Rattle.cdp_messages.specs.LabelChanges.{placed, pairs_without, with_attribute, without_attribute, with_value}
+use Rattle.node_tree.specs.LabelChanges.{placed, pairs_without, with_attribute, without_attribute, with_value}
 use Rattle.node_tree.specs.Keys.{Spot, tally, tally_in, find, spot, put, At, here, within, past, first_true}
 use Rattle.node_tree.specs.Seen.{Seen, Hold, leaf, counted, opened, is_opened, shows_count, seen_id, seen_serial}
 use Rattle.node_tree.proofs.KeyLemmas.{tally-at, height-at, height_above-at}
 use Rattle.node_tree.proofs.ChangeLemmas.{at-old}
 use Rattle.node_tree.proofs.PairLemmas.{is_ascending-placed, names-placed, names-without, ascending-without}
-use Rattle.cdp_messages.specs.Told.{seen_nodes}
-use Rattle.cdp_messages.specs.NodeData.{fits_nodes}
-use Rattle.cdp_messages.specs.Moves.{Change, shows, inserts, removes, counts, sets, drops, says, changed, suits_change, has_tree, put_after}
-use Rattle.cdp_messages.specs.Moves.{without_tree, has_named_attribute}
-use Rattle.cdp_messages.specs.Views.{IsMirror, is_bare, has_formed_labels, is_document_tree}
+use Rattle.dom_objects.specs.Told.{seen_nodes}
+use Rattle.dom_objects.specs.NodeData.{fits_nodes}
+use Rattle.client_views.specs.Moves.{Change, shows, inserts, removes, counts, sets, drops, says, changed, suits_change, has_tree, put_after}
+use Rattle.client_views.specs.Moves.{without_tree, has_named_attribute}
+use Rattle.client_views.specs.Views.{IsMirror, is_bare, has_formed_labels, is_document_tree}
 use Rattle.node_tree.specs.Levels.{most_levels}
 use Rattle.front_mirror.specs.declared.faults.FrontKind.{FrontKind}
 use Rattle.front_mirror.specs.declared.edits.NodeEdit.{NodeEdit}

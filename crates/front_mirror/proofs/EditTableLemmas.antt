@@ -9,10 +9,10 @@ use Rattle.node_tree.specs.Arena.{Keeps, IsFiled}
 use Rattle.node_tree.specs.Seen.{Seen, is_opened, seen_id}
 use Rattle.node_tree.proofs.KeyLemmas.{height_above-at}
 use Rattle.node_tree.proofs.ChangeLemmas.{at-old}
-use Rattle.cdp_messages.specs.Told.{seen_branch}
-use Rattle.cdp_messages.specs.Views.{IsMirror, is_in}
+use Rattle.dom_objects.specs.Told.{seen_branch}
+use Rattle.client_views.specs.Views.{IsMirror, is_in}
 use Rattle.node_tree.specs.Levels.{most_levels}
-use Rattle.cdp_messages.specs.Moves.{changed, suits_change, has_tree}
+use Rattle.client_views.specs.Moves.{changed, suits_change, has_tree}
 use Rattle.front_mirror.specs.declared.edits.NodeEdit.{NodeEdit}
 use Rattle.front_mirror.specs.declared.edits.NodeEdit.TheVariants as edit
 use Rattle.front_mirror.specs.declared.slots.Slot.{Slot}

@@ -8,16 +8,16 @@ use Rattle.node_tree.specs.Seen.{Seen, seen_id}
 use Rattle.pipe_frames.specs.Frames.{Frames, frames_of, frames_from, held_after}
 use Rattle.pipe_frames.proofs.FrameLemmas.{frames_of-append}
 use Rattle.cdp_messages.specs.declared.down.ReplyBody.{ReplyBody}
-use Rattle.cdp_messages.specs.declared.effects.Effect.{Effect}
-use Rattle.cdp_messages.specs.declared.effects.Effect.TheVariants as effect
-use Rattle.cdp_messages.specs.Effects.{effect_of}
-use Rattle.cdp_messages.specs.Told.{Told, seen_nodes, seen_branch}
+use Rattle.client_views.specs.declared.effects.Effect.{Effect}
+use Rattle.client_views.specs.declared.effects.Effect.TheVariants as effect
+use Rattle.client_views.specs.Effects.{effect_of}
+use Rattle.dom_objects.specs.Told.{Told, seen_nodes, seen_branch}
 use Rattle.cdp_messages.specs.Events.{News, attribute_modified, attribute_removed, text_modified, count_updated, inserted, removed}
 use Rattle.cdp_messages.specs.Events.{set_children, document_updated, paused, sheet_added, sheet_changed, sheet_removed}
 use Rattle.cdp_messages.specs.Replies.{Message, reply, fault, event, down_of, result_of}
 use Rattle.std.specs.List.{list_all}
 use Rattle.cdp_messages.specs.declared.down.PauseData.{PauseData}
-use Rattle.cdp_messages.specs.Moves.{changed, shows, inserts, removes, counts, sets, drops, says, paused_nodes}
+use Rattle.client_views.specs.Moves.{changed, shows, inserts, removes, counts, sets, drops, says, paused_nodes}
 use Rattle.front_mirror.specs.declared.replies.Ask.{Ask}
 use Rattle.front_mirror.specs.declared.replies.Kept.{Kept}
 use Rattle.front_mirror.specs.declared.faults.FrontKind.TheVariants.{UnknownNode, IdTaken, UnknownSheet}

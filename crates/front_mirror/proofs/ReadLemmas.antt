@@ -8,10 +8,10 @@ use Rattle.node_tree.specs.Keys.{Spot, has, find, spot, level_of, parent_of}
 use Rattle.node_tree.specs.Labels.{is_element, has_value}
 use Rattle.node_tree.specs.Seen.{Seen, is_opened, shows_count, seen_id, seen_serial}
 use Rattle.node_tree.proofs.KeyLemmas.{has-find, found_key}
-use Rattle.cdp_messages.specs.Told.{count_in}
-use Rattle.cdp_messages.specs.Views.{IsMirror, is_in}
+use Rattle.dom_objects.specs.Told.{count_in}
+use Rattle.client_views.specs.Views.{IsMirror, is_in}
 use Rattle.node_tree.specs.Levels.{most_levels}
-use Rattle.cdp_messages.specs.Moves.{Change, shows, inserts, removes, counts, sets, drops, says, suits_change}
+use Rattle.client_views.specs.Moves.{Change, shows, inserts, removes, counts, sets, drops, says, suits_change}
 use Rattle.front_mirror.specs.declared.edits.NodeEdit.{NodeEdit}
 use Rattle.front_mirror.specs.declared.faults.FrontKind.{FrontKind}
 use Rattle.front_mirror.specs.declared.faults.FrontKind.TheVariants.{UnknownNode}

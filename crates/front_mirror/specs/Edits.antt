@@ -5,11 +5,11 @@ use Rattle.node_tree.specs.Nodes.{Nodes, none, Branch, nodes_of, alone}
 use Rattle.node_tree.specs.Keys.{Spot, find, put}
 use Rattle.node_tree.specs.Labels.{is_formed_label}
 use Rattle.node_tree.specs.Seen.{Seen, seen_id}
-use Rattle.cdp_messages.specs.Told.{Told, seen_nodes, seen_branch}
-use Rattle.cdp_messages.specs.Moves.{Change, shows, inserts, removes, counts, sets, drops, says, changed, suits_change, has_named_attribute}
-use Rattle.cdp_messages.specs.NodeData.{fits_tree, fits_nodes}
-use Rattle.cdp_messages.specs.declared.effects.Effect.{Effect}
-use Rattle.cdp_messages.specs.declared.effects.Effect.TheVariants as effect
+use Rattle.dom_objects.specs.Told.{Told, seen_nodes, seen_branch}
+use Rattle.client_views.specs.Moves.{Change, shows, inserts, removes, counts, sets, drops, says, changed, suits_change, has_named_attribute}
+use Rattle.dom_objects.specs.NodeData.{fits_tree, fits_nodes}
+use Rattle.client_views.specs.declared.effects.Effect.{Effect}
+use Rattle.client_views.specs.declared.effects.Effect.TheVariants as effect
 use Rattle.front_mirror.specs.declared.edits.NodeEdit.{NodeEdit}
 use Rattle.front_mirror.specs.declared.edits.NodeEdit.TheVariants as edit
 use Rattle.front_mirror.specs.declared.faults.FrontKind.{FrontKind}

@@ -13,13 +13,13 @@ use Rattle.std.specs.List.{list_all}
 use Rattle.pipe_frames.specs.Frames.{frames_from, held_after}
 use Rattle.cdp_messages.specs.declared.down.ReplyBody.{ReplyBody}
 use Rattle.cdp_messages.specs.declared.down.ReplyBody.TheVariants as body
-use Rattle.cdp_messages.specs.declared.effects.Effect.{Effect}
-use Rattle.cdp_messages.specs.declared.effects.Effect.TheVariants as effect
-use Rattle.cdp_messages.specs.Effects.{effect_of}
+use Rattle.client_views.specs.declared.effects.Effect.{Effect}
+use Rattle.client_views.specs.declared.effects.Effect.TheVariants as effect
+use Rattle.client_views.specs.Effects.{effect_of}
 use Rattle.cdp_messages.specs.declared.command.WatchWord.TheVariants.{Subtree, Attribute, Removed}
 use Rattle.cdp_messages.specs.declared.down.PauseData.{PauseData}
 use Rattle.cdp_messages.specs.declared.down.PauseData.TheVariants as pause
-use Rattle.cdp_messages.specs.Told.{Told, seen_nodes, seen_branch}
+use Rattle.dom_objects.specs.Told.{Told, seen_nodes, seen_branch}
 use Rattle.cdp_messages.specs.Replies.{Message, reply, fault, event, down_of, result_of}
 use Rattle.cdp_messages.specs.Events.{News, attribute_modified, attribute_removed, text_modified, count_updated, inserted, removed}
 use Rattle.cdp_messages.specs.Events.{set_children, document_updated, paused, sheet_added, sheet_changed, sheet_removed}
@@ -30,8 +30,8 @@ use Rattle.front_mirror.specs.declared.pauses.SeenPause.{SeenPause}
 use Rattle.front_mirror.specs.declared.faults.FrontKind.{FrontKind}
 use Rattle.front_mirror.specs.declared.faults.FrontKind.TheVariants.{NotMessage, UnknownNode, NotChild, IdTaken, UnknownSheet, TooDeep}
 use Rattle.front_mirror.specs.declared.faults.FrontFault.{FrontFault}
-use Rattle.cdp_messages.specs.Moves.{Change, shows, inserts, removes, counts, sets, drops, says, changed, suits_change, paused_nodes}
-use Rattle.cdp_messages.specs.Views.{keys, is_distinct}
+use Rattle.client_views.specs.Moves.{Change, shows, inserts, removes, counts, sets, drops, says, changed, suits_change, paused_nodes}
+use Rattle.client_views.specs.Views.{keys, is_distinct}
 use Rattle.node_tree.specs.Levels.{most_levels}
 use Rattle.css_objects.specs.declared.sheets.Header.{Header}
 use Rattle.front_mirror.specs.declared.sheets.KnownSheet.{KnownSheet}

@@ -3,10 +3,10 @@ use Rattle.std.specs.Prelude.{◌≡◌, ℕ, ◌==◌, ◌||◌, ◌&&◌, Bool
 use Rattle.node_tree.specs.Nodes.{alone}
 use Rattle.node_tree.specs.Labels.{is_ascending, is_element, has_value}
 use Rattle.node_tree.specs.Seen.{shows_count, is_opened}
-use Rattle.cdp_messages.specs.Moves.{Change, shows, inserts, removes, counts, sets, drops, says}
-use Rattle.cdp_messages.specs.Told.{seen_nodes}
-use Rattle.cdp_messages.specs.Views.{is_in}
-use Rattle.cdp_messages.specs.LabelChanges.{placed, pairs_without}
+use Rattle.client_views.specs.Moves.{Change, shows, inserts, removes, counts, sets, drops, says}
+use Rattle.dom_objects.specs.Told.{seen_nodes}
+use Rattle.client_views.specs.Views.{is_in}
+use Rattle.node_tree.specs.LabelChanges.{placed, pairs_without}
 use Rattle.front_mirror.specs.Shown.{shown_of}
 use Rattle.front_mirror.specs.declared.edits.NodeEdit.{NodeEdit}
 use Rattle.front_mirror.specs.declared.edits.NodeEdit.TheVariants as edit

@@ -8,7 +8,7 @@ use Rattle.node_tree.specs.Nodes.{Nodes, none, node, Branch}
 use Rattle.node_tree.specs.Keys.{tally}
 use Rattle.node_tree.specs.Seen.{Hold, leaf, counted, opened, Seen, seen_id, seen_serial}
 use Rattle.node_tree.specs.Arena.{SlotForm, Keeps, kept_trees, IsFiled}
-use Rattle.cdp_messages.specs.Views.{keys, IsMirror}
+use Rattle.client_views.specs.Views.{keys, IsMirror}
 use Rattle.node_tree.specs.Levels.{most_levels}
 use Rattle.front_mirror.specs.IdLists.{id_after, without_id}
 use Rattle.front_mirror.specs.declared.slots.Slot.{Slot}

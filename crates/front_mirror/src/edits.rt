@@ -14,7 +14,7 @@ use crate::faults::FrontKind;
 use crate::mirror::Mirror;
 use crate::slots::Slot;
 use crate::told::{children_of, is_opened};
-use cdp_messages::NodeTree;
+use dom_objects::NodeTree;
 use node_tree::Text;
 use std::alloc::{AllocError, Global};
 use std::slice;

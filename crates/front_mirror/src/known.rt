@@ -2,8 +2,8 @@ ghost use Rattle.std.specs.Prelude.{◌≡◌, ◌+◌, [], ◌∷◌, ◌++◌,
 ghost use Rattle.serde_json.specs.View.{view};
 ghost use Rattle.std.specs.List.{list_all};
 ghost use Rattle.node_tree.specs.Nodes.{none};
-ghost use Rattle.cdp_messages.specs.NodeData.{fits_tree};
-ghost use Rattle.cdp_messages.specs.Moves.{paused_nodes};
+ghost use Rattle.dom_objects.specs.NodeData.{fits_tree};
+ghost use Rattle.client_views.specs.Moves.{paused_nodes};
 ghost use Rattle.cdp_messages.specs.Events.{news_of, fits_news};
 ghost use Rattle.front_mirror.specs.Known.{known_value, Takes};
 ghost use Rattle.front_mirror.specs.Front.{first_value, reply_frame, reply_kept, method_waiting, fetched_sheet, sheets_fetched, replied};
@@ -22,10 +22,11 @@ use crate::replies::{Ask, Kept, MatchedReply};
 use crate::roots::root_fault;
 use crate::sheets::{KnownSheets, new_sheet};
 use cdp_messages::{
-    Down, DownErr, Effect, Event, Header, NodeTree, PauseData, ReplyBody, read_down, read_result,
-    read_root,
+    Down, DownErr, Event, Header, PauseData, ReplyBody, read_down, read_result, read_root,
 };
+use client_views::Effect;
 use css_objects::Matched;
+use dom_objects::NodeTree;
 use node_tree::Text;
 use serde_json::Value;
 use std::alloc::{AllocError, Global};

@@ -4,8 +4,8 @@ ghost use Rattle.node_tree.specs.Nodes.{none, alone, width, tree_at};
 ghost use Rattle.std.specs.Option.{option_copied};
 ghost use Rattle.node_tree.specs.Keys.{has, find, parent_of, level_of, spot};
 ghost use Rattle.node_tree.specs.Seen.{is_opened, seen_id, seen_serial};
-ghost use Rattle.cdp_messages.specs.Told.{count_in, seen_nodes};
-ghost use Rattle.cdp_messages.specs.NodeData.{fits_tree};
+ghost use Rattle.dom_objects.specs.Told.{count_in, seen_nodes};
+ghost use Rattle.dom_objects.specs.NodeData.{fits_tree};
 ghost use Rattle.front_mirror.specs.Shown.{known_at, root_id};
 ghost use Rattle.front_mirror.specs.Outline.{lines_at, seen_line};
 ghost use Rattle.front_mirror.specs.Tables.{mirror_row, root_ids, TableLooks};
@@ -14,7 +14,8 @@ use crate::checks::MOST_LEVELS;
 use crate::edits::NodeEdit;
 use crate::slots::{IdList, Slot};
 use crate::table::Table;
-use cdp_messages::{Kind, NodeTree};
+use cdp_messages::Kind;
+use dom_objects::NodeTree;
 use std::alloc::{AllocError, Global};
 use std::marker::Model;
 use std::mem;
@@ -42,7 +43,7 @@ impl Model for Mirror {
 }
 
 impl Mirror {
-    ghost use Rattle.cdp_messages.specs.Views.{IsMirror};
+    ghost use Rattle.client_views.specs.Views.{IsMirror};
     ghost use Rattle.node_tree.specs.Levels.{most_levels};
     ghost use Rattle.front_mirror.specs.Front.{root_fault};
     ghost use Rattle.front_mirror.specs.Edits.{fits_edit, edit_change, edit_told, spot_fault, with_changed};

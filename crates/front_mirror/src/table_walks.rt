@@ -1,7 +1,7 @@
 // Walks over what stands below nodes of the table.
 ghost use Rattle.std.specs.Prelude.{◌≡◌, ◌+◌, ◌++◌, ◌<◌, ◌^◌, ◌∷◌, [], suc, OnOk};
 ghost use Rattle.node_tree.specs.Seen.{seen_id};
-ghost use Rattle.cdp_messages.specs.Views.{keys};
+ghost use Rattle.client_views.specs.Views.{keys};
 ghost use Rattle.front_mirror.specs.Outline.{lines_at, seen_line, unshown_of};
 ghost use Rattle.front_mirror.specs.Tables.{table_trees, mirror_row, below_hold};
 

@@ -13,7 +13,7 @@ use Rattle.node_tree.specs.Seen.{Seen}
 use Rattle.page_tree.specs.Forms.{max_nodes}
 use Rattle.page_forms.specs.Pages.{LoadedPage, CanLoadPage}
 use Rattle.page_forms.specs.Sheets.{max_sheets}
-use Rattle.cdp_messages.specs.Moves.{frames_of_moves}
+use Rattle.client_views.specs.Moves.{frames_of_moves}
 use Rattle.cdp_messages.specs.Asked.{command_text}
 use Rattle.front_mirror.specs.Front.{FrontState, first_state, after_take, after_ask, after_fetch}
 use Rattle.inspect_world.specs.FreshRuns.{front_fetcher}

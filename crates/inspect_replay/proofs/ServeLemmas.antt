@@ -12,7 +12,7 @@ use Rattle.std.proofs.lemmas.List.Elements.{All-nil}
 use Rattle.page_forms.specs.declared.sheets.SheetForm.{SheetForm}
 use Rattle.page_forms.specs.Pages.{CanLoadPage}
 use Rattle.page_forms.specs.Texts.{PageHasTexts}
-use Rattle.cdp_messages.specs.Moves.{frames_of_moves}
+use Rattle.client_views.specs.Moves.{frames_of_moves}
 use Rattle.back_end.specs.States.{State}
 use Rattle.back_end.specs.Steps.{Stepped, frame_step}
 use Rattle.back_end.specs.Seats.{StandsFor, first_page}

@@ -21,8 +21,8 @@ use Rattle.cdp_messages.specs.declared.command.Asked.{Asked}
 use Rattle.cdp_messages.specs.declared.command.Refused.{Refused}
 use Rattle.cdp_messages.specs.Asked.{json_of, or_bad_request, params_of, unless_session, command_for, command_of, method_in, command_in}
 use Rattle.cdp_messages.specs.Asked.{with_id, asked_by, asked_in, asked_value, asked}
-use Rattle.cdp_messages.specs.Moves.{texted}
-use Rattle.cdp_messages.specs.Views.{ShownSheet, shown_text}
+use Rattle.client_views.specs.Moves.{texted}
+use Rattle.client_views.specs.Views.{ShownSheet, shown_text}
 use Rattle.sheet_reader.specs.declared.book.SheetEntry.{SheetEntry}
 use Rattle.sheet_reader.specs.Books.{entry_of}
 use Rattle.css_agent.specs.Asks.{sheet_named}

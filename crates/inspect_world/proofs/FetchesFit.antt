@@ -10,9 +10,9 @@ use Rattle.cdp_json.specs.Kinds.{is_counted}
 use Rattle.css_objects.specs.Sheets.{is_sheet}
 use Rattle.cdp_messages.specs.declared.down.ReplyBody.TheVariants.{SheetText}
 use Rattle.cdp_messages.specs.Asked.{command_text}
-use Rattle.cdp_messages.specs.Views.{ShownSheet, shown_text}
+use Rattle.client_views.specs.Views.{ShownSheet, shown_text}
 use Rattle.cdp_messages.specs.Replies.{body_data, message_data, reply, reply_text}
-use Rattle.cdp_messages.specs.Moves.{texted, move_text, frames_of_moves}
+use Rattle.client_views.specs.Moves.{texted, move_text, frames_of_moves}
 use Rattle.cdp_messages.proofs.Depths.{replies_are_shallow}
 use Rattle.cdp_messages.proofs.Messages.{reply_plain, replies_are_read, results_are_read}
 use Rattle.cdp_messages.proofs.TextsUtf8.{replies_are_utf8}

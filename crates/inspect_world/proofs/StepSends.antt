@@ -8,8 +8,8 @@ use Rattle.pipe_frames.specs.Frames.{frames_of}
 use Rattle.cdp_messages.specs.declared.command.Asked.{Asked}
 use Rattle.cdp_messages.specs.declared.command.Refused.{Refused}
 use Rattle.cdp_messages.specs.Asked.{asked, method_name}
-use Rattle.cdp_messages.specs.Views.{ShownSheet}
-use Rattle.cdp_messages.specs.Moves.{failed}
+use Rattle.client_views.specs.Views.{ShownSheet}
+use Rattle.client_views.specs.Moves.{failed}
 use Rattle.front_mirror.specs.declared.replies.Ask.{Ask}
 use Rattle.front_mirror.specs.Front as front
 use Rattle.front_mirror.specs.Front.{FrontValue, first_value, fold}

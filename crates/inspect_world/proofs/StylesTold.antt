@@ -22,8 +22,8 @@ use Rattle.cdp_messages.specs.declared.down.ReplyBody.{ReplyBody}
 use Rattle.cdp_messages.specs.declared.down.ReplyBody.TheVariants as body
 use Rattle.cdp_messages.specs.Asked.{asked, method_name}
 use Rattle.cdp_messages.specs.Laws.{answers}
-use Rattle.cdp_messages.specs.Moves.{Move, change, clear, met, added, dropped, rewritten, root, texted, replied, all_off, sheets_off}
-use Rattle.cdp_messages.specs.Moves.{failed}
+use Rattle.client_views.specs.Moves.{Move, change, clear, met, added, dropped, rewritten, root, texted, replied, all_off, sheets_off}
+use Rattle.client_views.specs.Moves.{failed}
 use Rattle.cdp_messages.specs.declared.css_ask.CssAsk.TheVariants as css
 use Rattle.front_mirror.specs.declared.replies.MatchedReply.{MatchedReply}
 use Rattle.front_mirror.specs.Front.{matched_told}

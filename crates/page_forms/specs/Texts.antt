@@ -4,7 +4,7 @@ use Rattle.serde_json.specs.Data.{Data}
 use Rattle.cdp_json.specs.Plain.{HasUtf8}
 use Rattle.node_tree.specs.Nodes.{Nodes, none, node, Branch}
 use Rattle.node_tree.specs.Labels.{Label}
-use Rattle.cdp_messages.specs.Laws.{LabelHasUtf8}
+use Rattle.node_tree.specs.Labels.{LabelHasUtf8}
 use Rattle.page_forms.specs.declared.acts.Act.{Act}
 use Rattle.page_forms.specs.declared.acts.Act.TheVariants.{SetAttr, DropAttr, SetText, Insert, Remove, Move, AddSheet, DropSheet}
 use Rattle.page_forms.specs.declared.acts.Act.TheVariants.{ReplaceSheet}

@@ -8,11 +8,10 @@ mod page_scan;
 mod pages;
 mod sheet_acts;
 mod sheets;
-mod tokens;
 
 pub use acts::{Act, ActErr, read_act};
+pub use cdp_json::ScanErr;
 pub use laws::texts_law;
 pub use page_scan::scan_page;
 pub use pages::{PageForm, read_page};
 pub use sheets::SheetForm;
-pub use tokens::ScanErr;

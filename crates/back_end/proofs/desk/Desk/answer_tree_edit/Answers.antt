@@ -1,6 +1,6 @@
 -- A client's edit of the tree is refused while DOM is off, and where a node is not known.
 use Rattle.std.proofs.Common.{◌++◌, refl, sym, ap, subst, ◌∙◌, Err}
-use Rattle.cdp_messages.specs.Moves.{frames_of_moves}
+use Rattle.client_views.specs.Moves.{frames_of_moves}
 use Rattle.std.specs.FinMap as map
 use Rattle.cdp_messages.specs.declared.command.Command.TheVariants.{EditDom}
 use Rattle.back_end.specs.Texts.{HasTreeTexts}
