@@ -424,7 +424,7 @@ start-good up down =
 
 pub run-first : (up down : Pipe) (page : LoadedPage) (lines : ℕ) (e : Ends) → CanLoadPage page → PageHasTexts page → lines ≤ 2 ^ 26
     → IsNewSide e.seat e.side page
-    → e.splitter ≡ no_frames → e.front ≡ first_state → e.up_there ≡ 0 → e.down_there ≡ 0 → e.told ≡ 0 → e.told_pauses ≡ 0
+    → e.splitter ≡ no_frames → e.front ≡ first_state [] → e.up_there ≡ 0 → e.down_there ≡ 0 → e.told ≡ 0 → e.told_pauses ≡ 0
     → FollowsRun (run_started (loaded_state page) lines []) up down up down e
 run-first up down page lines e can texts few new splitter_is front_is up_none down_none told_none pauses_none =
     let start : Started = run_started (loaded_state page) lines [] in

@@ -657,13 +657,13 @@ first_ends seat side = record {
   seat = seat;
   side = side;
   back_rest = [];
-  front = first_state;
+  front = first_state [];
   up_there = 0;
   down_there = 0;
   told = nothing_told;
 }
 
-pub ends-first : (e : Ends) → e.splitter ≡ no_frames → e.front ≡ first_state
+pub ends-first : (e : Ends) → e.splitter ≡ no_frames → e.front ≡ first_state []
     → e.up_there ≡ 0 → e.down_there ≡ 0 → e.told ≡ 0 → e.told_pauses ≡ 0 → ends_of e ≡ first_ends e.seat e.side
 ends-first e splitter_is front_is up_none down_none told_none pauses_none = λ i. record {
   seat = e.seat;
@@ -717,7 +717,7 @@ nothing-awaited page = refl
 
 pub begins : (honest : Type 0) (up down : Pipe) (page : LoadedPage) (e : Ends) → honest → CanLoadPage page → PageHasTexts page → IsLevel up
     → IsLevel down
-    → IsNewSide e.seat e.side page → e.splitter ≡ no_frames → e.front ≡ first_state → e.up_there ≡ 0 → e.down_there ≡ 0 → e.told ≡ 0
+    → IsNewSide e.seat e.side page → e.splitter ≡ no_frames → e.front ≡ first_state [] → e.up_there ≡ 0 → e.down_there ≡ 0 → e.told ≡ 0
     → e.told_pauses ≡ 0
     → InRun honest up down up down (loaded_world page) e
 begins honest up down page e is_honest can texts up_level down_level new splitter_is front_is up_none down_none told_none pauses_none =

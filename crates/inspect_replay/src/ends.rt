@@ -29,7 +29,7 @@ use crate::pipes::{receive_down, receive_up, send_down, send_up};
 use crate::stop::Stop;
 use back_end::{Act, ActFault, PageForm, PageSide, Seat};
 use cdp_messages::Matched;
-use front_mirror::{Front, FrontErr, Kept, Mirror, SeenPause};
+use front_mirror::{Front, FrontErr, Kept, Mirror, Panel, SeenPause};
 use page_tree::Page;
 use pipe_frames::{Link, Splitter};
 use replay_script::Ask;
@@ -43,7 +43,7 @@ pub(crate) struct Ends {
     pub(crate) side: PageSide,
     pub(crate) seat: Seat,
     pub(crate) splitter: Splitter,
-    pub(crate) front: Front,
+    pub(crate) front: Front<Box<dyn Panel>>,
     pub(crate) up_there: u64,
     pub(crate) down_there: u64,
     pub(crate) told: usize,
@@ -80,7 +80,7 @@ impl Ends {
         ensures watches { IfOk result (λ ends. ends.seat.desk.watches ≡ unwatched) }
         ensures history { IfOk result (λ ends. ends.seat.history ≡ no_marks) }
         ensures splitter { IfOk result (λ ends. ends.splitter ≡ record { whole = []; rest = [] }) }
-        ensures front { IfOk result (λ ends. ends.front ≡ first_state) }
+        ensures front { IfOk result (λ ends. ends.front ≡ first_state []) }
         ensures up { IfOk result (λ ends. ends.up_there ≡ 0) }
         ensures down { IfOk result (λ ends. ends.down_there ≡ 0) }
         ensures told { IfOk result (λ ends. ends.told ≡ 0) }
@@ -91,7 +91,7 @@ impl Ends {
             side: PageSide::new(alloc, Some(form))?,
             seat: Seat::new(alloc),
             splitter: Splitter::new(alloc),
-            front: Front::new(alloc)?,
+            front: Front::new(alloc, Vec::new(alloc))?,
             up_there: 0,
             down_there: 0,
             told: 0,
@@ -114,7 +114,7 @@ impl Ends {
     }
 
     /// The front end.
-    pub(crate) fn front(&self) -> &Front
+    pub(crate) fn front(&self) -> &Front<Box<dyn Panel>>
         ensures { result.now ≡ self.now.front }
     {
         &self.front
