@@ -8,7 +8,7 @@ use Rattle.node_tree.specs.Arena.{Keeps}
 use Rattle.node_tree.proofs.ArenaLemmas.{kept_trees-keeps}
 use Rattle.node_tree.proofs.KeyLemmas.{height_above-at, stands-find}
 use Rattle.node_tree.proofs.ChangeLemmas.{at-back}
-use Rattle.cdp_messages.specs.Views.{keys, IsMirror}
+use Rattle.client_views.specs.Views.{keys, IsMirror}
 use Rattle.front_mirror.specs.Shown.{known_at, no_node}
 use Rattle.front_mirror.specs.declared.table.Table.{Table}
 use Rattle.front_mirror.specs.Tables.{by_id, table_slots, table_trees, tree_in, KeepsMirror, IsTable}

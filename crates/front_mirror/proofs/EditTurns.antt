@@ -7,8 +7,8 @@ use Rattle.node_tree.specs.Keys.{find, tally}
 use Rattle.node_tree.specs.Labels.{is_formed_label}
 use Rattle.node_tree.specs.Seen.{Seen, seen_id, is_opened}
 use Rattle.node_tree.proofs.KeyLemmas.{find-child}
-use Rattle.cdp_messages.specs.Views.{IsMirror}
-use Rattle.cdp_messages.specs.Moves.{Change, removes, suits_change, has_tree}
+use Rattle.client_views.specs.Views.{IsMirror}
+use Rattle.client_views.specs.Moves.{Change, removes, suits_change, has_tree}
 use Rattle.front_mirror.specs.Shown.{known_at, no_node}
 use Rattle.front_mirror.specs.IdLists.{id_place}
 use Rattle.front_mirror.specs.Tables.{root_ids}

@@ -11,8 +11,9 @@ use Rattle.node_tree.specs.Seen.{Seen, Hold, leaf, counted, opened, shows_count,
 use Rattle.node_tree.proofs.KeyLemmas.{at-put, found_key}
 use Rattle.front_mirror.specs.Panels.{without_place}
 use Rattle.front_mirror.specs.Panels.{TreeTurns, NodeTurns, Opens, Gains, Loses, Differs, hold_form}
-use Rattle.cdp_messages.specs.Moves.{Change, shows, inserts, removes, counts, sets, drops, says, changed, suits_change, put_behind, put_after}
-use Rattle.cdp_messages.specs.Moves.{without_tree, has_tree, labelled_by}
+use Rattle.client_views.specs.Moves.{Change, shows, inserts, removes, counts, sets, drops, says, changed, suits_change, put_behind}
+use Rattle.client_views.specs.Moves.{put_after}
+use Rattle.client_views.specs.Moves.{without_tree, has_tree, labelled_by}
 use Rattle.front_mirror.specs.PanelTold.{tree_place, panel_change}
 
 and_true : (a b : Bool) → (a && b) ≡ true → (a ≡ true) × (b ≡ true)

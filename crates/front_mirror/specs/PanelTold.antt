@@ -3,7 +3,7 @@ use Rattle.std.specs.Prelude.{ℕ, Option}
 use Rattle.std.specs.Option.{option_map_or}
 use Rattle.node_tree.specs.Nodes.{Nodes, none, node, Branch, branch_count, tree_at}
 use Rattle.node_tree.specs.Seen.{Seen}
-use Rattle.cdp_messages.specs.Moves.{Change, shows, inserts, removes, counts, sets, drops, says}
+use Rattle.client_views.specs.Moves.{Change, shows, inserts, removes, counts, sets, drops, says}
 use Rattle.front_mirror.specs.IdLists.{id_place}
 use Rattle.front_mirror.specs.Tables.{root_ids}
 use Rattle.front_mirror.specs.declared.panels.Change.{Change as PanelChange}

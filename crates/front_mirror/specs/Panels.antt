@@ -12,7 +12,7 @@ use Rattle.front_mirror.specs.declared.panels.Change.TheVariants.{Cleared, Docum
 use Rattle.front_mirror.specs.declared.panels.PanelKind.{PanelKind}
 use Rattle.front_mirror.specs.declared.panels.PanelKind.TheVariants.{Outline, Counts, Watch}
 use Rattle.front_mirror.specs.Outline.{seen_line, outline_text}
-use Rattle.cdp_messages.specs.Views.{IsMirror}
+use Rattle.client_views.specs.Views.{IsMirror}
 
 -- ---- changes
 

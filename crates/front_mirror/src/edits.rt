@@ -2,7 +2,7 @@
 ghost use Rattle.std.specs.Prelude.{◌≡◌, ◌&&◌, ◌==◌, ◌<◌, IfOk, IsSome, true};
 ghost use Rattle.node_tree.specs.Nodes.{nodes_of, Branch};
 ghost use Rattle.node_tree.specs.Keys.{spot, find};
-ghost use Rattle.cdp_messages.specs.Moves.{suits_change};
+ghost use Rattle.client_views.specs.Moves.{suits_change};
 ghost use Rattle.front_mirror.specs.Shown.{known_at};
 ghost use Rattle.front_mirror.specs.PanelTold.{panel_change};
 ghost use Rattle.node_tree.specs.Seen.{Seen, seen_id};

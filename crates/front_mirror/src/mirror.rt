@@ -7,7 +7,7 @@ ghost use Rattle.node_tree.specs.Seen.{is_opened, seen_id, seen_serial};
 ghost use Rattle.dom_objects.specs.Told.{count_in, seen_nodes};
 ghost use Rattle.dom_objects.specs.NodeData.{fits_tree};
 ghost use Rattle.front_mirror.specs.Shown.{known_at, root_id};
-ghost use Rattle.cdp_messages.specs.Moves.{has_tree, removes};
+ghost use Rattle.client_views.specs.Moves.{has_tree, removes};
 ghost use Rattle.front_mirror.specs.PanelTold.{panel_change};
 ghost use Rattle.front_mirror.specs.Outline.{lines_at, seen_line};
 ghost use Rattle.front_mirror.specs.Tables.{mirror_row, root_ids, TableLooks};

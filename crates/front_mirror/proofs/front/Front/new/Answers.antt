@@ -3,7 +3,7 @@ use Rattle.std.proofs.Common.{◌≡◌, ap, sym, ◌∙◌, subst, map, option_
 use Rattle.std.specs.Option.{ForSome}
 use Rattle.node_tree.specs.Nodes.{Nodes, none}
 use Rattle.node_tree.specs.Seen.{Seen}
-use Rattle.cdp_messages.specs.Views.{IsMirror}
+use Rattle.client_views.specs.Views.{IsMirror}
 use Rattle.front_mirror.specs.Front.{FrontValue, FrontState}
 use Rattle.front_mirror.specs.Known.{known_value}
 use Rattle.front_mirror.specs.Panels.{face, Turns}

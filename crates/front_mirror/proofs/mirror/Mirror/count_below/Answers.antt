@@ -2,7 +2,7 @@
 use Rattle.std.proofs.Common.{◌++◌, ap, ◌∙◌, arith}
 use Rattle.node_tree.specs.Seen.{seen_id}
 use Rattle.node_tree.specs.Levels.{most_levels}
-use Rattle.cdp_messages.specs.Views.{keys}
+use Rattle.client_views.specs.Views.{keys}
 use Rattle.front_mirror.specs.Tables.{table_trees}
 use Rattle.front_mirror.proofs.CountLemmas.{counted_below}
 use Rattle.front_mirror.proofs.mirror.Mirror.count_below.Goals as goal
