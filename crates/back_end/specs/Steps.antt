@@ -83,7 +83,7 @@ telling_first before later = record { state = later.state; moves = before ++ lat
 abbrev pub refusing : Option ℕ → Why → State → Step
 refusing id why state = record { state = state; moves = failed (record { id = id; why = why }) ∷ [] }
 
--- the state with another client, and with another side
+-- the state with another client
 abbrev pub with_client : Client → State → State
 with_client client state = record { side = state.side; client = client }
 
@@ -95,7 +95,7 @@ idle state = record { state = state; moves = [] }
 abbrev pub replying : ℕ → ReplyBody → Step → Step
 replying id body done = record { state = done.state; moves = done.moves ++ replied id body ∷ [] }
 
--- by the empty result
+-- a step that is answered at last by the empty result
 abbrev pub answering : ℕ → Step → Step
 answering id done = replying id Nothing done
 
@@ -107,7 +107,7 @@ push_step serial state =
     let p = pushed (session_keeper (page_nodes state)) state.side.page.tree serial state.client.session in
     record { state = with_client (record state.client { session = p.state }) state; moves = opening_moves p.shown }
 
--- where there is one
+-- the node with that serial and all above it become known, where there is one
 abbrev pub push_steps : Option ℕ → State → Step
 push_steps None state = idle state
 push_steps (Some serial) state = push_step serial state
@@ -122,7 +122,7 @@ serial_now state id = serial_at state.client.session (page_nodes state) id
 
 -- ---- edits of the page
 
--- the SetBreakpoint that are left after an edit of that tree: those of a tree that goes are dropped
+-- the watches that are left after an edit of that tree: those of a tree that goes are dropped
 abbrev pub watches_left : TreeEdit → Branch PageRow → Watched → Watched
 watches_left (SetAttr node name value) tree w = w
 watches_left (DropAttr node name) tree w = w
@@ -130,7 +130,7 @@ watches_left (SetText node value) tree w = w
 watches_left (Attach parent before attached) tree w = w
 watches_left (Detach node) tree w = without_subtree node tree w
 
--- those of the state's client
+-- the watches of the state's client that are left after an edit of the page
 abbrev pub watched_after : TreeEdit → State → Watched
 watched_after e state = watches_left e state.side.page.tree state.client.watched
 
@@ -212,7 +212,7 @@ side_changed (comes origin text) side = record {
   next_sheet = side.next_sheet + 1;
 }
 
--- the move that tells it
+-- the move that tells a change of the sheets
 abbrev pub sheet_move : SheetChange → Side → Move
 sheet_move (leaves number) side = dropped number
 sheet_move (comes origin text) side = added (shown_sheet side.next_sheet origin text)
@@ -228,7 +228,7 @@ sheet_step change state = record {
   moves = while_css state (sheet_move change state.side ∷ []);
 }
 
--- changes, one after the other
+-- changes of the sheets, one after the other
 abbrev pub sheet_steps : List SheetChange → State → Step
 sheet_steps [] state = record { state = state; moves = [] }
 sheet_steps (c ∷ cs) state = let first = sheet_step c state in telling_first first.moves (sheet_steps cs first.state)
@@ -251,7 +251,7 @@ splice_step s state =
       moves = while_css state (rewritten s.sheet text ∷ []);
     }
 
--- splices, one after the other
+-- splices of sheets' texts, one after the other
 abbrev pub splice_steps : List Splice → State → Step
 splice_steps [] state = idle state
 splice_steps (s ∷ ss) state = followed_by (splice_step s state) (splice_steps ss)
@@ -349,7 +349,7 @@ client_reset on client = record {
 abbrev pub moves_gone : List ShownSheet → List Move
 moves_gone sheets = map (λ s. dropped s.number) sheets
 
--- and that sheets come
+-- the moves that tell that sheets come, each by itself
 abbrev pub moves_come : List ShownSheet → List Move
 moves_come sheets = map (λ s. added s) sheets
 
@@ -371,7 +371,7 @@ pub data Turn : Type 0 where
   acts : Act → Turn
   loads : LoadedPage → Turn
 
--- its step
+-- the step of what a script does by itself
 abbrev pub turn_step : Turn → State → Step
 turn_step (acts act) state = act_step act state
 turn_step (loads page) state = load_step page state
@@ -436,13 +436,13 @@ turns_on (QuerySelectorAll id text) = false
 turns_on (GetAttributes id) = false
 turns_on (DescribeNode id serial depth pierce) = false
 
--- the client after what its AskDom was asked: one whose ask was refused is as before
+-- the client after what its DOM agent was asked: one whose ask was refused is as before
 abbrev pub client_served : DomAsk → Outcome Session → Client → Client
 client_served ask (shows_root w b) client = record client { dom_on = client.dom_on || turns_on ask; session = w }
 client_served ask (served p body) client = record client { dom_on = client.dom_on || turns_on ask; session = p.state }
 client_served ask (refused why) client = client
 
--- the step on what the AskDom is asked
+-- the step on what the DOM agent is asked
 abbrev pub agent_step : ℕ → DomAsk → State → Step
 agent_step id ask state =
     let outcome = session_outcome state.side.page ask state.client.session in
@@ -455,7 +455,7 @@ abbrev pub element_serial : Option (Branch PageRow) → Result ℕ Why
 element_serial None = Err UnknownNode
 element_serial (Some b) = cond (is_element b.row.label.kind) (Ok b.row.serial) (Err NotElement)
 
--- that of the known node that has the id
+-- the serial of the known element that has the id, or why there is none
 abbrev pub element_named : ℕ → State → Result ℕ Why
 element_named node state =
     let w = state.client.session in
@@ -472,25 +472,25 @@ abbrev pub text_answer : ℕ → Option SheetEntry → Move
 text_answer id None = failed (record { id = Some id; why = NoSheet })
 text_answer id (Some e) = texted id e.id e.text
 
--- the move that answers what the AskDom is asked
+-- the move that answers what the CSS agent is asked
 abbrev pub css_answer : ℕ → CssAsk → State → Move
 css_answer id (css.GetMatchedStyles node) state = node_answer id (css.GetMatchedStyles node) (element_named node state) state
 css_answer id (css.GetStyleSheetText sheet) state = text_answer id (sheet_named sheet (book_in state))
 css_answer id (css.CollectClassNames sheet) state =
     answer_move id (css_outcome state.side.page.tree (book_in state) 0 (css.CollectClassNames sheet))
 
--- the step on what the CSS AskDom is asked
+-- the step on what the CSS agent is asked
 abbrev pub css_step : ℕ → CssAsk → State → Step
 css_step id ask state = record { state = state; moves = css_answer id ask state ∷ [] }
 
--- the step that turns the domain on: each sheet comes, where it was off
+-- the step that turns the domain CSS on: each sheet comes, where it was off
 abbrev pub css_on_step : ℕ → State → Step
 css_on_step id state = record {
   state = with_client (record state.client { css_on = true }) state;
   moves = cond state.client.css_on [] (moves_come state.side.sheets) ++ replied id Nothing ∷ [];
 }
 
--- the step that turns it off
+-- the step that turns the domain CSS off
 abbrev pub css_off_step : ℕ → State → Step
 css_off_step id state = record { state = with_client (record state.client { css_on = false }) state; moves = sheets_off id ∷ [] }
 
@@ -550,7 +550,7 @@ put_answer id (Some node) done =
 abbrev pub plan_step : Plan → State → Step
 plan_step plan state = edit_steps plan.edits (with_page plan.page state)
 
--- the same by a client, whose edits are kept
+-- the edits of a plan made by a client, which are kept
 abbrev pub planned_by_client : Plan → State → Step
 planned_by_client plan state = keeping (map (λ e. kept.Tree e) plan.edits) state (plan_step plan state)
 
@@ -571,7 +571,7 @@ tree_edit_step id edit state = node_edit_step id (edit_named (serial_now state) 
 
 -- ---- a client's edits of sheets
 
--- the step of an edit that came to this
+-- the step of an edit of sheets that came to this
 abbrev pub restyled_step : ℕ → CssEdited → List Splice → State → Step
 restyled_step id (Err f) splices state = refusing (Some id) (sheet_why f) state
 restyled_step id (Ok done) splices state = replying id done.body
@@ -581,7 +581,7 @@ restyled_step id (Ok done) splices state = replying id done.body
 abbrev pub sheet_edit_step : ℕ → CssEdit → State → Step
 sheet_edit_step id edit state = restyled_step id (css_edited (book_in state) edit) (css_splices (book_in state) edit) state
 
--- ---- SetBreakpoint
+-- ---- watches
 
 -- the kind of a watch, by the word of a message
 abbrev pub watch_kind : WatchWord → WatchKind
@@ -589,7 +589,7 @@ watch_kind word.Subtree = watch.Subtree
 watch_kind word.Attribute = watch.Attribute
 watch_kind word.Removed = watch.Removed
 
--- the SetBreakpoint are others, of a node that is known
+-- the watches of the client become others, by a command on a known node
 abbrev pub watch_step : ℕ → (ℕ → Watched → Watched) → Option ℕ → State → Step
 watch_step id change None state = refusing (Some id) UnknownNode state
 watch_step id change (Some node) state =

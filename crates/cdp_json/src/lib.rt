@@ -1,4 +1,13 @@
 //! The values of the messages as JSON: objects are read field by field, in the order of their names, and written likewise.
+//!
+//! Promise: each field reader answers exactly by the value (the field, that it is missing, or that it is of the wrong kind); an
+//! object that is described once is read exactly where it is spelled so, and what was written is read again.
+//!
+//! Way in: the field readers (`int_field`, `text_field` and the like) for commands, whose unknown names are ignored; a `Cursor`
+//! for objects that have exactly their fields; `ObjectBuilder` to write one.
+//!
+//! Law: `read_back_law` (src/laws.rt), plain JSON is read again from its text. What a description of an object has to keep is
+//! `LawfulKind` (specs/Lawful); how one is put together stands in specs/Rows and specs/Kinds.
 #![tactic(auto)]
 
 mod cursor;

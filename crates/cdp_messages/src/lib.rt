@@ -1,5 +1,15 @@
-//! The messages of the protocol as typed values and as JSON, in frames that end with a zero byte: commands and their
-//! refusals on the way up, replies, error replies and events on the way down.
+//! The messages of the protocol as typed values and as JSON, in frames that end with a zero byte: commands and their refusals on
+//! the way up, replies, error replies and events on the way down.
+//!
+//! Promise: a frame is read as exactly the command that it asks, or refused with the first refusal in order; what a writer
+//! appends is exactly the text of its message; what comes down is read exactly where it is a message, strictly as it is spelled.
+//!
+//! Way in: `read_command` for the back end, `write_reply`, `write_event` and `write_refused` for its answers; `write_command`,
+//! `read_down` and `read_result` for the front end, and `read_root` for a document read in one pass.
+//!
+//! Law: `spell_law` (src/laws.rt, specs/Laws): what is written is read again, from whatever text a value comes, and no value
+//! spells two messages. The names of methods stand once, in specs/Methods, their parameters in specs/Parameters, the order of
+//! refusals in specs/Asked.
 #![tactic(auto)]
 
 mod command;

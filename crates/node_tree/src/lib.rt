@@ -1,5 +1,14 @@
-//! The definitions that a page, its cut, the messages and the mirror share: ordered trees of nodes with a row at each,
-//! and what a node of a document has beside its place, its kind, name, value and attributes.
+//! The definitions that a page, its cut, the messages and the mirror share: ordered trees of nodes with a row at each, and what
+//! a node of a document has beside its place, its kind, name, value and attributes.
+//!
+//! Promise: a `Text` and an `Attributes` list give back exactly what was put in; `set_attribute` and `drop_attribute` keep a
+//! list ascending by names; the tests of names are their forms.
+//!
+//! Way in: `Text`, `Attributes` and `Kind` for code; `Nodes` (first child, next sibling, any row) and `Labels` in specs/ for
+//! contracts above.
+//!
+//! Laws: none in code. The lemmas that all crates above stand on are public in proofs/: a node found, put and changed by a key
+//! (`Keys`), and trees kept in slots (`Arena`), generic in the row, the slot and the map.
 #![tactic(auto)]
 
 mod attribute_edits;
