@@ -425,6 +425,10 @@ needs_css (RemoveBreakpoint node word) = false
 needs_css (ReplayLoad params) = false
 needs_css (ReplayAct params) = false
 
+-- why a command is refused whatever it says, where DOM and CSS are on or off so: a domain that it needs is off
+abbrev pub missing : Bool → Bool → Command → Option Why
+missing dom_on css_on command = cond (needs_on command && not dom_on) (Some DomOff) (cond (needs_css command && not css_on) (Some CssOff) None)
+
 -- an ask that turns DOM on
 abbrev pub turns_on : DomAsk → Bool
 turns_on (GetDocument depth pierce) = true

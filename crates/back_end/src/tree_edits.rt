@@ -20,7 +20,7 @@ use crate::node_edits::{NodeEdit, lowered};
 use crate::own::edit_why;
 use crate::side::PageSide;
 use crate::trees::copied_tree;
-use cdp_messages::{DomEdit, ReplyBody, Why, write_reply};
+use cdp_messages::{DomEdit, ReplyBody, write_reply};
 use page_tree::TreeEdit;
 use std::alloc::AllocError;
 use undo_marks::{History, Inverse};
@@ -216,7 +216,7 @@ impl Desk {
         self.answer_put(side, id, put, out)
     }
 
-    /// A client's edit of the tree, which is refused while DOM is off.
+    /// A client's edit of the tree.
     pub(crate) fn answer_tree_edit(
         &mut self,
         history: &mut History,
@@ -225,6 +225,7 @@ impl Desk {
         edit: DomEdit,
         out: &mut Vec<u8>,
     ) -> Result<(), AllocError>
+        requires on { self.old.is_on ≡ true }
         requires texts { HasTreeTexts edit }
         requires room { HasNumbersLeft self.old side.old }
         requires notes { edits_in history.old < 2 ^ 30 }
@@ -233,9 +234,6 @@ impl Desk {
         ensures sent { (state : State) → DeskStandsFor self.old side.old state
             → OnOk result (out.new.items ≡ out.old.items ++ frames_of_moves (command_step id (commands.EditDom edit) state).moves) }
     {
-        if !self.is_on {
-            return self.refuse(id, Why::DomOff, out);
-        }
         let edit = lowered(self.alloc, edit)?;
         match NodeEdit::named(edit, &self.agent) {
             Ok(edit) => self.answer_node_edit(history, side, id, edit, out),
