@@ -2,7 +2,6 @@
 ghost use Rattle.std.specs.Prelude.{◌≡◌, ◌++◌, IfOk, IsSome, OnOk, true};
 ghost use Rattle.std.specs.FinMap as map;
 ghost use Rattle.node_tree.specs.Nodes.{alone};
-ghost use Rattle.node_tree.specs.Labels.{is_element};
 ghost use Rattle.page_tree.specs.Pages.{find_in};
 ghost use Rattle.client_views.specs.Moves.{frames_of_moves};
 ghost use Rattle.cdp_messages.specs.declared.css_ask.CssAsk.TheVariants.{GetMatchedStyles};
@@ -17,17 +16,8 @@ use crate::desk::Desk;
 use crate::side::PageSide;
 use cdp_messages::{CssAsk, ReplyBody, Why, write_reply};
 use node_binding::find_in;
-use page_tree::{Kind, Page};
+use page_tree::Page;
 use std::alloc::AllocError;
-
-fn is_element(kind: Kind) -> bool
-    ensures { result ≡ is_element kind }
-{
-    match kind {
-        Kind::Element => true,
-        Kind::Document | Kind::Text | Kind::Comment | Kind::Doctype => false,
-    }
-}
 
 impl Desk {
     /// `CSS.enable`: each sheet comes, where CSS was off.
@@ -77,7 +67,7 @@ impl Desk {
         let Some(found) = find_in(page, serial) else {
             return Err(Why::UnknownNode);
         };
-        if !is_element(found.kind()) {
+        if !found.kind().is_element() {
             return Err(Why::NotElement);
         }
         Ok(serial)
