@@ -58,8 +58,8 @@ use Rattle.undo_marks.specs.declared.inverse_lists.Inverse.TheVariants as kept
 use Rattle.back_end.specs.declared.faults.ActFault.{ActFault}
 use Rattle.cdp_messages.specs.declared.dom_edit.DomEdit.{DomEdit}
 use Rattle.cdp_messages.specs.declared.dom_edit.DomEdit.TheVariants as tree
-use Rattle.back_end.specs.declared.node_edits.NodeEdit.{NodeEdit}
-use Rattle.back_end.specs.declared.node_edits.NodeEdit.TheVariants.{One, MoveNode, CopyNode}
+use Rattle.back_end.specs.declared.node_edits.TreeWish.{TreeWish}
+use Rattle.back_end.specs.declared.node_edits.TreeWish.TheVariants.{One, MoveNode, CopyNode}
 use Rattle.back_end.specs.Sheets.{shown_sheet, SheetChange, leaves, comes}
 use Rattle.back_end.specs.States.{Side, Client, State, page_nodes, book_in, loaded_side, saved_now}
 use Rattle.back_end.specs.Plans.{Plan, node_edit_fault, node_edit_plan, node_put, Deed, edits, restyles, one_edit, edit_fault, act_fault}
@@ -501,22 +501,22 @@ css_off_step id state = record { state = with_client (record state.client { css_
 -- ---- a client's edits of the tree
 
 -- an edit of one known node
-abbrev pub of_node : (ℕ → NodeEdit) → Option ℕ → Result NodeEdit Why
+abbrev pub of_node : (ℕ → TreeWish) → Option ℕ → Result TreeWish Why
 of_node edit None = Err UnknownNode
 of_node edit (Some node) = Ok (edit node)
 
 -- an edit that puts a node before a known one
-abbrev pub put_before_known : (ℕ → ℕ → ℕ → NodeEdit) → ℕ → ℕ → Option ℕ → Result NodeEdit Why
+abbrev pub put_before_known : (ℕ → ℕ → ℕ → TreeWish) → ℕ → ℕ → Option ℕ → Result TreeWish Why
 put_before_known edit node parent None = Err UnknownNode
 put_before_known edit node parent (Some before) = Ok (edit node parent before)
 
 -- below a known one
-abbrev pub put_below : (ℕ → ℕ → ℕ → NodeEdit) → ℕ → Option ℕ → Option ℕ → Result NodeEdit Why
+abbrev pub put_below : (ℕ → ℕ → ℕ → TreeWish) → ℕ → Option ℕ → Option ℕ → Result TreeWish Why
 put_below edit node None before = Err UnknownNode
 put_below edit node (Some parent) before = put_before_known edit node parent before
 
 -- and is known itself
-abbrev pub put_node : (ℕ → ℕ → ℕ → NodeEdit) → Option ℕ → Option ℕ → Option ℕ → Result NodeEdit Why
+abbrev pub put_node : (ℕ → ℕ → ℕ → TreeWish) → Option ℕ → Option ℕ → Option ℕ → Result TreeWish Why
 put_node edit None parent before = Err UnknownNode
 put_node edit (Some node) parent before = put_below edit node parent before
 
@@ -535,7 +535,7 @@ lowered (tree.MoveTo node target before) = tree.MoveTo node target before
 lowered (tree.CopyTo node target before) = tree.CopyTo node target before
 
 -- an edit with its nodes by their serials, where each is known
-abbrev pub edit_named : (ℕ → Option ℕ) → DomEdit → Result NodeEdit Why
+abbrev pub edit_named : (ℕ → Option ℕ) → DomEdit → Result TreeWish Why
 edit_named serials (tree.SetAttributeValue node name value) = of_node (λ s. One (SetAttr s name value)) (serials node)
 edit_named serials (tree.RemoveAttribute node name) = of_node (λ s. One (DropAttr s name)) (serials node)
 edit_named serials (tree.SetNodeValue node value) = of_node (λ s. One (SetText s value)) (serials node)
@@ -559,13 +559,13 @@ abbrev pub planned_by_client : Plan → State → Step
 planned_by_client plan state = keeping (map (λ e. kept.Tree e) plan.edits) state (plan_step plan state)
 
 -- the step of an edit; of one that the page refuses
-abbrev pub unless_fault : ℕ → Option EditFault → NodeEdit → State → Step
+abbrev pub unless_fault : ℕ → Option EditFault → TreeWish → State → Step
 unless_fault id (Some f) edit state = refusing (Some id) (edit_why f) state
 unless_fault id None edit state = put_answer id (node_put edit state.side.page)
     (planned_by_client (node_edit_plan edit state.side.page) state)
 
 -- of one whose nodes are known
-abbrev pub node_edit_step : ℕ → Result NodeEdit Why → State → Step
+abbrev pub node_edit_step : ℕ → Result TreeWish Why → State → Step
 node_edit_step id (Err why) state = refusing (Some id) why state
 node_edit_step id (Ok edit) state = unless_fault id (node_edit_fault edit state.side.page) edit state
 

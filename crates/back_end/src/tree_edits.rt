@@ -7,7 +7,7 @@ ghost use Rattle.undo_marks.specs.Marks.{entry_count, noted, noted_singly};
 ghost use Rattle.undo_marks.specs.SavedEdits.{saved_of, page_after, way_back};
 ghost use Rattle.undo_marks.specs.declared.inverse_lists.Inverse.TheVariants as kept;
 ghost use Rattle.client_views.specs.Moves.{frames_of_moves};
-ghost use Rattle.back_end.specs.declared.node_edits.NodeEdit.TheVariants.{MoveNode, CopyNode};
+ghost use Rattle.back_end.specs.declared.node_edits.TreeWish.TheVariants.{MoveNode, CopyNode};
 ghost use Rattle.back_end.specs.States.{State};
 ghost use Rattle.back_end.specs.Plans.{node_edit_fault, node_edit_plan, node_put};
 ghost use Rattle.cdp_messages.specs.declared.command.Command.TheVariants as commands;
@@ -16,7 +16,7 @@ ghost use Rattle.back_end.specs.Steps.{command_step, edit_step, idle, node_edit_
 ghost use Rattle.back_end.specs.Seats.{BothStandFor, CanPushAny, DeskStandsFor, HasNumbersLeft, edits_in};
 
 use crate::desk::Desk;
-use crate::node_edits::{NodeEdit, lowered};
+use crate::node_edits::{TreeWish, lowered};
 use crate::own::edit_why;
 use crate::side::PageSide;
 use crate::trees::copied_tree;
@@ -127,7 +127,7 @@ impl Desk {
         &mut self,
         history: &mut History,
         side: &mut PageSide,
-        edit: NodeEdit,
+        edit: TreeWish,
         out: &mut Vec<u8>,
     ) -> Result<Option<u64>, AllocError>
         requires fits { node_edit_fault edit side.old.page ≡ None }
@@ -145,11 +145,11 @@ impl Desk {
             → OnOk result (out.new.items ≡ out.old.items ++ frames_of_moves (plan_step (node_edit_plan edit state.side.page) state).moves) }
     {
         match edit {
-            NodeEdit::One { edit } => {
+            TreeWish::One { edit } => {
                 self.apply_by_client(history, side, edit, out)?;
                 Ok(None)
             }
-            NodeEdit::MoveNode {
+            TreeWish::MoveNode {
                 node,
                 parent,
                 before,
@@ -157,7 +157,7 @@ impl Desk {
                 self.put_moved(history, side, node, parent, before, out)?;
                 Ok(Some(node))
             }
-            NodeEdit::CopyNode {
+            TreeWish::CopyNode {
                 node,
                 parent,
                 before,
@@ -198,7 +198,7 @@ impl Desk {
         history: &mut History,
         side: &mut PageSide,
         id: u64,
-        edit: NodeEdit,
+        edit: TreeWish,
         out: &mut Vec<u8>,
     ) -> Result<(), AllocError>
         requires plain { IsPlainEdit edit }
@@ -235,7 +235,7 @@ impl Desk {
             → OnOk result (out.new.items ≡ out.old.items ++ frames_of_moves (command_step id (commands.EditDom edit) state).moves) }
     {
         let edit = lowered(self.alloc, edit)?;
-        match NodeEdit::named(edit, &self.agent) {
+        match TreeWish::named(edit, &self.agent) {
             Ok(edit) => self.answer_node_edit(history, side, id, edit, out),
             Err(why) => self.refuse(id, why, out),
         }
