@@ -25,6 +25,7 @@ use Rattle.back_end.specs.Sheets.{NumberedBook}
 use Rattle.back_end.specs.States.{Client, State, page_nodes}
 use Rattle.cdp_messages.specs.declared.command.Command.{Command}
 use Rattle.cdp_messages.specs.declared.command.Command.TheVariants.{DomEnable, DomDisable, AskDom}
+use Rattle.cdp_messages.proofs.MethodRows.{asks-without-css}
 use Rattle.back_end.specs.Steps.{Step, refusing, with_marks, ask_needs_on, needs_on, needs_css, turns_on, client_served, served_step}
 use Rattle.back_end.specs.Steps.{command_step}
 use Rattle.back_end.specs.declared.desk.Desk.{Desk}
@@ -63,6 +64,10 @@ marks-stands marks d s state stands = record {
 }
 
 -- ---- a command that needs DOM on, or does not
+
+-- what the DOM agent is asked needs no CSS
+ask-passes : (c : DomAsk) (on : Bool) → (needs_css (AskDom c) && not on) ≡ false
+ask-passes c on = ap (λ (b : Bool). b && not on) (asks-without-css c)
 
 -- one that is carried out
 pub on-is : (id : ℕ) (command : Command) (state : State) → (needs_on command && not state.client.dom_on) ≡ false
@@ -133,7 +138,7 @@ asked-stands d d1 s s1 state id c page fits is_off stands same_side sheets_is sa
     stays_bound state.side.page c w d.agent stands.now.page fits stands.now.session stands.stands in
     let agent_now : state_after d.agent (binding_outcome state.side.page c d.agent) ≡ d1.agent =
     sym (agent_is ∙ ap (λ page. state_after d.agent (binding_outcome page c d.agent)) (same_page ∙ stands.page_is)) in
-    subst (λ (done : Step). DeskStandsFor d1 s1 done.state) (sym (on-is id (AskDom c) state on refl)) (record {
+    subst (λ (done : Step). DeskStandsFor d1 s1 done.state) (sym (on-is id (AskDom c) state on (ask-passes c state.client.css_on))) (record {
       now = served-is c o state stands.now (off-after c state stands.now on)
           (unknown-before state.side.page c w stands.now.page stands.now.session)
           (stays_session state.side.page c w stands.now.page fits stands.now.session);
@@ -155,7 +160,7 @@ asked-sent d s state id c page old new fits is_off stands same_page sent =
     sent ∙ ap (λ page. old ++ answer id (binding_outcome page c d.agent)) (same_page ∙ stands.page_is)
     ∙ ap (λ ms. old ++ frames_of_moves ms)
     (same_moves state.side.page c state.client.session d.agent id stands.now.page fits stands.now.session stands.stands)
-    ∙ ap (λ (done : Step). old ++ frames_of_moves done.moves) (sym (on-is id (AskDom c) state on refl))
+    ∙ ap (λ (done : Step). old ++ frames_of_moves done.moves) (sym (on-is id (AskDom c) state on (ask-passes c state.client.css_on)))
 
 -- ---- the seat's own commands
 

@@ -45,6 +45,9 @@ use Rattle.back_end.proofs.PushSteps.{is-begun, begun-is, begun-known}
 use Rattle.back_end.proofs.TreeSteps.{begun-after, named-known}
 use Rattle.back_end.proofs.SheetSeats.{dom-on}
 use Rattle.back_end.proofs.SeatLemmas.{on-is}
+use Rattle.cdp_messages.specs.declared.method.Domains.{Domains}
+use Rattle.cdp_messages.specs.Methods.{needs_both}
+use Rattle.cdp_messages.proofs.MethodRows.{edits-need-dom}
 
 -- ---- a move
 
@@ -284,7 +287,8 @@ pub edit-is : (d : Desk) (s : PageSide) (state : State) (id : ℕ) (edit : DomEd
     → node_edit_step id r state ≡ command_step id (EditDom edit) state
 edit-is d s state id edit r stands on is =
     ap (λ x. node_edit_step id x state) (sym (named-here d s state edit r stands is))
-    ∙ sym (on-is id (EditDom edit) state (dom-on (EditDom edit) d s state stands on) refl)
+    ∙ sym (on-is id (EditDom edit) state (dom-on (EditDom edit) d s state stands on)
+    (ap (λ (w : Domains). needs_both w && not state.client.css_on) (edits-need-dom edit)))
 
 pub named-both : {T E : Type 0} (result : Result T E) (d d1 : Desk) (h h1 : Marks Inverse) (s s1 : PageSide) (state : State) (id : ℕ)
     (edit : DomEdit) (e : TreeWish) → DeskStandsFor d s state → d.is_on ≡ true

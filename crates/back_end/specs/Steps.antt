@@ -19,15 +19,14 @@ use Rattle.cdp_messages.specs.declared.command.Why.TheVariants.{DomOff, CssOff, 
 use Rattle.cdp_messages.specs.declared.command.Asked.{Asked}
 use Rattle.cdp_messages.specs.declared.command.Refused.{Refused}
 use Rattle.cdp_messages.specs.declared.dom_ask.DomAsk.{DomAsk}
-use Rattle.cdp_messages.specs.declared.dom_ask.DomAsk.TheVariants.{GetDocument, RequestChildNodes, PushByPath, PushBySerials, QuerySelector}
-use Rattle.cdp_messages.specs.declared.dom_ask.DomAsk.TheVariants.{QuerySelectorAll, GetAttributes, DescribeNode}
 use Rattle.cdp_messages.specs.declared.command.WatchWord.{WatchWord}
 use Rattle.cdp_messages.specs.declared.command.WatchWord.TheVariants as word
 use Rattle.cdp_messages.specs.declared.down.PauseData.{PauseData}
 use Rattle.cdp_messages.specs.declared.down.PauseData.TheVariants as told_pause
 use Rattle.cdp_messages.specs.declared.down.ReplyBody.{ReplyBody}
 use Rattle.cdp_messages.specs.declared.down.ReplyBody.TheVariants.{Nothing, NodeId}
-use Rattle.cdp_messages.specs.Asked.{asked}
+use Rattle.cdp_messages.specs.Asked.{asked, method_of}
+use Rattle.cdp_messages.specs.Methods.{domains_of, needs_dom, needs_both, turns_dom_on}
 use Rattle.sheet_reader.specs.declared.book.SheetEntry.{SheetEntry}
 use Rattle.client_views.specs.Views.{ShownSheet, sheets_without, sheets_with_text}
 use Rattle.client_views.specs.Moves.{Move, clear, met, rewritten, added, dropped, texted, replied, all_off, sheets_off, failed}
@@ -378,52 +377,17 @@ turn_step (loads page) state = load_step page state
 
 -- ---- commands
 
--- an ask that is refused while DOM is off
-abbrev pub ask_needs_on : DomAsk → Bool
-ask_needs_on (GetDocument depth pierce) = false
-ask_needs_on (RequestChildNodes id depth pierce) = true
-ask_needs_on (PushByPath path) = true
-ask_needs_on (PushBySerials serials) = true
-ask_needs_on (QuerySelector id text) = true
-ask_needs_on (QuerySelectorAll id text) = true
-ask_needs_on (GetAttributes id) = true
-ask_needs_on (DescribeNode id serial depth pierce) = false
-
 -- a command that is refused while DOM is off
 abbrev pub needs_on : Command → Bool
-needs_on DomEnable = false
-needs_on DomDisable = true
-needs_on (AskDom ask) = ask_needs_on ask
-needs_on (EditDom edit) = true
-needs_on MarkUndoableState = true
-needs_on Undo = true
-needs_on Redo = true
-needs_on CssEnable = true
-needs_on CssDisable = true
-needs_on (AskCss ask) = true
-needs_on (EditCss edit) = true
-needs_on (SetBreakpoint node word) = true
-needs_on (RemoveBreakpoint node word) = true
-needs_on (ReplayLoad params) = false
-needs_on (ReplayAct params) = false
+needs_on c = needs_dom (domains_of (method_of c))
+
+-- an ask that is refused while DOM is off
+abbrev pub ask_needs_on : DomAsk → Bool
+ask_needs_on ask = needs_on (AskDom ask)
 
 -- a command that is refused while CSS is off
 abbrev pub needs_css : Command → Bool
-needs_css DomEnable = false
-needs_css DomDisable = false
-needs_css (AskDom ask) = false
-needs_css (EditDom edit) = false
-needs_css MarkUndoableState = false
-needs_css Undo = false
-needs_css Redo = false
-needs_css CssEnable = false
-needs_css CssDisable = true
-needs_css (AskCss ask) = true
-needs_css (EditCss edit) = true
-needs_css (SetBreakpoint node word) = false
-needs_css (RemoveBreakpoint node word) = false
-needs_css (ReplayLoad params) = false
-needs_css (ReplayAct params) = false
+needs_css c = needs_both (domains_of (method_of c))
 
 -- why a command is refused whatever it says, where DOM and CSS are on or off so: a domain that it needs is off
 abbrev pub missing : Bool → Bool → Command → Option Why
@@ -431,14 +395,7 @@ missing dom_on css_on command = cond (needs_on command && not dom_on) (Some DomO
 
 -- an ask that turns DOM on
 abbrev pub turns_on : DomAsk → Bool
-turns_on (GetDocument depth pierce) = true
-turns_on (RequestChildNodes id depth pierce) = false
-turns_on (PushByPath path) = false
-turns_on (PushBySerials serials) = false
-turns_on (QuerySelector id text) = false
-turns_on (QuerySelectorAll id text) = false
-turns_on (GetAttributes id) = false
-turns_on (DescribeNode id serial depth pierce) = false
+turns_on ask = turns_dom_on (domains_of (method_of (AskDom ask)))
 
 -- the client after what its AskDom was asked: one whose ask was refused is as before
 abbrev pub client_served : DomAsk → Outcome Session → Client → Client

@@ -32,79 +32,6 @@ pub(crate) struct Desk {
     pub(crate) watches: Watches,
 }
 
-/// Whether an ask is refused while DOM is off.
-fn ask_needs_on(ask: &DomAsk) -> bool
-    ensures { result ≡ ask_needs_on ask.now }
-{
-    match ask {
-        DomAsk::GetDocument { .. } | DomAsk::DescribeNode { .. } => false,
-        DomAsk::RequestChildNodes { .. }
-        | DomAsk::PushByPath { .. }
-        | DomAsk::PushBySerials { .. }
-        | DomAsk::QuerySelector { .. }
-        | DomAsk::QuerySelectorAll { .. }
-        | DomAsk::GetAttributes { .. } => true,
-    }
-}
-
-/// Whether a command is refused while DOM is off.
-fn needs_on(command: &Command) -> bool
-    ensures { result ≡ steps.needs_on command.now }
-{
-    match command {
-        Command::DomEnable | Command::ReplayLoad { .. } | Command::ReplayAct { .. } => false,
-        Command::AskDom(ask) => ask_needs_on(ask),
-        Command::DomDisable
-        | Command::EditDom(_)
-        | Command::MarkUndoableState
-        | Command::Undo
-        | Command::Redo
-        | Command::CssEnable
-        | Command::CssDisable
-        | Command::AskCss(_)
-        | Command::EditCss(_)
-        | Command::SetBreakpoint { .. }
-        | Command::RemoveBreakpoint { .. } => true,
-    }
-}
-
-/// Whether a command is refused while CSS is off.
-fn needs_css(command: &Command) -> bool
-    ensures { result ≡ steps.needs_css command.now }
-{
-    match command {
-        Command::CssDisable | Command::AskCss(_) | Command::EditCss(_) => true,
-        Command::DomEnable
-        | Command::DomDisable
-        | Command::AskDom(_)
-        | Command::EditDom(_)
-        | Command::MarkUndoableState
-        | Command::Undo
-        | Command::Redo
-        | Command::CssEnable
-        | Command::SetBreakpoint { .. }
-        | Command::RemoveBreakpoint { .. }
-        | Command::ReplayLoad { .. }
-        | Command::ReplayAct { .. } => false,
-    }
-}
-
-/// Whether an ask turns DOM on.
-fn turns_on(ask: &DomAsk) -> bool
-    ensures { result ≡ steps.turns_on ask.now }
-{
-    match ask {
-        DomAsk::GetDocument { .. } => true,
-        DomAsk::RequestChildNodes { .. }
-        | DomAsk::PushByPath { .. }
-        | DomAsk::PushBySerials { .. }
-        | DomAsk::QuerySelector { .. }
-        | DomAsk::QuerySelectorAll { .. }
-        | DomAsk::GetAttributes { .. }
-        | DomAsk::DescribeNode { .. } => false,
-    }
-}
-
 impl Desk {
     /// The desk of a client that has asked for nothing yet.
     pub(crate) fn new(alloc: Global) -> Desk
@@ -150,11 +77,12 @@ impl Desk {
     fn missing(&self, command: &Command) -> Option<Why>
         ensures { result ≡ missing self.now.is_on self.now.css command.now }
     {
-        let needs_on = needs_on(command);
+        let domains = command.method().domains();
+        let needs_on = domains.needs_dom();
         if needs_on && !self.is_on {
             return Some(Why::DomOff);
         }
-        let needs_css = needs_css(command);
+        let needs_css = domains.needs_css();
         let css_on = self.css.is_on();
         if needs_css && !css_on {
             return Some(Why::CssOff);
@@ -278,7 +206,8 @@ impl Desk {
     fn is_on_after(&self, ask: &DomAsk) -> bool
         ensures { result ≡ (self.now.is_on || steps.turns_on ask.now) }
     {
-        self.is_on || turns_on(ask)
+        let turns_on = ask.method().domains().turns_dom_on();
+        self.is_on || turns_on
     }
 
     fn ask_agent(

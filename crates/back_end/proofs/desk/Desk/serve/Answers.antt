@@ -5,6 +5,8 @@ use Rattle.serde_json.specs.View.{view}
 use Rattle.cdp_messages.specs.Asked.{fits_command}
 use Rattle.cdp_messages.specs.declared.command.Command.{Command}
 use Rattle.cdp_messages.specs.declared.command.Command.TheVariants as commands
+use Rattle.cdp_messages.specs.Methods.{needs_dom, needs_both}
+use Rattle.cdp_messages.proofs.MethodRows.{edits-need-dom, styles-need-both, style_edits-need-both}
 use Rattle.back_end.proofs.DomainLemmas.{met-on, met-css, met-ask}
 use Rattle.back_end.proofs.KeepSeats.{enables-alone, css-enables-alone, css-disables-alone, styles-alone, watches-alone, unwatches-alone}
 use Rattle.back_end.proofs.KeepSeats.{agent-alone, plain-both, part-both, part-sent}
@@ -204,13 +206,13 @@ pub disable_css-requires-clause-on : goal.disable_css-requires-clause-on
 disable_css-requires-clause-on c = met-on c.args.self.now.is_on c.args.self.now.css (commands.CssDisable) c.args.command c.in-CssDisable.is refl c.requires.met
 
 pub answer_styles-requires-clause-on : goal.answer_styles-requires-clause-on
-answer_styles-requires-clause-on c = met-on c.args.self.now.is_on c.args.self.now.css (commands.AskCss c.in-AskCss.ask) c.args.command c.in-AskCss.is refl c.requires.met
+answer_styles-requires-clause-on c = met-on c.args.self.now.is_on c.args.self.now.css (commands.AskCss c.in-AskCss.ask) c.args.command c.in-AskCss.is (ap needs_dom (styles-need-both c.in-AskCss.ask)) c.requires.met
 
 pub answer_sheet_edit-requires-clause-on : goal.answer_sheet_edit-requires-clause-on
-answer_sheet_edit-requires-clause-on c = met-on c.args.self.now.is_on c.args.self.now.css (commands.EditCss c.in-EditCss.edit) c.args.command c.in-EditCss.is refl c.requires.met
+answer_sheet_edit-requires-clause-on c = met-on c.args.self.now.is_on c.args.self.now.css (commands.EditCss c.in-EditCss.edit) c.args.command c.in-EditCss.is (ap needs_dom (style_edits-need-both c.in-EditCss.edit)) c.requires.met
 
 pub answer_tree_edit-requires-clause-on : goal.answer_tree_edit-requires-clause-on
-answer_tree_edit-requires-clause-on c = met-on c.args.self.now.is_on c.args.self.now.css (commands.EditDom c.in-EditDom.edit) c.args.command c.in-EditDom.is refl c.requires.met
+answer_tree_edit-requires-clause-on c = met-on c.args.self.now.is_on c.args.self.now.css (commands.EditDom c.in-EditDom.edit) c.args.command c.in-EditDom.is (ap needs_dom (edits-need-dom c.in-EditDom.edit)) c.requires.met
 
 pub end_group-requires-clause-on : goal.end_group-requires-clause-on
 end_group-requires-clause-on c = met-on c.args.self.now.is_on c.args.self.now.css (commands.MarkUndoableState) c.args.command c.in-MarkUndoableState.is refl c.requires.met
@@ -231,10 +233,10 @@ pub disable_css-requires-clause-css : goal.disable_css-requires-clause-css
 disable_css-requires-clause-css c = met-css c.args.self.now.is_on c.args.self.now.css (commands.CssDisable) c.args.command c.in-CssDisable.is refl c.requires.met
 
 pub answer_styles-requires-clause-css : goal.answer_styles-requires-clause-css
-answer_styles-requires-clause-css c = met-css c.args.self.now.is_on c.args.self.now.css (commands.AskCss c.in-AskCss.ask) c.args.command c.in-AskCss.is refl c.requires.met
+answer_styles-requires-clause-css c = met-css c.args.self.now.is_on c.args.self.now.css (commands.AskCss c.in-AskCss.ask) c.args.command c.in-AskCss.is (ap needs_both (styles-need-both c.in-AskCss.ask)) c.requires.met
 
 pub answer_sheet_edit-requires-clause-css : goal.answer_sheet_edit-requires-clause-css
-answer_sheet_edit-requires-clause-css c = met-css c.args.self.now.is_on c.args.self.now.css (commands.EditCss c.in-EditCss.edit) c.args.command c.in-EditCss.is refl c.requires.met
+answer_sheet_edit-requires-clause-css c = met-css c.args.self.now.is_on c.args.self.now.css (commands.EditCss c.in-EditCss.edit) c.args.command c.in-EditCss.is (ap needs_both (style_edits-need-both c.in-EditCss.edit)) c.requires.met
 
 pub ask_agent-requires-clause-on : goal.ask_agent-requires-clause-on
 ask_agent-requires-clause-on c = met-ask c.args.self.now.is_on c.args.self.now.css c.in-AskDom.ask c.args.command c.in-AskDom.is c.requires.met
