@@ -3,7 +3,6 @@ use Rattle.std.proofs.Common.{◌≡◌, ℕ, Bool, true, false, cond, not, ◌&
 use Rattle.std.proofs.Common.{◌∙◌, subst, arith}
 use Rattle.page_tree.specs.declared.edits.TreeEdit.{TreeEdit}
 use Rattle.node_binding.specs.Sessions.{Session}
-use Rattle.cdp_messages.specs.declared.command.Why.{Why}
 use Rattle.cdp_messages.specs.declared.command.Why.TheVariants.{DomOff, CssOff}
 use Rattle.cdp_messages.specs.declared.dom_ask.DomAsk.{DomAsk}
 use Rattle.client_views.specs.Moves.{frames_of_moves}
@@ -13,7 +12,7 @@ use Rattle.dom_agent.specs.Requests.{Outcome, shows_root, served, refused}
 use Rattle.dom_agent.specs.Laws.{session_outcome}
 use Rattle.dom_breakpoints.specs.declared.pauses.Pause.{Pause}
 use Rattle.dom_breakpoints.specs.Pauses.{pause_of}
-use Rattle.dom_breakpoints.specs.Watched.{Watched}
+use Rattle.dom_breakpoints.specs.Watched.{Watched, with_watch, without_watch}
 use Rattle.page_forms.specs.declared.acts.Act.{Act}
 use Rattle.page_forms.specs.Pages.{LoadedPage}
 use Rattle.undo_marks.specs.Marks.{Marks, no_marks, crossed_over}
@@ -31,11 +30,10 @@ use Rattle.cdp_messages.specs.declared.command.Command.TheVariants.{SetBreakpoin
 use Rattle.back_end.specs.Steps.{Step, refusing, with_page, client_served, push_step, push_steps, pause_step, script_step, script_steps}
 use Rattle.back_end.specs.Steps.{sheet_step, sheet_steps, deed_step, planned_step, act_step, load_step, watch_kind, watch_step, serial_now}
 use Rattle.back_end.specs.Steps.{needs_on, needs_css, served_step, command_step}
-use Rattle.dom_breakpoints.specs.Watched.{with_watch, without_watch}
 use Rattle.cdp_messages.specs.declared.command.WatchWord.{WatchWord}
 use Rattle.back_end.specs.Seats.{DeskStandsFor, BothStandFor}
 use Rattle.back_end.proofs.HistoryLemmas.{keeps-same, keeps-crossed, keeps-cleared}
-use Rattle.back_end.proofs.SeatLemmas.{on_ok, off-is, css-off-is, on-is}
+use Rattle.back_end.proofs.SeatLemmas.{on_ok, on-is}
 use Rattle.back_end.proofs.SheetSeats.{dom-on}
 
 -- ---- steps that leave the history alone
@@ -136,30 +134,6 @@ pub part-sent : {T E : Type 0} (result : Result T E) (state : State) (id : ℕ) 
     → OnOk result (new ≡ old ++ frames_of_moves (command_step id q state).moves)
 part-sent result state id p q old new is done = subst
     (λ (x : Command). OnOk result (new ≡ old ++ frames_of_moves (command_step id x state).moves)) is done
-
--- a step that is a refusal
-refused-both : (d : Desk) (h : Marks Inverse) (s : PageSide) (state : State) (done : Step) (id : Option ℕ) (why : Why)
-    → done ≡ refusing id why state → BothStandFor d h s state
-    → BothStandFor d h s done.state
-refused-both d h s state done id why is both = subst (λ (x : Step). BothStandFor d h s x.state) (sym is) both
-
--- one since DOM is off, and one since CSS is
-pub off-both : (d : Desk) (h : Marks Inverse) (s : PageSide) (state : State) (id : ℕ) (command : Command) → needs_on command ≡ true
-    → BothStandFor d h s state → d.is_on ≡ false
-    → BothStandFor d h s (command_step id command state).state
-off-both d h s state id command needs both was =
-    let off : (needs_on command && not state.client.dom_on)
-    ≡ true = ap (λ a. a && not state.client.dom_on) needs ∙ ap (λ b. not b) (sym both.stands.on_is ∙ was) in
-    refused-both d h s state (command_step id command state) (Some id) DomOff (off-is id command state off) both
-
-pub css-off-both : (d : Desk) (h : Marks Inverse) (s : PageSide) (state : State) (id : ℕ) (command : Command) → needs_css command ≡ true
-    → BothStandFor d h s state → d.is_on ≡ true → d.css ≡ false
-    → BothStandFor d h s (command_step id command state).state
-css-off-both d h s state id command needs both on was =
-    let off : (needs_css command && not state.client.css_on)
-    ≡ true = ap (λ a. a && not state.client.css_on) needs ∙ ap (λ b. not b) (sym both.stands.css_is ∙ was) in
-    refused-both d h s state (command_step id command state) (Some id) CssOff
-    (css-off-is id command state (dom-on command d s state both.stands on) off) both
 
 -- ---- `DOM.disable`
 

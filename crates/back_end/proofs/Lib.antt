@@ -40,3 +40,4 @@ pub mod NoteSeats
 pub mod UndoSeats
 pub mod NoteCounts
 pub mod AskCounts
+mod DomainLemmas

@@ -22,7 +22,7 @@ use Rattle.style_edits.specs.Edits.{is_too_big, new_sheet}
 use Rattle.page_forms.specs.Pages.{LoadedPage, CanLoadPage}
 use Rattle.page_forms.specs.declared.acts.Act.TheVariants as act
 use Rattle.cdp_messages.specs.declared.command.Why.{Why}
-use Rattle.cdp_messages.specs.declared.command.Why.TheVariants.{DomOff, CssOff, NotElement}
+use Rattle.cdp_messages.specs.declared.command.Why.TheVariants.{NotElement}
 use Rattle.cdp_messages.specs.declared.down.ReplyBody.TheVariants.{Nothing, SheetText}
 use Rattle.pipe_frames.specs.Frames.{framed}
 use Rattle.cdp_messages.specs.Events.{News, sheet_added, sheet_removed}
@@ -56,7 +56,7 @@ use Rattle.back_end.proofs.SheetLemmas.{own-test, book-last, book-without, fits-
 use Rattle.back_end.proofs.SheetSteps.{change-is, css-on-is, css-off-is}
 use Rattle.undo_marks.specs.Marks.{crossed_over}
 use Rattle.back_end.proofs.StepLemmas.{load-is}
-use Rattle.back_end.proofs.SeatLemmas.{marks-stands, off-is, css-off-is as css-refused-is, on-is}
+use Rattle.back_end.proofs.SeatLemmas.{marks-stands, on-is}
 
 -- ---- frames of messages
 
@@ -100,26 +100,6 @@ frames-append ms ks = flat_map-append (λ (m : Move). framed (move_text m)) ms k
 
 -- ---- commands that are refused
 
-test-is : (needs was on : Bool) (t : Bool) → was ≡ on → (needs && not was) ≡ t → (needs && not on) ≡ t
-test-is needs was on t is e = ap (λ b. needs && not b) (sym is) ∙ e
-
-pub dom-off-stands : (d : Desk) (s : PageSide) (state : State) (id : ℕ) (command : Command) → needs_on command ≡ true
-    → DeskStandsFor d s state → d.is_on ≡ false
-    → DeskStandsFor d s (command_step id command state).state
-dom-off-stands d s state id command needs stands was =
-    let off : (needs_on command && not state.client.dom_on)
-    ≡ true = ap (λ a. a && not state.client.dom_on) needs ∙ ap (λ b. not b) (sym stands.on_is ∙ was) in
-    subst (λ (done : Step). DeskStandsFor d s done.state) (sym (off-is id command state off)) stands
-
-pub dom-off-sent : (d : Desk) (s : PageSide) (state : State) (id : ℕ) (command : Command) (old new : List ℕ) → needs_on command ≡ true
-    → DeskStandsFor d s state → d.is_on ≡ false
-    → new ≡ old ++ frames_of_moves (refusing (Some id) DomOff state).moves
-    → new ≡ old ++ frames_of_moves (command_step id command state).moves
-dom-off-sent d s state id command old new needs stands was sent =
-    let off : (needs_on command && not state.client.dom_on)
-    ≡ true = ap (λ a. a && not state.client.dom_on) needs ∙ ap (λ b. not b) (sym stands.on_is ∙ was) in
-    sent ∙ ap (λ (done : Step). old ++ frames_of_moves done.moves) (sym (off-is id command state off))
-
 pub dom-on : (command : Command) (d : Desk) (s : PageSide) (state : State) → DeskStandsFor d s state → d.is_on ≡ true
     → (needs_on command && not state.client.dom_on) ≡ false
 dom-on command d s state stands was = ap (λ b. needs_on command && not b) (sym stands.on_is ∙ was) ∙ at (needs_on command) where
@@ -127,31 +107,12 @@ dom-on command d s state stands was = ap (λ b. needs_on command && not b) (sym 
   at true = refl
   at false = refl
 
-css-refused : (command : Command) (d : Desk) (s : PageSide) (state : State) → needs_css command ≡ true → DeskStandsFor d s state
-    → d.css ≡ false → (needs_css command && not state.client.css_on) ≡ true
-css-refused command d s state needs stands was = ap (λ a. a && not state.client.css_on) needs ∙ ap (λ b. not b) (sym stands.css_is ∙ was)
-
 pub css-taken : (command : Command) (d : Desk) (s : PageSide) (state : State) → DeskStandsFor d s state → d.css ≡ true
     → (needs_css command && not state.client.css_on) ≡ false
 css-taken command d s state stands was = ap (λ b. needs_css command && not b) (sym stands.css_is ∙ was) ∙ at (needs_css command) where
   at : (a : Bool) → (a && false) ≡ false
   at true = refl
   at false = refl
-
-pub css-off-stands : (d : Desk) (s : PageSide) (state : State) (id : ℕ) (command : Command) → needs_css command ≡ true
-    → DeskStandsFor d s state → d.is_on ≡ true → d.css ≡ false
-    → DeskStandsFor d s (command_step id command state).state
-css-off-stands d s state id command needs stands on off =
-    subst (λ (done : Step). DeskStandsFor d s done.state)
-    (sym (css-refused-is id command state (dom-on command d s state stands on) (css-refused command d s state needs stands off))) stands
-
-pub css-off-sent : (d : Desk) (s : PageSide) (state : State) (id : ℕ) (command : Command) (old new : List ℕ) → needs_css command ≡ true
-    → DeskStandsFor d s state → d.is_on ≡ true → d.css ≡ false
-    → new ≡ old ++ frames_of_moves (refusing (Some id) CssOff state).moves
-    → new ≡ old ++ frames_of_moves (command_step id command state).moves
-css-off-sent d s state id command old new needs stands on off sent =
-    sent ∙ ap (λ (done : Step). old ++ frames_of_moves done.moves)
-    (sym (css-refused-is id command state (dom-on command d s state stands on) (css-refused command d s state needs stands off)))
 
 -- ---- `CSS.enable` and `CSS.disable`
 

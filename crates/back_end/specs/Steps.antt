@@ -19,15 +19,14 @@ use Rattle.cdp_messages.specs.declared.command.Why.TheVariants.{DomOff, CssOff, 
 use Rattle.cdp_messages.specs.declared.command.Asked.{Asked}
 use Rattle.cdp_messages.specs.declared.command.Refused.{Refused}
 use Rattle.cdp_messages.specs.declared.dom_ask.DomAsk.{DomAsk}
-use Rattle.cdp_messages.specs.declared.dom_ask.DomAsk.TheVariants.{GetDocument, RequestChildNodes, PushByPath, PushBySerials, QuerySelector}
-use Rattle.cdp_messages.specs.declared.dom_ask.DomAsk.TheVariants.{QuerySelectorAll, GetAttributes, DescribeNode}
 use Rattle.cdp_messages.specs.declared.command.WatchWord.{WatchWord}
 use Rattle.cdp_messages.specs.declared.command.WatchWord.TheVariants as word
 use Rattle.cdp_messages.specs.declared.down.PauseData.{PauseData}
 use Rattle.cdp_messages.specs.declared.down.PauseData.TheVariants as told_pause
 use Rattle.cdp_messages.specs.declared.down.ReplyBody.{ReplyBody}
 use Rattle.cdp_messages.specs.declared.down.ReplyBody.TheVariants.{Nothing, NodeId}
-use Rattle.cdp_messages.specs.Asked.{asked}
+use Rattle.cdp_messages.specs.Asked.{asked, method_of}
+use Rattle.cdp_messages.specs.Methods.{domains_of, needs_dom, needs_both, turns_dom_on}
 use Rattle.sheet_reader.specs.declared.book.SheetEntry.{SheetEntry}
 use Rattle.client_views.specs.Views.{ShownSheet, sheets_without, sheets_with_text}
 use Rattle.client_views.specs.Moves.{Move, clear, met, rewritten, added, dropped, texted, replied, all_off, sheets_off, failed}
@@ -58,8 +57,8 @@ use Rattle.undo_marks.specs.declared.inverse_lists.Inverse.TheVariants as kept
 use Rattle.back_end.specs.declared.faults.ActFault.{ActFault}
 use Rattle.cdp_messages.specs.declared.dom_edit.DomEdit.{DomEdit}
 use Rattle.cdp_messages.specs.declared.dom_edit.DomEdit.TheVariants as tree
-use Rattle.back_end.specs.declared.node_edits.NodeEdit.{NodeEdit}
-use Rattle.back_end.specs.declared.node_edits.NodeEdit.TheVariants.{One, MoveNode, CopyNode}
+use Rattle.back_end.specs.declared.node_edits.TreeWish.{TreeWish}
+use Rattle.back_end.specs.declared.node_edits.TreeWish.TheVariants.{One, MoveNode, CopyNode}
 use Rattle.back_end.specs.Sheets.{shown_sheet, SheetChange, leaves, comes}
 use Rattle.back_end.specs.States.{Side, Client, State, page_nodes, book_in, loaded_side, saved_now}
 use Rattle.back_end.specs.Plans.{Plan, node_edit_fault, node_edit_plan, node_put, Deed, edits, restyles, one_edit, edit_fault, act_fault}
@@ -378,63 +377,25 @@ turn_step (loads page) state = load_step page state
 
 -- ---- commands
 
--- an ask that is refused while DOM is off
-abbrev pub ask_needs_on : DomAsk → Bool
-ask_needs_on (GetDocument depth pierce) = false
-ask_needs_on (RequestChildNodes id depth pierce) = true
-ask_needs_on (PushByPath path) = true
-ask_needs_on (PushBySerials serials) = true
-ask_needs_on (QuerySelector id text) = true
-ask_needs_on (QuerySelectorAll id text) = true
-ask_needs_on (GetAttributes id) = true
-ask_needs_on (DescribeNode id serial depth pierce) = false
-
 -- a command that is refused while DOM is off
 abbrev pub needs_on : Command → Bool
-needs_on DomEnable = false
-needs_on DomDisable = true
-needs_on (AskDom ask) = ask_needs_on ask
-needs_on (EditDom edit) = true
-needs_on MarkUndoableState = true
-needs_on Undo = true
-needs_on Redo = true
-needs_on CssEnable = true
-needs_on CssDisable = true
-needs_on (AskCss ask) = true
-needs_on (EditCss edit) = true
-needs_on (SetBreakpoint node word) = true
-needs_on (RemoveBreakpoint node word) = true
-needs_on (ReplayLoad params) = false
-needs_on (ReplayAct params) = false
+needs_on c = needs_dom (domains_of (method_of c))
+
+-- an ask that is refused while DOM is off
+abbrev pub ask_needs_on : DomAsk → Bool
+ask_needs_on ask = needs_on (AskDom ask)
 
 -- a command that is refused while CSS is off
 abbrev pub needs_css : Command → Bool
-needs_css DomEnable = false
-needs_css DomDisable = false
-needs_css (AskDom ask) = false
-needs_css (EditDom edit) = false
-needs_css MarkUndoableState = false
-needs_css Undo = false
-needs_css Redo = false
-needs_css CssEnable = false
-needs_css CssDisable = true
-needs_css (AskCss ask) = true
-needs_css (EditCss edit) = true
-needs_css (SetBreakpoint node word) = false
-needs_css (RemoveBreakpoint node word) = false
-needs_css (ReplayLoad params) = false
-needs_css (ReplayAct params) = false
+needs_css c = needs_both (domains_of (method_of c))
+
+-- why a command is refused whatever it says, where DOM and CSS are on or off so: a domain that it needs is off
+abbrev pub missing : Bool → Bool → Command → Option Why
+missing dom_on css_on command = cond (needs_on command && not dom_on) (Some DomOff) (cond (needs_css command && not css_on) (Some CssOff) None)
 
 -- an ask that turns DOM on
 abbrev pub turns_on : DomAsk → Bool
-turns_on (GetDocument depth pierce) = true
-turns_on (RequestChildNodes id depth pierce) = false
-turns_on (PushByPath path) = false
-turns_on (PushBySerials serials) = false
-turns_on (QuerySelector id text) = false
-turns_on (QuerySelectorAll id text) = false
-turns_on (GetAttributes id) = false
-turns_on (DescribeNode id serial depth pierce) = false
+turns_on ask = turns_dom_on (domains_of (method_of (AskDom ask)))
 
 -- the client after what its DOM agent was asked: one whose ask was refused is as before
 abbrev pub client_served : DomAsk → Outcome Session → Client → Client
@@ -497,22 +458,22 @@ css_off_step id state = record { state = with_client (record state.client { css_
 -- ---- a client's edits of the tree
 
 -- an edit of one known node
-abbrev pub of_node : (ℕ → NodeEdit) → Option ℕ → Result NodeEdit Why
+abbrev pub of_node : (ℕ → TreeWish) → Option ℕ → Result TreeWish Why
 of_node edit None = Err UnknownNode
 of_node edit (Some node) = Ok (edit node)
 
 -- an edit that puts a node before a known one
-abbrev pub put_before_known : (ℕ → ℕ → ℕ → NodeEdit) → ℕ → ℕ → Option ℕ → Result NodeEdit Why
+abbrev pub put_before_known : (ℕ → ℕ → ℕ → TreeWish) → ℕ → ℕ → Option ℕ → Result TreeWish Why
 put_before_known edit node parent None = Err UnknownNode
 put_before_known edit node parent (Some before) = Ok (edit node parent before)
 
 -- below a known one
-abbrev pub put_below : (ℕ → ℕ → ℕ → NodeEdit) → ℕ → Option ℕ → Option ℕ → Result NodeEdit Why
+abbrev pub put_below : (ℕ → ℕ → ℕ → TreeWish) → ℕ → Option ℕ → Option ℕ → Result TreeWish Why
 put_below edit node None before = Err UnknownNode
 put_below edit node (Some parent) before = put_before_known edit node parent before
 
 -- and is known itself
-abbrev pub put_node : (ℕ → ℕ → ℕ → NodeEdit) → Option ℕ → Option ℕ → Option ℕ → Result NodeEdit Why
+abbrev pub put_node : (ℕ → ℕ → ℕ → TreeWish) → Option ℕ → Option ℕ → Option ℕ → Result TreeWish Why
 put_node edit None parent before = Err UnknownNode
 put_node edit (Some node) parent before = put_below edit node parent before
 
@@ -531,7 +492,7 @@ lowered (tree.MoveTo node target before) = tree.MoveTo node target before
 lowered (tree.CopyTo node target before) = tree.CopyTo node target before
 
 -- an edit with its nodes by their serials, where each is known
-abbrev pub edit_named : (ℕ → Option ℕ) → DomEdit → Result NodeEdit Why
+abbrev pub edit_named : (ℕ → Option ℕ) → DomEdit → Result TreeWish Why
 edit_named serials (tree.SetAttributeValue node name value) = of_node (λ s. One (SetAttr s name value)) (serials node)
 edit_named serials (tree.RemoveAttribute node name) = of_node (λ s. One (DropAttr s name)) (serials node)
 edit_named serials (tree.SetNodeValue node value) = of_node (λ s. One (SetText s value)) (serials node)
@@ -555,13 +516,13 @@ abbrev pub planned_by_client : Plan → State → Step
 planned_by_client plan state = keeping (map (λ e. kept.Tree e) plan.edits) state (plan_step plan state)
 
 -- the step of an edit; of one that the page refuses
-abbrev pub unless_fault : ℕ → Option EditFault → NodeEdit → State → Step
+abbrev pub unless_fault : ℕ → Option EditFault → TreeWish → State → Step
 unless_fault id (Some f) edit state = refusing (Some id) (edit_why f) state
 unless_fault id None edit state = put_answer id (node_put edit state.side.page)
     (planned_by_client (node_edit_plan edit state.side.page) state)
 
 -- of one whose nodes are known
-abbrev pub node_edit_step : ℕ → Result NodeEdit Why → State → Step
+abbrev pub node_edit_step : ℕ → Result TreeWish Why → State → Step
 node_edit_step id (Err why) state = refusing (Some id) why state
 node_edit_step id (Ok edit) state = unless_fault id (node_edit_fault edit state.side.page) edit state
 

@@ -1,5 +1,5 @@
 // Watched nodes, and the pauses that a script's edits come to.
-ghost use Rattle.std.specs.Prelude.{◌≡◌, ◌++◌, OnOk};
+ghost use Rattle.std.specs.Prelude.{◌≡◌, ◌++◌, OnOk, true};
 ghost use Rattle.client_views.specs.Moves.{frames_of_moves};
 ghost use Rattle.back_end.specs.States.{State};
 ghost use Rattle.cdp_messages.specs.declared.command.Command.TheVariants as commands;
@@ -25,7 +25,7 @@ fn watch_kind(word: WatchWord) -> WatchKind
 }
 
 impl Desk {
-    /// `DOMDebugger.setDOMBreakpoint`, which is refused while DOM is off.
+    /// `DOMDebugger.setDOMBreakpoint`
     pub(crate) fn watch(
         &mut self,
         side: &mut PageSide,
@@ -34,6 +34,7 @@ impl Desk {
         kind: WatchWord,
         out: &mut Vec<u8>,
     ) -> Result<(), AllocError>
+        requires on { self.old.is_on ≡ true }
         ensures stands { (state : State) → DeskStandsFor self.old side.old state
             → OnOk result (DeskStandsFor self.new side.new (command_step id (commands.SetBreakpoint node kind) state).state) }
         ensures sent { (state : State) → DeskStandsFor self.old side.old state
@@ -42,9 +43,6 @@ impl Desk {
     {
         // The clauses alone speak of the page.
         let _ = side;
-        if !self.is_on {
-            return self.refuse(id, Why::DomOff, out);
-        }
         let Some(serial) = self.agent.serial_of(node) else {
             return self.refuse(id, Why::UnknownNode, out);
         };
@@ -52,7 +50,7 @@ impl Desk {
         write_reply(self.alloc, id, &ReplyBody::Nothing, out)
     }
 
-    /// `DOMDebugger.removeDOMBreakpoint`, which is refused while DOM is off.
+    /// `DOMDebugger.removeDOMBreakpoint`
     pub(crate) fn unwatch(
         &mut self,
         side: &mut PageSide,
@@ -61,6 +59,7 @@ impl Desk {
         kind: WatchWord,
         out: &mut Vec<u8>,
     ) -> Result<(), AllocError>
+        requires on { self.old.is_on ≡ true }
         ensures stands { (state : State) → DeskStandsFor self.old side.old state
             → OnOk result (DeskStandsFor self.new side.new (command_step id (commands.RemoveBreakpoint node kind) state).state) }
         ensures sent { (state : State) → DeskStandsFor self.old side.old state
@@ -69,9 +68,6 @@ impl Desk {
     {
         // The clauses alone speak of the page.
         let _ = side;
-        if !self.is_on {
-            return self.refuse(id, Why::DomOff, out);
-        }
         let Some(serial) = self.agent.serial_of(node) else {
             return self.refuse(id, Why::UnknownNode, out);
         };

@@ -10,3 +10,4 @@ pub mod TextsUtf8
 pub mod ZeroFree
 pub mod MessageTokens
 mod RootScans
+pub mod MethodRows

@@ -46,7 +46,8 @@ use Rattle.cdp_messages.specs.Replies.{message_data, fits_message, message_in, b
 use Rattle.cdp_messages.specs.Replies.{result_of_method, result_of, refusal_message}
 use Rattle.node_tree.specs.Keys.{first_of}
 use Rattle.cdp_messages.specs.Methods.{method_named}
-use Rattle.cdp_messages.specs.Results.{nothing_kind, root_kind, node_kind, id_kind, ids_kind, are_attributes, attributes_kind, result_form}
+use Rattle.cdp_messages.specs.Results.{nothing_kind, root_kind, node_kind, id_kind, ids_kind, are_attributes, attributes_kind}
+use Rattle.cdp_messages.specs.Methods.{result_form}
 use Rattle.cdp_messages.specs.Results.{first_field, all_forms, is_form}
 use Rattle.dom_objects.specs.NodeObject.{flat}
 use Rattle.cdp_messages.specs.Laws.{RepliesAreRead, EventsAreRead, RefusalsAreRead, MessagesAreRead, FaultsAreRead, ObjectsAreEmpty}

@@ -25,7 +25,8 @@ use Rattle.cdp_messages.specs.Events.{News, attribute_modified, attribute_remove
 use Rattle.cdp_messages.specs.Events.{set_children, document_updated, sheet_added, sheet_changed, sheet_removed, paused, is_object}
 use Rattle.cdp_messages.specs.Events.{news_data, fits_news}
 use Rattle.cdp_messages.specs.declared.method.Method.{Method}
-use Rattle.cdp_messages.specs.Results.{result_form, is_form}
+use Rattle.cdp_messages.specs.Methods.{result_form}
+use Rattle.cdp_messages.specs.Results.{is_form}
 use Rattle.cdp_messages.specs.Replies.{Message, reply, fault, event, event_text, message_data, fits_message, message_in, down_of, body_data}
 use Rattle.cdp_messages.specs.Replies.{fits_body, form_of_body, result_of, reply_text, refusal_message, refused_text}
 use Rattle.node_tree.specs.Labels.{PairsHaveUtf8}

@@ -7,6 +7,7 @@ use crate::css_edit::CssEdit;
 use crate::dom_ask::DomAsk;
 use crate::dom_edit::DomEdit;
 use crate::kept::Json;
+use crate::method::Method;
 use std::alloc::{AllocError, AllocFailed};
 
 /// A command with its parameters; `None` stands for one that is absent.
@@ -42,6 +43,33 @@ pub enum Command {
     ReplayLoad { params: Json },
     /// `Replay.act`, one of our own two methods: the change.
     ReplayAct { params: Json },
+}
+
+impl Command {
+    ghost use Rattle.cdp_messages.specs.Asked.{method_of};
+
+    /// Its method.
+    pub fn method(&self) -> Method
+        ensures { result ≡ method_of self.now }
+    {
+        match self {
+            Command::DomEnable => Method::DomEnable,
+            Command::DomDisable => Method::DomDisable,
+            Command::AskDom(ask) => ask.method(),
+            Command::EditDom(edit) => edit.method(),
+            Command::MarkUndoableState => Method::MarkUndoableState,
+            Command::Undo => Method::Undo,
+            Command::Redo => Method::Redo,
+            Command::CssEnable => Method::CssEnable,
+            Command::CssDisable => Method::CssDisable,
+            Command::AskCss(ask) => ask.method(),
+            Command::EditCss(edit) => edit.method(),
+            Command::SetBreakpoint { .. } => Method::SetBreakpoint,
+            Command::RemoveBreakpoint { .. } => Method::RemoveBreakpoint,
+            Command::ReplayLoad { .. } => Method::ReplayLoad,
+            Command::ReplayAct { .. } => Method::ReplayAct,
+        }
+    }
 }
 
 /// What a breakpoint watches of a node.

@@ -53,7 +53,7 @@ pub use edits::{TextEdit, TextEdits};
 pub use event_write::write_event;
 pub use kept::Json;
 pub use laws::spell_law;
-pub use method::Method;
+pub use method::{Domains, Method, Server};
 pub use node_message::NodeMessage;
 pub use node_tree::{Attributes, Kind, Kind as NodeType, Text};
 pub use numbers::Numbers;

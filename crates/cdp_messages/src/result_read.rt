@@ -224,7 +224,7 @@ pub fn read_result(alloc: Global, method: &str, value: &Value) -> Result<ReplyBo
     ensures { GivesMessage (λ body. body) result (result_of method.now (view value.now)) }
 {
     match Method::named(method) {
-        Some(method) => result_by(alloc, ResultForm::of_method(method), value),
+        Some(method) => result_by(alloc, method.result_form(), value),
         None => Err(DownErr::NotMessage),
     }
 }

@@ -19,7 +19,7 @@ ghost use Rattle.dom_agent.specs.Edits.{unopened};
 
 use cdp_messages::NodeMessage;
 use dom_objects::{NodeRow, NodeWriter};
-use node_binding::{Binding, is_container};
+use node_binding::Binding;
 use page_tree::{Children, Node};
 use std::alloc::{AllocError, Global};
 
@@ -27,7 +27,7 @@ use std::alloc::{AllocError, Global};
 fn count_of(node: &Node) -> u64
     ensures { result ≡ cond (holds node.now.row.label.kind) (width node.now.children) 0 }
 {
-    if !is_container(node.kind()) {
+    if !node.kind().is_container() {
         return 0;
     }
     node.len() as u64
@@ -37,7 +37,7 @@ fn count_of(node: &Node) -> u64
 fn is_opened(binding: &Binding, node: &Node) -> bool
     ensures { result ≡ opens (opened_in binding.now) node.now.row }
 {
-    is_container(node.kind()) && binding.is_opened(node.serial())
+    node.kind().is_container() && binding.is_opened(node.serial())
 }
 
 // ---- a node

@@ -12,8 +12,8 @@ ghost use Rattle.dom_objects.specs.NodeObject.{attribute_list, kind_of_type, nod
 ghost use Rattle.dom_objects.specs.Raw.{last_fields};
 
 use crate::down_err::DownErr;
-use crate::node_rules::{Manner, fits_hold, is_document, is_formed_label, is_named_label};
-use crate::node_write::{is_container, is_element, local_name, node_name};
+use crate::node_rules::{Manner, fits_hold, is_formed_label, is_named_label};
+use crate::node_write::{local_name, node_name};
 use crate::tree::NodeTree;
 use cdp_json::{Cursor, text_of};
 use node_tree::{Attributes, Kind, Text};
@@ -178,7 +178,6 @@ impl<'a> RawNode<'a> {
 
 impl<'a> NodeParts<'a> {
     ghost use Rattle.std.specs.Prelude.{◌&&◌, is_some, None};
-    ghost use Rattle.node_tree.specs.Labels.{is_element};
     ghost use Rattle.dom_objects.specs.NodeObject.{name_in, label_in, agrees, fits_place, fits_described, fits_told};
     ghost use Rattle.dom_objects.specs.Raw.{object_over, told_over, tree_over};
 
@@ -215,8 +214,8 @@ impl<'a> NodeParts<'a> {
     fn agrees(&self, alloc: Global) -> Result<bool, AllocError>
         ensures { IfOk result (λ b. b ≡ agrees (object_over self.now None)) }
     {
-        let same_parts = self.attributes.is_some() == is_element(self.kind)
-            && self.count.is_some() == is_container(self.kind);
+        let same_parts = self.attributes.is_some() == self.kind.is_element()
+            && self.count.is_some() == self.kind.is_container();
         let same_local_name = self.local_name == local_name(self.kind, self.label_name());
         let named = self.shows_name(alloc)?;
         let parent = match self.parent {
@@ -236,9 +235,9 @@ impl<'a> NodeParts<'a> {
             && self.serial > 0
             && is_formed_label(self.kind, self.label_name(), self.value, self.pairs())
             && is_named_label(self.kind, self.label_name(), self.pairs())
-            && is_document(self.kind) == top
+            && self.kind.is_document() == top
             && (parent == 0) == top
-            && fits_hold(shown, is_container(self.kind), count)
+            && fits_hold(shown, self.kind.is_container(), count)
     }
 
     // Whether a node that is described alone may stand here.
@@ -251,9 +250,9 @@ impl<'a> NodeParts<'a> {
             && self.serial > 0
             && is_formed_label(self.kind, self.label_name(), self.value, self.pairs())
             && is_named_label(self.kind, self.label_name(), self.pairs())
-            && (top || !is_document(self.kind))
+            && (top || !self.kind.is_document())
             && parent == 0
-            && fits_hold(shown, is_container(self.kind), count)
+            && fits_hold(shown, self.kind.is_container(), count)
     }
 
     fn fits_told(&self, manner: Manner, top: bool, shown: Option<u64>) -> bool

@@ -1,13 +1,12 @@
 // What has to hold of a node that a message tells.
 ghost use Rattle.std.specs.Prelude.{◌≡◌, [], if◌then◌else◌, is_some, unwrap_or};
 ghost use Rattle.std.specs.List.{list_all};
-ghost use Rattle.node_tree.specs.Labels.{is_document, is_element, has_name, has_value, is_empty, is_before, is_ascending, is_formed_label};
+ghost use Rattle.node_tree.specs.Labels.{is_element, has_name, is_empty, is_before, is_ascending, is_formed_label};
 ghost use Rattle.node_tree.specs.Labels.{is_named_label};
 ghost use Rattle.node_tree.specs.Names.{is_attribute_name};
 ghost use Rattle.dom_objects.specs.Told.{hold_of};
 ghost use Rattle.dom_objects.specs.NodeObject.{fits_hold};
 
-use crate::node_write::is_element;
 use node_tree::{Kind, Text, is_attribute_name, is_element_name};
 use std::cmp::Ordering;
 
@@ -20,30 +19,12 @@ pub enum Manner {
     Described,
 }
 
-pub(crate) fn is_document(kind: Kind) -> bool
-    ensures { result ≡ is_document kind }
-{
-    match kind {
-        Kind::Document => true,
-        Kind::Element | Kind::Text | Kind::Comment | Kind::Doctype => false,
-    }
-}
-
 fn has_name(kind: Kind) -> bool
     ensures { result ≡ has_name kind }
 {
     match kind {
         Kind::Element | Kind::Doctype => true,
         Kind::Document | Kind::Text | Kind::Comment => false,
-    }
-}
-
-fn has_value(kind: Kind) -> bool
-    ensures { result ≡ has_value kind }
-{
-    match kind {
-        Kind::Text | Kind::Comment => true,
-        Kind::Document | Kind::Element | Kind::Doctype => false,
     }
 }
 
@@ -94,7 +75,7 @@ pub fn are_attribute_names(pairs: &[(Text, Text)]) -> bool
 fn are_formed(kind: Kind, pairs: &[(Text, Text)]) -> bool
     ensures { result ≡ (if is_element kind then is_ascending pairs.now else is_empty pairs.now) }
 {
-    if is_element(kind) {
+    if kind.is_element() {
         return is_ascending(pairs);
     }
     match pairs {
@@ -110,7 +91,7 @@ pub(crate) fn is_formed_label(kind: Kind, name: &str, value: &str, pairs: &[(Tex
 {
     are_formed(kind, pairs)
         && (has_name(kind) || is_blank(name))
-        && (has_value(kind) || is_blank(value))
+        && (kind.has_value() || is_blank(value))
 }
 
 // The names of a label have their forms.

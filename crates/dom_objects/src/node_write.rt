@@ -13,24 +13,6 @@ use json::Writer;
 use node_tree::{Attributes, Kind};
 use std::alloc::{AllocError, Global};
 
-pub(crate) fn is_container(kind: Kind) -> bool
-    ensures { result ≡ holds kind }
-{
-    match kind {
-        Kind::Document | Kind::Element => true,
-        Kind::Text | Kind::Comment | Kind::Doctype => false,
-    }
-}
-
-pub(crate) fn is_element(kind: Kind) -> bool
-    ensures { result ≡ is_element kind }
-{
-    match kind {
-        Kind::Element => true,
-        Kind::Document | Kind::Text | Kind::Comment | Kind::Doctype => false,
-    }
-}
-
 // The number of a node's type (DOM, section 4.4).
 fn type_number(kind: Kind) -> u64
     ensures { result ≡ type_number kind }
@@ -81,7 +63,7 @@ pub(crate) fn node_name(alloc: Global, kind: Kind, name: &str) -> Result<String,
 pub(crate) fn local_name(kind: Kind, name: &str) -> &str
     ensures { result.now ≡ local_name_of kind name.now }
 {
-    if is_element(kind) { name } else { "" }
+    if kind.is_element() { name } else { "" }
 }
 
 // Names and values in turn.
@@ -105,7 +87,7 @@ fn attributes_field(out: &mut Writer, kind: Kind, attributes: &Attributes) -> Re
         (option_map attribute_list.spell (only_if (is_element kind) attributes.now))) }
     ensures before { out.new.before ≡ out.old.before }
 {
-    if is_element(kind) {
+    if kind.is_element() {
         out.key("attributes")?;
         write_attributes(out, attributes)
     } else {
@@ -118,7 +100,7 @@ fn count_field(out: &mut Writer, kind: Kind, count: u64) -> Result<(), AllocErro
         (option_map whole.spell (only_if (holds kind) count))) }
     ensures before { out.new.before ≡ out.old.before }
 {
-    if is_container(kind) {
+    if kind.is_container() {
         whole_field(out, "childNodeCount", count)
     } else {
         Ok(())

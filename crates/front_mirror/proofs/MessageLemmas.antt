@@ -28,7 +28,7 @@ use Rattle.cdp_messages.proofs.Messages.{messages_are_spelled, results_are_read,
 use Rattle.front_mirror.specs.declared.faults.FrontKind.TheVariants.{NotMessage}
 use Rattle.css_objects.specs.declared.rules.Matched.{Matched}
 use Rattle.front_mirror.specs.declared.replies.MatchedReply.{MatchedReply}
-use Rattle.front_mirror.specs.declared.edits.NodeEdit.TheVariants as edit
+use Rattle.front_mirror.specs.declared.edits.NodeChange.TheVariants as edit
 use Rattle.front_mirror.specs.Edits.{fits_edit, fits_effect}
 use Rattle.front_mirror.specs.Front.{FrontValue, reply_frame, method_waiting, root_fault, matched_told, with_matched, replied, with_root}
 use Rattle.front_mirror.specs.Front.{with_effect}

@@ -25,7 +25,7 @@ use std::slice;
 
 /// What becomes of one node.
 #[derive(Drop)]
-pub(crate) enum NodeEdit {
+pub(crate) enum NodeChange {
     /// Its children are shown from now on.
     Show(Vec<NodeTree>),
     /// It has one more child, behind that of the id, or first where that is 0.
@@ -39,19 +39,19 @@ pub(crate) enum NodeEdit {
     SetValue(Text),
 }
 
-impl NodeEdit {
+impl NodeChange {
     /// The nodes that come with it.
     fn nodes(&self) -> &[NodeTree]
         ensures { nodes_of result.now ≡ edit_nodes self.now }
     {
         match self {
-            NodeEdit::Show(nodes) => nodes.as_slice(),
-            NodeEdit::Insert { node, .. } => slice::from_ref(node),
-            NodeEdit::Remove(_)
-            | NodeEdit::Count(_)
-            | NodeEdit::SetAttribute { .. }
-            | NodeEdit::DropAttribute(_)
-            | NodeEdit::SetValue(_) => &[],
+            NodeChange::Show(nodes) => nodes.as_slice(),
+            NodeChange::Insert { node, .. } => slice::from_ref(node),
+            NodeChange::Remove(_)
+            | NodeChange::Count(_)
+            | NodeChange::SetAttribute { .. }
+            | NodeChange::DropAttribute(_)
+            | NodeChange::SetValue(_) => &[],
         }
     }
 
@@ -60,10 +60,10 @@ impl NodeEdit {
         ensures { result ≡ takes_change (edit_change self.now) (mirror_row slot.now) }
     {
         match self {
-            NodeEdit::Show(_) | NodeEdit::Count(_) => slot.is_unopened(),
-            NodeEdit::Insert { .. } | NodeEdit::Remove(_) => slot.is_opened(),
-            NodeEdit::SetAttribute { .. } | NodeEdit::DropAttribute(_) => slot.is_element(),
-            NodeEdit::SetValue(_) => slot.has_value(),
+            NodeChange::Show(_) | NodeChange::Count(_) => slot.is_unopened(),
+            NodeChange::Insert { .. } | NodeChange::Remove(_) => slot.is_opened(),
+            NodeChange::SetAttribute { .. } | NodeChange::DropAttribute(_) => slot.is_element(),
+            NodeChange::SetValue(_) => slot.has_value(),
         }
     }
 
@@ -72,13 +72,13 @@ impl NodeEdit {
         ensures { result ≡ knows_named mirror.now (edit_change self.now) }
     {
         match self {
-            NodeEdit::Insert { previous, .. } => *previous == 0 || mirror.has_id(*previous),
-            NodeEdit::Remove(id) => mirror.has_id(*id),
-            NodeEdit::Show(_)
-            | NodeEdit::Count(_)
-            | NodeEdit::SetAttribute { .. }
-            | NodeEdit::DropAttribute(_)
-            | NodeEdit::SetValue(_) => true,
+            NodeChange::Insert { previous, .. } => *previous == 0 || mirror.has_id(*previous),
+            NodeChange::Remove(id) => mirror.has_id(*id),
+            NodeChange::Show(_)
+            | NodeChange::Count(_)
+            | NodeChange::SetAttribute { .. }
+            | NodeChange::DropAttribute(_)
+            | NodeChange::SetValue(_) => true,
         }
     }
 
@@ -89,16 +89,16 @@ impl NodeEdit {
         ensures { IfOk result (λ change. change ≡ panel_change id (edit_change self.now) (known_at id mirror.now)) }
     {
         match self {
-            NodeEdit::Show(_) => Ok(Change::Opened { node: id }),
-            NodeEdit::Insert { node, .. } => Ok(Change::Inserted {
+            NodeChange::Show(_) => Ok(Change::Opened { node: id }),
+            NodeChange::Insert { node, .. } => Ok(Change::Inserted {
                 parent: id,
                 node: node.id,
             }),
-            NodeEdit::Remove(child) => mirror.removal(alloc, id, *child),
-            NodeEdit::Count(_)
-            | NodeEdit::SetAttribute { .. }
-            | NodeEdit::DropAttribute(_)
-            | NodeEdit::SetValue(_) => Ok(Change::Changed { node: id }),
+            NodeChange::Remove(child) => mirror.removal(alloc, id, *child),
+            NodeChange::Count(_)
+            | NodeChange::SetAttribute { .. }
+            | NodeChange::DropAttribute(_)
+            | NodeChange::SetValue(_) => Ok(Change::Changed { node: id }),
         }
     }
 
@@ -107,15 +107,15 @@ impl NodeEdit {
         ensures { result ≡ suits_slot (edit_change self.now) slot.now }
     {
         match self {
-            NodeEdit::Show(_) | NodeEdit::Count(_) => slot.is_unopened(),
-            NodeEdit::Insert { previous, node } => {
+            NodeChange::Show(_) | NodeChange::Count(_) => slot.is_unopened(),
+            NodeChange::Insert { previous, node } => {
                 slot.is_opened()
                     && (*previous == 0 || slot.children.has(*previous))
                     && !is_opened(node)
             }
-            NodeEdit::Remove(id) => slot.is_opened() && slot.children.has(*id),
-            NodeEdit::SetAttribute { .. } | NodeEdit::DropAttribute(_) => slot.is_element(),
-            NodeEdit::SetValue(_) => slot.has_value(),
+            NodeChange::Remove(id) => slot.is_opened() && slot.children.has(*id),
+            NodeChange::SetAttribute { .. } | NodeChange::DropAttribute(_) => slot.is_element(),
+            NodeChange::SetValue(_) => slot.has_value(),
         }
     }
 }
@@ -168,7 +168,7 @@ fn slot_fault(
     mirror: &Mirror,
     slot: &Slot,
     level: usize,
-    edit: &NodeEdit,
+    edit: &NodeChange,
 ) -> Result<Option<FrontKind>, AllocError>
     requires { level < most_levels }
     ensures { (b : Branch Seen) → IsFace slot.now b
@@ -196,7 +196,7 @@ pub(crate) fn edit_fault(
     alloc: Global,
     mirror: &Mirror,
     id: u64,
-    edit: &NodeEdit,
+    edit: &NodeChange,
 ) -> Result<Option<FrontKind>, AllocError>
     ensures { IfOk result (λ wrong. wrong ≡ spot_fault mirror.now (edit_told id edit.now) (spot seen_id id 0 mirror.now)) }
 {

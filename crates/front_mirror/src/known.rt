@@ -14,7 +14,7 @@ ghost use Rattle.front_mirror.specs.Sheets.{told_sheet, has_sheet, marked_old, w
 ghost use Rattle.front_mirror.specs.Edits.{edit_told, fits_edit, fits_effect};
 
 use crate::asks::{fetched_sheet, method_of, take_ask};
-use crate::edits::{NodeEdit, edit_fault};
+use crate::edits::{NodeChange, edit_fault};
 use crate::faults::FrontKind;
 use crate::mirror::Mirror;
 use crate::panels::Change;
@@ -328,26 +328,29 @@ impl Known {
         ensures { Takes (known_value self.old) (known_value self.new) result (with_news (known_value self.old) (news_of event)) }
     {
         match event {
-            Event::SetChildNodes { parent, nodes } => self.take_edit(parent, NodeEdit::Show(nodes)),
+            Event::SetChildNodes { parent, nodes } => self.take_edit(
+                parent,
+                NodeChange::Show(nodes),
+            ),
             Event::ChildNodeInserted {
                 parent,
                 previous,
                 node,
-            } => self.take_edit(parent, NodeEdit::Insert { previous, node }),
+            } => self.take_edit(parent, NodeChange::Insert { previous, node }),
             Event::ChildNodeRemoved { parent, node } => {
-                self.take_edit(parent, NodeEdit::Remove(node))
+                self.take_edit(parent, NodeChange::Remove(node))
             }
             Event::ChildNodeCountUpdated { node, count } => {
-                self.take_edit(node, NodeEdit::Count(count))
+                self.take_edit(node, NodeChange::Count(count))
             }
             Event::AttributeModified { node, name, value } => {
-                self.take_edit(node, NodeEdit::SetAttribute { name, value })
+                self.take_edit(node, NodeChange::SetAttribute { name, value })
             }
             Event::AttributeRemoved { node, name } => {
-                self.take_edit(node, NodeEdit::DropAttribute(name))
+                self.take_edit(node, NodeChange::DropAttribute(name))
             }
             Event::CharacterDataModified { node, text } => {
-                self.take_edit(node, NodeEdit::SetValue(text))
+                self.take_edit(node, NodeChange::SetValue(text))
             }
             Event::DocumentUpdated => self.take_update(),
             Event::Paused(why) => self.take_pause(why),
@@ -357,7 +360,7 @@ impl Known {
         }
     }
 
-    fn take_edit(&mut self, id: u64, edit: NodeEdit) -> Result<Option<Change>, FrameErr>
+    fn take_edit(&mut self, id: u64, edit: NodeChange) -> Result<Option<Change>, FrameErr>
         requires { fits_edit edit ≡ true }
         ensures { Takes (known_value self.old) (known_value self.new) result
             (with_change (known_value self.old) (edit_told id edit)) }

@@ -13,7 +13,7 @@ ghost use Rattle.front_mirror.specs.Outline.{lines_at, seen_line};
 ghost use Rattle.front_mirror.specs.Tables.{mirror_row, root_ids, TableLooks};
 
 use crate::checks::MOST_LEVELS;
-use crate::edits::NodeEdit;
+use crate::edits::NodeChange;
 use crate::panels::Change;
 use crate::slots::{IdList, Slot};
 use crate::table::Table;
@@ -78,7 +78,7 @@ impl Mirror {
         &mut self,
         alloc: Global,
         id: u64,
-        edit: NodeEdit,
+        edit: NodeChange,
     ) -> Result<(), AllocError>
         requires fits { fits_edit edit ≡ true }
         requires clear { spot_fault self.old (edit_told id edit) (spot seen_id id 0 self.old) ≡ None }

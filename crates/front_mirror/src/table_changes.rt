@@ -2,7 +2,7 @@
 ghost use Rattle.std.specs.Prelude.{◌≡◌, ◌==◌, ◌||◌, true, Some, IsSome, OnOk};
 ghost use Rattle.client_views.specs.Views.{is_in};
 ghost use Rattle.front_mirror.specs.declared.slots.Slot.{Slot};
-ghost use Rattle.front_mirror.specs.declared.edits.NodeEdit.TheVariants as edit;
+ghost use Rattle.front_mirror.specs.declared.edits.NodeChange.TheVariants as edit;
 ghost use Rattle.front_mirror.specs.Tables.{table_slots, IsListed, TableCut};
 ghost use Rattle.front_mirror.specs.TableEdits.{IsEdited};
 

@@ -18,5 +18,5 @@ mod search;
 
 pub use binding::Binding;
 pub use laws::binding_law;
-pub use levels::{is_container, is_reached, less, levels_of};
+pub use levels::{is_reached, less, levels_of};
 pub use search::find_in;

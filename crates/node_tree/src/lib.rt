@@ -31,5 +31,50 @@ pub enum Kind {
     Doctype,
 }
 
+impl Kind {
+    ghost use Rattle.std.specs.Prelude.{◌≡◌};
+    ghost use Rattle.node_tree.specs.Labels.{is_document, is_element, holds, has_value};
+
+    /// The document itself.
+    pub fn is_document(self) -> bool
+        ensures { result ≡ is_document self }
+    {
+        match self {
+            Kind::Document => true,
+            Kind::Element | Kind::Text | Kind::Comment | Kind::Doctype => false,
+        }
+    }
+
+    /// An element.
+    pub fn is_element(self) -> bool
+        ensures { result ≡ is_element self }
+    {
+        match self {
+            Kind::Element => true,
+            Kind::Document | Kind::Text | Kind::Comment | Kind::Doctype => false,
+        }
+    }
+
+    /// What may have children: the document or an element.
+    pub fn is_container(self) -> bool
+        ensures { result ≡ holds self }
+    {
+        match self {
+            Kind::Document | Kind::Element => true,
+            Kind::Text | Kind::Comment | Kind::Doctype => false,
+        }
+    }
+
+    /// A text or a comment.
+    pub fn has_value(self) -> bool
+        ensures { result ≡ has_value self }
+    {
+        match self {
+            Kind::Text | Kind::Comment => true,
+            Kind::Document | Kind::Element | Kind::Doctype => false,
+        }
+    }
+}
+
 #[cfg(test)]
 mod tests;
