@@ -51,7 +51,7 @@ all_bound (s ∷ ss) b = all_bound ss (with_bound s b)
 abbrev pub with_opened : ℕ → BindingValue → BindingValue
 with_opened s b = record { opened = set.insert b.opened s; ids = b.ids; serials = b.serials; next = b.next }
 
--- each of them is opened
+-- each of these containers is opened
 abbrev pub all_opened : List ℕ → BindingValue → BindingValue
 all_opened [] b = b
 all_opened (s ∷ ss) b = all_opened ss (with_opened s b)
