@@ -46,7 +46,7 @@ abbrev pub tree_edits_in : List (Entry Saved Inverse) → ℕ
 tree_edits_in [] = 0
 tree_edits_in (e ∷ es) = tree_edit e.edit + tree_edits_in es
 
--- and in groups
+-- the edits of the tree in groups
 abbrev pub tree_edits_among : List (List (Entry Saved Inverse)) → ℕ
 tree_edits_among [] = 0
 tree_edits_among (g ∷ gs) = tree_edits_in g + tree_edits_among gs
@@ -128,7 +128,7 @@ MayAnswer method (all_off id) = method ≡ codes "DOM.disable"
 MayAnswer method (sheets_off id) = method ≡ codes "CSS.disable"
 MayAnswer method (failed r) = ⊤
 
--- each of them may
+-- each of these moves may answer
 abbrev pub MayAnswerAll : List ℕ → List Move → Type 0
 MayAnswerAll method [] = ⊤
 MayAnswerAll method (m ∷ ms) = MayAnswer method m × MayAnswerAll method ms
@@ -215,7 +215,7 @@ abbrev pub IsTurn : Turn → Type 0
 IsTurn (acts act) = IsInsertable act × ActHasTexts act
 IsTurn (loads page) = CanLoadPage page × PageHasTexts page
 
--- and its steps, which answer nothing
+-- the steps of what a script may do, which answer nothing
 abbrev pub TurnsStepWell : Type 0
 TurnsStepWell =
     (state : State) (x : Turn) → IsState state → HasRoom state → IsTurn x

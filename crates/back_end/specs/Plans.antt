@@ -57,7 +57,7 @@ abbrev pub dropping : Option SheetEntry → List SheetChange
 dropping None = []
 dropping (Some e) = leaves e.id ∷ []
 
--- it goes, and one of the same origin comes
+-- the sheet that was named goes, and one of the same origin comes
 abbrev pub replacing : List ℕ → Option SheetEntry → List SheetChange
 replacing text None = []
 replacing text (Some e) = leaves e.id ∷ comes e.origin text ∷ []

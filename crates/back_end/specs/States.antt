@@ -119,7 +119,7 @@ pub record TakesWell (next : ℕ) (e : Inverse) (page : Saved) : Type 0 where
 abbrev pub HasHistory : State → Type 0
 HasHistory state = IsHistory page_after (TakesWell state.side.page.next) state.client.marks (saved_now state)
 
--- These are the edits that are kept in place of the saved pages of the state's history.
+-- Edits are kept in place of the saved pages of the state's history.
 abbrev pub Keeps : Marks Inverse → State → Type 0
 Keeps kept state = KeptFor page_after way_back (TakesWell state.side.page.next) kept state.client.marks (saved_now state)
 

@@ -467,12 +467,12 @@ abbrev pub put_before_known : (ℕ → ℕ → ℕ → TreeWish) → ℕ → ℕ
 put_before_known edit node parent None = Err UnknownNode
 put_before_known edit node parent (Some before) = Ok (edit node parent before)
 
--- below a known one
+-- an edit that puts a node below a known one, before a known one or last
 abbrev pub put_below : (ℕ → ℕ → ℕ → TreeWish) → ℕ → Option ℕ → Option ℕ → Result TreeWish Why
 put_below edit node None before = Err UnknownNode
 put_below edit node (Some parent) before = put_before_known edit node parent before
 
--- and is known itself
+-- an edit that puts a known node below a known one, before a known one or last
 abbrev pub put_node : (ℕ → ℕ → ℕ → TreeWish) → Option ℕ → Option ℕ → Option ℕ → Result TreeWish Why
 put_node edit None parent before = Err UnknownNode
 put_node edit (Some node) parent before = put_below edit node parent before
@@ -515,13 +515,13 @@ plan_step plan state = edit_steps plan.edits (with_page plan.page state)
 abbrev pub planned_by_client : Plan → State → Step
 planned_by_client plan state = keeping (map (λ e. kept.Tree e) plan.edits) state (plan_step plan state)
 
--- the step of an edit; of one that the page refuses
+-- the step of a client's edit of the tree, or of one that the page refuses
 abbrev pub unless_fault : ℕ → Option EditFault → TreeWish → State → Step
 unless_fault id (Some f) edit state = refusing (Some id) (edit_why f) state
 unless_fault id None edit state = put_answer id (node_put edit state.side.page)
     (planned_by_client (node_edit_plan edit state.side.page) state)
 
--- of one whose nodes are known
+-- the step of a client's edit whose nodes are known, or of one that names an unknown one
 abbrev pub node_edit_step : ℕ → Result TreeWish Why → State → Step
 node_edit_step id (Err why) state = refusing (Some id) why state
 node_edit_step id (Ok edit) state = unless_fault id (node_edit_fault edit state.side.page) edit state

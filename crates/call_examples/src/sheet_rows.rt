@@ -7,8 +7,8 @@ use crate::row_parts::{Answer, number_or_zero, push_layers, text_or_empty, value
 use node_tree::Text;
 use serde_json::Value;
 use sheet_reader::{
-    MediaRule, Origin, Property, Sheet, SheetBook, SheetEntry, StyleRule, byte_at, position, read_sheet,
-    read_style, sealed,
+    MediaRule, Origin, Property, Sheet, SheetBook, SheetEntry, StyleRule, byte_at, position,
+    read_sheet, read_style, sealed,
 };
 use std::alloc::{AllocError, Global};
 

@@ -57,12 +57,12 @@ abbrev pub keyed_rule : Source → ℕ → RuleForm → Zipper → Option (Key �
 keyed_rule from rule r z =
     if held_at from.held r.media then entry_by from rule (greatest r.selectors z) (places_matching r.selectors z) else None
 
--- those of the rules from a place of a sheet on
+-- the rules from a place of a sheet on, with their keys
 abbrev pub entries_of_rules : Source → ℕ → List RuleForm → Zipper → List (Key × Hit)
 entries_of_rules from i [] z = []
 entries_of_rules from i (r ∷ rs) z = option_to_list (keyed_rule from i r z) ++ entries_of_rules from (i + 1) rs z
 
--- those of the sheets from a place of a book on, in this medium
+-- the rules of the sheets from a place of a book on, with their keys
 abbrev pub entries_of_sheets : Medium → ℕ → List SheetEntry → Zipper → List (Key × Hit)
 entries_of_sheets m place [] z = []
 entries_of_sheets m place (e ∷ es) z =

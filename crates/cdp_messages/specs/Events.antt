@@ -296,7 +296,7 @@ envelope_seen e = (e.0.now, (view e.1.now, tt))
 abbrev pub children_fields : Kind (Items × (ℕ × ⊤))
 children_fields = object_of (and_need (codes "nodes") any_items (and_need (codes "parentId") node_id ends))
 
--- these parameters as code holds them
+-- the parameters that show children, as code holds them
 abbrev pub children_seen : Bor (List Value) × ℕ → Items × (ℕ × ⊤)
 children_seen p = (items_view p.0.now, (p.1, tt))
 
@@ -305,6 +305,6 @@ abbrev pub inserted_fields : Kind (Data × (ℕ × (ℕ × ⊤)))
 inserted_fields = object_of (and_need (codes "node") anything
     (and_need (codes "parentNodeId") node_id (and_need (codes "previousNodeId") whole ends)))
 
--- these parameters as code holds them
+-- the parameters that tell a new child, as code holds them
 abbrev pub inserted_seen : Bor Value × (ℕ × ℕ) → Data × (ℕ × (ℕ × ⊤))
 inserted_seen p = (view p.0.now, (p.1.0, (p.1.1, tt)))

@@ -96,7 +96,7 @@ BodyHasUtf8 (Selectors selectors) = SelectorsHaveUtf8 selectors
 BodyHasUtf8 (Rule rule) = RuleHasUtf8 rule
 BodyHasUtf8 (Matched matched) = MatchedHaveUtf8 matched
 
--- those that an event tells
+-- the texts that an event tells are UTF-8
 abbrev pub NewsHaveUtf8 : News → Type 0
 NewsHaveUtf8 (attribute_modified id name value) = IsUtf8 name × IsUtf8 value
 NewsHaveUtf8 (attribute_removed id name) = IsUtf8 name
@@ -115,13 +115,13 @@ NewsHaveUtf8 (paused why) = ⊤
 abbrev pub RepliesAreUtf8 : Type 0
 RepliesAreUtf8 = (id : ℕ) (body : ReplyBody) → is_counted id ≡ true → fits_body body ≡ true → BodyHasUtf8 body → IsUtf8 (reply_text id body)
 
--- and so is that of an event
+-- the text of an event is UTF-8 where the texts in it are
 abbrev pub EventsAreUtf8 : Type 0
 EventsAreUtf8 = (n : News) → fits_news n ≡ true → NewsHaveUtf8 n → IsUtf8 (event_text n)
 
 -- ---- further laws
 
--- and so are shown children of a node with this id
+-- shown children of a node with this id that suit a message are told in a form that fits
 abbrev pub ShownChildrenFit : Type 0
 ShownChildrenFit = (parent : ℕ) (n : Nodes Seen) → is_counted parent ≡ true → 0 < parent → suits_nodes n ≡ true
     → fits_news (set_children parent (told_nodes parent n)) ≡ true
@@ -160,7 +160,7 @@ news_height (sheet_changed sheet) = 0
 news_height (sheet_removed sheet) = 0
 news_height (paused why) = 0
 
--- and so does an event with nodes of one level less
+-- an event nests less deep than JSON may where its nodes have one level less
 abbrev pub EventsAreShallow : Type 0
 EventsAreShallow = (n : News) → news_height n ≤ max_level → Shallow (news_data n)
 

@@ -56,7 +56,7 @@ abbrev pub put_behind : ℕ → Branch Seen → Nodes Seen → Nodes Seen
 put_behind id w none = none
 put_behind id w (node r c t) = cond (r.id == id) (node r c (node w.row w.children t)) (node r c (put_behind id w t))
 
--- the same, or first where the id is 0
+-- trees side by side with one more behind that of the id, or first where the id is 0
 abbrev pub put_after : ℕ → Branch Seen → Nodes Seen → Nodes Seen
 put_after previous w n = cond (previous == 0) (node w.row w.children n) (put_behind previous w n)
 
@@ -144,7 +144,7 @@ message_of (all_off id) = reply id (body_data Nothing)
 message_of (sheets_off id) = reply id (body_data Nothing)
 message_of (failed r) = refusal_message r
 
--- its text, without the zero byte
+-- the text of a move's message, without the zero byte
 abbrev pub move_text : Move → List ℕ
 move_text m = compact_text (message_data (message_of m))
 
@@ -159,7 +159,7 @@ abbrev pub SeenHaveUtf8 : Nodes Seen → Type 0
 SeenHaveUtf8 none = ⊤
 SeenHaveUtf8 (node r c t) = LabelHasUtf8 r.label × SeenHaveUtf8 c × SeenHaveUtf8 t
 
--- it is empty, or one tree whose root is a document, and all of it suits a message
+-- a view's tree is empty, or one tree whose root is a document, and all of it suits a message
 abbrev pub suits_view : Nodes Seen → Bool
 suits_view none = true
 suits_view (node r c t) = suits_tree true (record { row = r; children = c }) && is_no_node t

@@ -31,7 +31,7 @@ abbrev pub has_formed_labels : Nodes Seen → Bool
 has_formed_labels none = true
 has_formed_labels (node r c t) = is_formed_label r.label && is_named_label r.label && has_formed_labels c && has_formed_labels t
 
--- it is empty, or one tree whose root is a document
+-- a tree is empty, or one tree whose root is a document
 abbrev pub is_document_tree : Nodes Seen → Bool
 is_document_tree none = true
 is_document_tree (node r c t) = is_document r.label.kind && is_no_node t

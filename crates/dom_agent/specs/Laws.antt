@@ -36,7 +36,7 @@ StaysBound = (page : PageValue) (c : DomAsk) (w : Session) (b : BindingValue) �
     → Stands (alone page.tree) w b
     → Stands (alone page.tree) (state_after w (session_outcome page c w)) (state_after b (binding_outcome page c b))
 
--- and what is told are the moves of the step
+-- what is told of a command are the moves of the session's step
 abbrev pub SameMoves : Type 0
 SameMoves = (page : PageValue) (c : DomAsk) (w : Session) (b : BindingValue) (id : ℕ) → IsValid page → fits_ask c ≡ true
     → IsSession (alone page.tree) w

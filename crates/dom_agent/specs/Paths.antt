@@ -11,7 +11,7 @@ abbrev pub parts_of : List ℕ → List (List ℕ)
 parts_of [] = [] ∷ []
 parts_of (b ∷ bs) = cond (b == 44) ([] ∷ parts_of bs) (onto_first b (parts_of bs))
 
--- those after a comma, where there is one
+-- the stretches after a comma, where there is one
 abbrev pub parts_after_comma : Option (List ℕ) → List (List ℕ)
 parts_after_comma None = []
 parts_after_comma (Some text) = parts_of text

@@ -21,7 +21,7 @@ tree_data b = node_data b.row (tree_items b.children)
 
 -- ---- which trees are written: each row fits, and what is not opened has no children here
 
--- these children may stand under the row
+-- children may stand under the row
 abbrev pub fits_below : Told → Nodes Told → Bool
 fits_below r c = cond (is_opened r.seen.hold) true (is_no_node c)
 

@@ -12,7 +12,7 @@ use Rattle.dom_objects.specs.NodeData.{tree_data, tree_told, tree_items, trees_t
 abbrev pub nodes_kind : Kind (Nodes Told)
 nodes_kind = record { spell = λ n. array (tree_items n); reads = trees_told Pushed; fits = fits_nodes; loose = None }
 
--- one such node
+-- one node that is no document, with all that is shown of it
 abbrev pub tree_kind : Kind (Branch Told)
 tree_kind = record { spell = tree_data; reads = tree_told Pushed false; fits = fits_tree false; loose = None }
 

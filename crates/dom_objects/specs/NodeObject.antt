@@ -87,7 +87,7 @@ last_row =
     (and_need (codes "nodeValue") text
     (and_may (codes "parentId") whole ends)))))
 
--- those behind the attributes
+-- the fields of `DOM.Node` behind the attributes
 abbrev pub later_row : Row LaterFields
 later_row =
     and_need (codes "backendNodeId") whole
@@ -237,7 +237,7 @@ fits_described top width r =
     && (top || not (is_document r.seen.label.kind)) && (r.parent == 0)
     && fits_hold r.seen.hold (holds r.seen.label.kind) r.count width
 
--- the same of nodes that are told in this manner
+-- what has to hold across the fields of nodes that are told in this manner
 abbrev pub fits_told : Manner → Bool → ℕ → Told → Bool
 fits_told Pushed top width r = fits_place top width r
 fits_told Described top width r = fits_described top width r
@@ -250,7 +250,7 @@ is_counted_row r = is_counted r.seen.id && is_counted r.seen.serial && is_counte
 abbrev pub row_fits : Manner → Bool → ℕ → Told → Bool
 row_fits manner top width r = is_counted_row r && fits_told manner top width r
 
--- the same of a row of a session
+-- what has to hold of a row of a session
 abbrev pub fits_row : Bool → ℕ → Told → Bool
 fits_row top width r = row_fits Pushed top width r
 

@@ -62,7 +62,7 @@ object_behind attributes serial count b = record {
   parent = b.parent;
 }
 
--- these last fields as pairs
+-- the last fields of a node as pairs
 abbrev pub last_fields : Behind → LastFields
 last_fields b = (b.local_name.now, (b.id, (b.name.now, (b.kind, (b.value.now, (b.parent, tt))))))
 

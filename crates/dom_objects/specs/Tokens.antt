@@ -13,12 +13,12 @@ use Rattle.dom_objects.specs.NodeObject.{attribute_list, node_type, node_name, l
 abbrev pub data_tokens : Data → List Token
 data_tokens d = json_tokens (outline d)
 
--- those of a field, none where it has no value
+-- the tokens of a field, none where it has no value
 abbrev pub field_tokens : List ℕ → Option Data → List Token
 field_tokens name None = []
 field_tokens name (Some d) = key name ∷ data_tokens d
 
--- those of a node's object up to its children
+-- the tokens of a node's object up to its children
 abbrev pub head_tokens : Told → List Token
 head_tokens r =
     begin_object ∷ (field_tokens (codes "attributes")
@@ -26,7 +26,7 @@ head_tokens r =
     ++ (field_tokens (codes "backendNodeId") (Some (whole.spell r.seen.serial))
     ++ field_tokens (codes "childNodeCount") (option_map whole.spell (only_if (holds r.seen.label.kind) r.count))))
 
--- those of a node's object behind its children
+-- the tokens of a node's object behind its children
 abbrev pub tail_tokens : Told → List Token
 tail_tokens r =
     field_tokens (codes "localName") (Some (text.spell (local_name r.seen.label)))

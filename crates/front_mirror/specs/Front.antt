@@ -65,7 +65,7 @@ plain_ask id method = record { id = id; method = method; sheet = None }
 abbrev pub fetch_ask : ℕ → ℕ → Ask
 fetch_ask count sheet = record { id = 2 ^ 30 + count; method = codes "CSS.getStyleSheetText"; sheet = Some sheet }
 
--- its parameters: the id of the sheet
+-- the parameters of a fetch: the id of the sheet
 abbrev pub fetch_params : ℕ → Data
 fetch_params sheet = (object_of (and_need (codes "styleSheetId") sheet_kind ends)).spell (sheet, tt)
 
@@ -74,7 +74,7 @@ abbrev pub ask_under : ℕ → List Ask → Option Ask
 ask_under id [] = None
 ask_under id (ask ∷ asks) = cond (ask.id == id) (Some ask) (ask_under id asks)
 
--- its method
+-- the method of the first ask with that id
 abbrev pub method_waiting : ℕ → List Ask → Option (List ℕ)
 method_waiting id asks = option_map (λ (ask : Ask). ask.method) (ask_under id asks)
 

@@ -55,7 +55,7 @@ TakesFold =
     (waiting : List Ask) (down piece : List ℕ) (s : FrontState) → IsFold waiting down s
     → fold waiting (down ++ piece) ≡ fold_result (after_take s piece).value (after_take s piece).fault
 
--- and where there was no fault it is their fold
+-- a front in which there was no fault stays the fold of what it took
 abbrev pub StaysFold : Type 0
 StaysFold =
     (waiting : List Ask) (down piece : List ℕ) (s : FrontState) → IsFold waiting down s
@@ -67,7 +67,7 @@ AsksFold =
     (waiting : List Ask) (down method : List ℕ) (s : FrontState) → IsFold waiting down s
     → IsFold (waiting ++ plain_ask s.next method ∷ []) down (after_ask s method)
 
--- and so after a fetch
+-- a front after a fetch is the fold that waits for this one too
 abbrev pub FetchesFold : Type 0
 FetchesFold =
     (waiting : List Ask) (down : List ℕ) (sheet : ℕ) (s : FrontState) → IsFold waiting down s
@@ -81,7 +81,7 @@ pub record KnowsSheet (k : KnownSheet) (s : ShownSheet) : Type 0 where
   pub origin : k.origin ≡ s.origin
   pub text : k.stale ≡ false → k.text ≡ Some s.text
 
--- it knows these sheets, one by one, and no others
+-- the front knows these sheets, one by one, and no others
 abbrev pub KnowsSheets : List KnownSheet → List ShownSheet → Type 0
 KnowsSheets [] [] = ⊤
 KnowsSheets [] (s ∷ ss) = ⊥
@@ -246,7 +246,7 @@ pub record AreTaken (ms : List Move) (v : FrontValue) (w : View) : Type 0 where
   pub matched : after.matched ≡ v.matched ++ flat_map matched_after ms
   pub taken : after.taken ≡ v.taken + length ms
 
--- the same of a course of moves
+-- the messages of a course of moves are taken one after another
 abbrev pub CourseGives : Type 0
 CourseGives = (ms : List Move) (u w : View) (v : FrontValue) → Course ms u w → Has v u → AreAwaited ms v.asks → AreTaken ms v w
 

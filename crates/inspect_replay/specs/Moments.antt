@@ -10,7 +10,7 @@ pub record Moment : Type 1 where
   pub down : Pipe
   pub ends : Ends
 
--- these together
+-- the link and the ends at one moment
 abbrev pub moment : Type 0 → Pipe → Pipe → Ends → Moment
 moment honest up down ends = record { honest = honest; up = up; down = down; ends = ends }
 
@@ -19,7 +19,7 @@ pub record Passage : Type 1 where
   pub before : Moment
   pub after : Moment
 
--- these two together
+-- what a call leads from, and to
 abbrev pub passage : Moment → Moment → Passage
 passage before after = record { before = before; after = after }
 
@@ -28,6 +28,6 @@ pub record Scene : Type 1 where
   pub now : Moment
   pub taken : Option (List ℕ)
 
--- these together
+-- a moment, with what the sink has taken
 abbrev pub scene : Moment → Option (List ℕ) → Scene
 scene now taken = record { now = now; taken = taken }

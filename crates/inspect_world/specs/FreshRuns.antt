@@ -61,7 +61,7 @@ pub record Unstyled : Type 0 where
   pub pauses : List SeenPause
   pub matched : List MatchedReply
 
--- the same of a front end
+-- what a front end shows but for its sheets
 abbrev pub unstyled : FrontValue → Unstyled
 unstyled v = record { tree = v.tree; asks = v.asks; replies = v.replies; pauses = v.pauses; matched = v.matched }
 

@@ -20,7 +20,7 @@ pub record ToldStyles : Type 0 where
   pub ask : ℕ
   pub matched : Matched
 
--- these together
+-- matched styles with the id of the ask that they answered
 abbrev pub told_styles : ℕ → Matched → ToldStyles
 told_styles ask matched = record { ask = ask; matched = matched }
 
@@ -44,7 +44,7 @@ abbrev pub if_named : Result ℕ Why → Option ℕ
 if_named (Ok serial) = Some serial
 if_named (Err why) = None
 
--- those of the node with that id, where it names an element, and the domains DOM and CSS are on
+-- the matched styles of the node with that id, where it names an element, and the domains DOM and CSS are on
 abbrev pub styles_of_node : State → ℕ → Option Matched
 styles_of_node state node =
     cond (state.client.dom_on && state.client.css_on) (option_map (styles_of_element state) (if_named (element_named node state))) None
@@ -66,7 +66,7 @@ styles_asked (Err r) state = []
 abbrev pub styles_answered : List ℕ → State → List ToldStyles
 styles_answered frame state = styles_asked (asked frame false) state
 
--- those that answered the ask with that id, if any did
+-- the matched styles that answered the ask with that id, if any did
 abbrev pub styles_under : ℕ → List ToldStyles → Option Matched
 styles_under ask [] = None
 styles_under ask (t ∷ ts) = cond (t.ask == ask) (Some t.matched) (styles_under ask ts)

@@ -126,7 +126,7 @@ is_formed_label l =
     && cond (has_name l.kind) true (is_empty l.name)
     && cond (has_value l.kind) true (is_empty l.value)
 
--- its names have their forms
+-- the names of a label have their forms
 abbrev pub is_named_label : Label → Bool
 is_named_label l = cond (has_name l.kind) (is_element_name l.name) true && list_all (λ p. is_attribute_name p.0) l.attributes
 

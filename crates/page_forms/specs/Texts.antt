@@ -46,6 +46,6 @@ ActHasTexts (ReplaceSheet sheet text) = IsUtf8 sheet × IsUtf8 text
 abbrev pub PagesHaveTexts : Type 0
 PagesHaveTexts = (d : Data) (page : LoadedPage) → HasUtf8 d → page_in d ≡ Some page → PageHasTexts page
 
--- so has an act
+-- an act has the texts of its JSON
 abbrev pub ActsHaveTexts : Type 0
 ActsHaveTexts = (d : Data) (act : Act) → HasUtf8 d → act_in d ≡ Some act → ActHasTexts act
