@@ -28,9 +28,9 @@ use Rattle.cdp_messages.specs.declared.command.Command.{Command}
 use Rattle.cdp_messages.specs.declared.command.Command.TheVariants.{DomEnable, DomDisable, CssEnable, CssDisable, AskDom, AskCss}
 use Rattle.cdp_messages.specs.declared.command.Command.TheVariants.{SetBreakpoint, RemoveBreakpoint}
 use Rattle.back_end.specs.Steps.{Step, refusing, with_page, client_served, push_step, push_steps, pause_step, script_step, script_steps}
-use Rattle.back_end.specs.Steps.{sheet_step, sheet_steps, deed_step, planned_step, act_step, load_step, watch_kind, watch_step, serial_now}
+use Rattle.back_end.specs.Steps.{sheet_step, sheet_steps, deed_step, planned_step, act_step, load_step, watch_step, serial_now}
 use Rattle.back_end.specs.Steps.{needs_on, needs_css, served_step, command_step}
-use Rattle.cdp_messages.specs.declared.command.WatchWord.{WatchWord}
+use Rattle.node_tree.specs.declared.watches.WatchKind.{WatchKind}
 use Rattle.back_end.specs.Seats.{DeskStandsFor, BothStandFor}
 use Rattle.back_end.proofs.HistoryLemmas.{keeps-same, keeps-crossed, keeps-cleared}
 use Rattle.back_end.proofs.SeatLemmas.{on_ok, on-is}
@@ -83,11 +83,11 @@ watch-stays : (id : ℕ) (change : ℕ → Watched → Watched) (found : Option 
 watch-stays id change None state = stayed state
 watch-stays id change (Some node) state = record { marks = refl; side = refl }
 
-watches-stay : (id node : ℕ) (word : WatchWord) (state : State) → Stays state (served_step id (SetBreakpoint node word) state).state
-watches-stay id node word state = watch-stays id (with_watch (watch_kind word)) (serial_now state node) state
+watches-stay : (id node : ℕ) (word : WatchKind) (state : State) → Stays state (served_step id (SetBreakpoint node word) state).state
+watches-stay id node word state = watch-stays id (with_watch word) (serial_now state node) state
 
-unwatches-stay : (id node : ℕ) (word : WatchWord) (state : State) → Stays state (served_step id (RemoveBreakpoint node word) state).state
-unwatches-stay id node word state = watch-stays id (without_watch (watch_kind word)) (serial_now state node) state
+unwatches-stay : (id node : ℕ) (word : WatchKind) (state : State) → Stays state (served_step id (RemoveBreakpoint node word) state).state
+unwatches-stay id node word state = watch-stays id (without_watch word) (serial_now state node) state
 
 -- a command that leaves the history alone
 abbrev pub LeavesAlone : Command → Type 0
@@ -105,10 +105,10 @@ css-disables-alone id state = record { marks = refl; side = refl }
 pub styles-alone : (ask : CssAsk) → LeavesAlone (AskCss ask)
 styles-alone ask id state = stayed state
 
-pub watches-alone : (node : ℕ) (word : WatchWord) → LeavesAlone (SetBreakpoint node word)
+pub watches-alone : (node : ℕ) (word : WatchKind) → LeavesAlone (SetBreakpoint node word)
 watches-alone node word id state = watches-stay id node word state
 
-pub unwatches-alone : (node : ℕ) (word : WatchWord) → LeavesAlone (RemoveBreakpoint node word)
+pub unwatches-alone : (node : ℕ) (word : WatchKind) → LeavesAlone (RemoveBreakpoint node word)
 unwatches-alone node word id state = unwatches-stay id node word state
 
 pub agent-alone : (ask : DomAsk) → LeavesAlone (AskDom ask)

@@ -25,8 +25,8 @@ use Rattle.dom_agent.specs.Requests.{pushing}
 use Rattle.dom_agent.proofs.KnownLemmas.{pushed-known}
 use Rattle.dom_agent.proofs.OpeningsLemmas.{opened_all-grows}
 use Rattle.dom_agent.proofs.OutcomeLemmas.{containers-page}
-use Rattle.dom_breakpoints.specs.declared.pauses.WatchKind.{WatchKind}
-use Rattle.dom_breakpoints.specs.declared.pauses.WatchKind.TheVariants.{Subtree, Attribute, Removed}
+use Rattle.node_tree.specs.declared.watches.WatchKind.{WatchKind}
+use Rattle.node_tree.specs.declared.watches.WatchKind.TheVariants.{Subtree, Attribute, Removed}
 use Rattle.dom_breakpoints.specs.declared.pauses.Pause.{Pause}
 use Rattle.dom_breakpoints.specs.Pauses.{own_pause, subtree_pause, pause_of}
 use Rattle.dom_breakpoints.specs.Watched.{Watched, is_watched}

@@ -4,7 +4,7 @@ use Rattle.node_tree.specs.Nodes.{Nodes, none}
 use Rattle.node_tree.specs.Keys.{has}
 use Rattle.page_tree.specs.Pages.{PageRow, row_serial}
 use Rattle.node_binding.specs.Bindings.{Stands}
-use Rattle.dom_breakpoints.specs.declared.pauses.WatchKind.TheVariants.{Subtree, Attribute, Removed}
+use Rattle.node_tree.specs.declared.watches.WatchKind.TheVariants.{Subtree, Attribute, Removed}
 use Rattle.dom_breakpoints.specs.declared.pauses.Pause.{Pause}
 use Rattle.dom_breakpoints.specs.Watched.{Watched, is_watched}
 use Rattle.page_forms.specs.declared.pages.PageForm.{PageForm}

@@ -5,7 +5,7 @@ use Rattle.node_tree.specs.Keys.{has}
 use Rattle.page_tree.specs.Pages.{PageRow, row_serial, PageValue, IsValid, loaded}
 use Rattle.node_binding.specs.Sessions.{Session, IsSession, begun}
 use Rattle.client_views.specs.Views.{ShownSheet, View}
-use Rattle.dom_breakpoints.specs.declared.pauses.WatchKind.{WatchKind}
+use Rattle.node_tree.specs.declared.watches.WatchKind.{WatchKind}
 use Rattle.dom_breakpoints.specs.Watched.{Watched, unwatched, is_watched}
 use Rattle.undo_marks.specs.Marks.{Marks, no_marks}
 use Rattle.undo_marks.specs.Changes.{HistoryEntry as Entry, KeptFor, IsHistory}

@@ -19,8 +19,6 @@ use Rattle.cdp_messages.specs.declared.command.Why.TheVariants.{DomOff, CssOff, 
 use Rattle.cdp_messages.specs.declared.command.Asked.{Asked}
 use Rattle.cdp_messages.specs.declared.command.Refused.{Refused}
 use Rattle.cdp_messages.specs.declared.dom_ask.DomAsk.{DomAsk}
-use Rattle.cdp_messages.specs.declared.command.WatchWord.{WatchWord}
-use Rattle.cdp_messages.specs.declared.command.WatchWord.TheVariants as word
 use Rattle.cdp_messages.specs.declared.down.PauseData.{PauseData}
 use Rattle.cdp_messages.specs.declared.down.PauseData.TheVariants as told_pause
 use Rattle.cdp_messages.specs.declared.down.ReplyBody.{ReplyBody}
@@ -43,8 +41,8 @@ use Rattle.dom_agent.specs.Requests.{pushed, opening_moves, Outcome, shows_root,
 use Rattle.dom_agent.specs.Edits.{Edited}
 use Rattle.dom_agent.specs.EditLaws.{session_edited}
 use Rattle.dom_agent.specs.Laws.{session_outcome}
-use Rattle.dom_breakpoints.specs.declared.pauses.WatchKind.{WatchKind}
-use Rattle.dom_breakpoints.specs.declared.pauses.WatchKind.TheVariants as watch
+use Rattle.node_tree.specs.declared.watches.WatchKind.{WatchKind}
+use Rattle.node_tree.specs.declared.watches.WatchKind.TheVariants as watch
 use Rattle.dom_breakpoints.specs.declared.pauses.Pause.{Pause}
 use Rattle.dom_breakpoints.specs.Pauses.{pause_of}
 use Rattle.dom_breakpoints.specs.Watched.{Watched, unwatched, with_watch, without_watch, without_subtree}
@@ -544,12 +542,6 @@ sheet_edit_step id edit state = restyled_step id (css_edited (book_in state) edi
 
 -- ---- watches
 
--- the kind of a watch, by the word of a message
-abbrev pub watch_kind : WatchWord → WatchKind
-watch_kind word.Subtree = watch.Subtree
-watch_kind word.Attribute = watch.Attribute
-watch_kind word.Removed = watch.Removed
-
 -- the watches of the client become others, by a command on a known node
 abbrev pub watch_step : ℕ → (ℕ → Watched → Watched) → Option ℕ → State → Step
 watch_step id change None state = refusing (Some id) UnknownNode state
@@ -585,8 +577,8 @@ served_step id CssEnable state = css_on_step id state
 served_step id CssDisable state = css_off_step id state
 served_step id (AskCss ask) state = css_step id ask state
 served_step id (EditCss edit) state = sheet_edit_step id edit state
-served_step id (SetBreakpoint node word) state = watch_step id (with_watch (watch_kind word)) (serial_now state node) state
-served_step id (RemoveBreakpoint node word) state = watch_step id (without_watch (watch_kind word)) (serial_now state node) state
+served_step id (SetBreakpoint node word) state = watch_step id (with_watch word) (serial_now state node) state
+served_step id (RemoveBreakpoint node word) state = watch_step id (without_watch word) (serial_now state node) state
 served_step id (ReplayLoad params) state = own_step loads id (load_asked params) state
 served_step id (ReplayAct params) state = own_step acts id (act_asked params state.side.page (book_in state)) state
 

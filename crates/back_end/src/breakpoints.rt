@@ -4,25 +4,13 @@ ghost use Rattle.client_views.specs.Moves.{frames_of_moves};
 ghost use Rattle.back_end.specs.States.{State};
 ghost use Rattle.cdp_messages.specs.declared.command.Command.TheVariants as commands;
 ghost use Rattle.back_end.specs.Steps.{command_step};
-ghost use Rattle.back_end.specs.Steps as steps;
 ghost use Rattle.back_end.specs.Seats.{DeskStandsFor};
 
 use crate::desk::Desk;
 use crate::side::PageSide;
-use cdp_messages::{ReplyBody, WatchWord, Why, write_reply};
+use cdp_messages::{ReplyBody, Why, write_reply};
 use dom_breakpoints::WatchKind;
 use std::alloc::AllocError;
-
-/// The kind of a watch, by the word of a message.
-fn watch_kind(word: WatchWord) -> WatchKind
-    ensures { result ≡ steps.watch_kind word }
-{
-    match word {
-        WatchWord::Subtree => WatchKind::Subtree,
-        WatchWord::Attribute => WatchKind::Attribute,
-        WatchWord::Removed => WatchKind::Removed,
-    }
-}
 
 impl Desk {
     /// `DOMDebugger.setDOMBreakpoint`
@@ -31,7 +19,7 @@ impl Desk {
         side: &mut PageSide,
         id: u64,
         node: u64,
-        kind: WatchWord,
+        kind: WatchKind,
         out: &mut Vec<u8>,
     ) -> Result<(), AllocError>
         requires on { self.old.is_on ≡ true }
@@ -46,7 +34,7 @@ impl Desk {
         let Some(serial) = self.agent.serial_of(node) else {
             return self.refuse(id, Why::UnknownNode, out);
         };
-        self.watches.set(serial, watch_kind(kind))?;
+        self.watches.set(serial, kind)?;
         write_reply(self.alloc, id, &ReplyBody::Nothing, out)
     }
 
@@ -56,7 +44,7 @@ impl Desk {
         side: &mut PageSide,
         id: u64,
         node: u64,
-        kind: WatchWord,
+        kind: WatchKind,
         out: &mut Vec<u8>,
     ) -> Result<(), AllocError>
         requires on { self.old.is_on ≡ true }
@@ -71,7 +59,7 @@ impl Desk {
         let Some(serial) = self.agent.serial_of(node) else {
             return self.refuse(id, Why::UnknownNode, out);
         };
-        self.watches.remove(serial, watch_kind(kind));
+        self.watches.remove(serial, kind);
         write_reply(self.alloc, id, &ReplyBody::Nothing, out)
     }
 }

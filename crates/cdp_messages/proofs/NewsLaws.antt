@@ -11,8 +11,8 @@ use Rattle.cdp_json.proofs.KindLaws.{named_is, whole_lawful, text_lawful, flag_l
 use Rattle.cdp_json.proofs.KindLaws.{through_lawful, choice_lawful, only_text_lawful}
 use Rattle.cdp_json.proofs.RowLaws.{ends_lawful, and_need_lawful, and_may_lawful, object_lawful}
 use Rattle.css_objects.proofs.Objects.{sheet_sound, header_sound}
-use Rattle.cdp_messages.specs.declared.command.WatchWord.{WatchWord}
-use Rattle.cdp_messages.specs.declared.command.WatchWord.TheVariants.{Subtree, Attribute, Removed}
+use Rattle.node_tree.specs.declared.watches.WatchKind.{WatchKind}
+use Rattle.node_tree.specs.declared.watches.WatchKind.TheVariants.{Subtree, Attribute, Removed}
 use Rattle.cdp_messages.specs.declared.down.PauseData.{PauseData}
 use Rattle.cdp_messages.specs.declared.down.PauseData.TheVariants as pause
 use Rattle.cdp_messages.specs.declared.event_names.EventName.{EventName}
@@ -22,7 +22,8 @@ use Rattle.cdp_messages.specs.Events.{set_children, document_updated, sheet_adde
 use Rattle.cdp_messages.specs.Events.{all_events, event_named, node_id, attribute_name, modified_kind, dropped_kind}
 use Rattle.dom_objects.specs.NodeKinds.{shows_no_children}
 use Rattle.cdp_messages.specs.Events.{data_kind, count_kind, inserted_kind, removed_kind, children_kind, added_kind, sheet_id_kind}
-use Rattle.cdp_messages.specs.Events.{empty_kind, watch_name, all_watches, watch, pause_fields, pause_by, pause_from, pause_kind}
+use Rattle.cdp_messages.specs.Events.{empty_kind, all_watches, watch, pause_fields, pause_by, pause_from, pause_kind}
+use Rattle.node_tree.specs.Watches.{watch_name}
 use Rattle.cdp_messages.specs.Events.{paused_kind, NewsForm, news_form_of, news_form, envelope, news_data, fits_news, news_by, news_of_name}
 use Rattle.cdp_messages.specs.Events.{news_inside, news_in, no_call_frames}
 use Rattle.css_objects.specs.Styles.{has_none}
@@ -76,7 +77,7 @@ added_lawful = object_lawful (and_need_lawful _ header_sound.lawful ends_lawful 
 sheet_id_lawful : LawfulKind sheet_id_kind
 sheet_id_lawful = object_lawful (and_need_lawful _ sheet_sound.lawful ends_lawful refl)
 
-pub first_watch : (w : WatchWord) → named watch_name all_watches (watch_name w) ≡ Some w
+pub first_watch : (w : WatchKind) → named watch_name all_watches (watch_name w) ≡ Some w
 first_watch Subtree = refl
 first_watch Attribute = refl
 first_watch Removed = refl
@@ -84,7 +85,7 @@ first_watch Removed = refl
 pub watch_lawful : LawfulKind watch
 watch_lawful = choice_lawful watch_name all_watches first_watch
 
-pause_only : (w : WatchWord) (insertion : Option Bool) (target : Option ℕ) (node : ℕ) (x : PauseData)
+pause_only : (w : WatchKind) (insertion : Option Bool) (target : Option ℕ) (node : ℕ) (x : PauseData)
     → pause_by w insertion target node ≡ Some x → pause_fields x ≡ (insertion, (node, (target, (w, tt))))
 pause_only Subtree (Some b) (Some t) node x e = ap pause_fields (sym (same_some (pause.Subtree node t b) x e))
 pause_only Subtree (Some b) None node x e = absurd cc

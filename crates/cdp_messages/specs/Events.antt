@@ -8,8 +8,8 @@ use Rattle.cdp_json.specs.Kinds.{Kind, whole, text, flag, anything, any_items, o
 use Rattle.cdp_json.specs.Rows.{ends, and_need, and_may, object_of, unit_if}
 use Rattle.node_tree.specs.Names.{is_attribute_name}
 use Rattle.node_tree.specs.Nodes.{Nodes, Branch, nodes_of}
-use Rattle.cdp_messages.specs.declared.command.WatchWord.{WatchWord}
-use Rattle.cdp_messages.specs.declared.command.WatchWord.TheVariants.{Subtree, Attribute, Removed}
+use Rattle.node_tree.specs.declared.watches.WatchKind.{WatchKind}
+use Rattle.node_tree.specs.declared.watches.WatchKind.TheVariants.{Subtree, Attribute, Removed}
 use Rattle.cdp_messages.specs.declared.down.Event.{Event}
 use Rattle.css_objects.specs.declared.sheets.Header.{Header}
 use Rattle.css_objects.specs.Sheets.{sheet_kind, header_kind}
@@ -24,6 +24,7 @@ use Rattle.cdp_messages.specs.declared.event_names.EventName.TheVariants as name
 use Rattle.dom_objects.specs.Told.{Told}
 use Rattle.css_objects.specs.Styles.{has_none}
 use Rattle.dom_objects.specs.NodeKinds.{nodes_kind, bare_kind}
+use Rattle.node_tree.specs.Watches.{watch_name}
 
 -- what an event tells
 pub data News : Type 0 where
@@ -155,23 +156,17 @@ added_kind = object_of (and_need (codes "header") header_kind ends)
 abbrev pub sheet_id_kind : Kind (ℕ × ⊤)
 sheet_id_kind = object_of (and_need (codes "styleSheetId") sheet_kind ends)
 
--- what is watched of a node, by its word
-abbrev pub watch_name : WatchWord → List ℕ
-watch_name Subtree = codes "subtree-modified"
-watch_name Attribute = codes "attribute-modified"
-watch_name Removed = codes "node-removed"
-
 -- each of the words
-abbrev pub all_watches : List WatchWord
+abbrev pub all_watches : List WatchKind
 all_watches = Subtree ∷ Attribute ∷ Removed ∷ []
 
 -- what is watched, as JSON
-abbrev pub watch : Kind WatchWord
+abbrev pub watch : Kind WatchKind
 watch = choice watch_name all_watches
 
 -- the fields of a pause: whether the target was put in, the node that is watched, the target, and what is watched
 abbrev pub PauseFields : Type 0
-PauseFields = Option Bool × (ℕ × (Option ℕ × (WatchWord × ⊤)))
+PauseFields = Option Bool × (ℕ × (Option ℕ × (WatchKind × ⊤)))
 
 -- a pause as its fields
 abbrev pub pause_fields : PauseData → PauseFields
@@ -180,7 +175,7 @@ pause_fields (pause.Attribute node) = (None, (node, (None, (Attribute, tt))))
 pause_fields (pause.Removed node) = (None, (node, (None, (Removed, tt))))
 
 -- the pause of these fields: a target is there for a subtree alone, and so is whether it was put in
-abbrev pub pause_by : WatchWord → Option Bool → Option ℕ → ℕ → Option PauseData
+abbrev pub pause_by : WatchKind → Option Bool → Option ℕ → ℕ → Option PauseData
 pause_by Subtree (Some insertion) (Some target) node = Some (pause.Subtree node target insertion)
 pause_by Subtree (Some insertion) None node = None
 pause_by Subtree None target node = None

@@ -14,13 +14,13 @@ ghost use Rattle.cdp_messages.specs.Events.{envelope, envelope_seen, children_fi
 ghost use Rattle.cdp_messages.specs.Events.{news_by, news_from, news_in, no_call_frames};
 ghost use Rattle.css_objects.specs.Styles.{has_none};
 
-use crate::command::WatchWord;
+use crate::command::watch_named;
 use crate::down::{Event, PauseData};
 use crate::event_names::EventName;
 use cdp_json::{Cursor, flag_of};
 use css_objects::{Header, header_of, sheet_of};
 use dom_objects::{DownErr, Manner, NodeTree, tree_of, trees_of};
-use node_tree::{Text, is_attribute_name};
+use node_tree::{Text, WatchKind, is_attribute_name};
 use serde_json::Value;
 use std::alloc::Global;
 
@@ -296,17 +296,17 @@ fn node_id_if_any(fields: &mut Cursor<'_>, name: &str) -> Option<Option<u64>>
     }
 }
 
-fn watch_field(fields: &mut Cursor<'_>) -> Option<WatchWord>
+fn watch_field(fields: &mut Cursor<'_>) -> Option<WatchKind>
     ensures { option_map (left_with (left fields.new)) result
         ≡ need watch.reads (codes "type") (left fields.old) }
 {
     let word = fields.need_text("type")?;
-    WatchWord::named(word)
+    watch_named(word)
 }
 
 // A target is there for a subtree alone, and so is whether it was put in.
 fn pause_by(
-    kind: WatchWord,
+    kind: WatchKind,
     insertion: Option<bool>,
     target: Option<u64>,
     node: u64,
@@ -314,13 +314,13 @@ fn pause_by(
     ensures { result ≡ pause_by kind insertion target node }
 {
     match (kind, insertion, target) {
-        (WatchWord::Subtree, Some(insertion), Some(target)) => Some(PauseData::Subtree {
+        (WatchKind::Subtree, Some(insertion), Some(target)) => Some(PauseData::Subtree {
             node,
             target,
             insertion,
         }),
-        (WatchWord::Attribute, None, None) => Some(PauseData::Attribute { node }),
-        (WatchWord::Removed, None, None) => Some(PauseData::Removed { node }),
+        (WatchKind::Attribute, None, None) => Some(PauseData::Attribute { node }),
+        (WatchKind::Removed, None, None) => Some(PauseData::Removed { node }),
         _ => None,
     }
 }

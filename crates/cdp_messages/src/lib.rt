@@ -38,7 +38,7 @@ mod root_scan;
 mod tree_messages;
 mod write;
 
-pub use command::{Asked, Command, CommandErr, Param, ReadErr, Refused, WatchWord, Why};
+pub use command::{Asked, Command, CommandErr, Param, ReadErr, Refused, Why};
 pub use css_ask::CssAsk;
 pub use css_edit::CssEdit;
 pub use css_objects::{
@@ -55,7 +55,7 @@ pub use kept::Json;
 pub use laws::spell_law;
 pub use method::{Domains, Method, Server};
 pub use node_message::NodeMessage;
-pub use node_tree::{Attributes, Kind, Kind as NodeType, Text};
+pub use node_tree::{Attributes, Kind, Kind as NodeType, Text, WatchKind as WatchWord};
 pub use numbers::Numbers;
 pub use read::{read_ask, read_command};
 pub use receive::read_down;

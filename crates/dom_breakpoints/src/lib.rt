@@ -16,4 +16,5 @@ mod pauses;
 mod serial_sets;
 
 pub use breakpoints::Watches;
-pub use pauses::{Pause, WatchKind};
+pub use node_tree::WatchKind;
+pub use pauses::Pause;

@@ -15,8 +15,8 @@ use Rattle.front_mirror.specs.declared.replies.Ask.{Ask}
 use Rattle.front_mirror.specs.declared.replies.Kept.{Kept}
 use Rattle.front_mirror.specs.declared.replies.MatchedReply.{MatchedReply}
 use Rattle.front_mirror.specs.declared.pauses.SeenPause.{SeenPause}
-use Rattle.cdp_messages.specs.declared.command.WatchWord.{WatchWord}
-use Rattle.cdp_messages.specs.contracts.command.WatchWord as watch
+use Rattle.node_tree.specs.declared.watches.WatchKind.{WatchKind}
+use Rattle.node_tree.specs.contracts.watches.WatchKind as watch
 use Rattle.front_mirror.specs.declared.faults.FrontKind.{FrontKind}
 use Rattle.front_mirror.specs.declared.faults.FrontFault.{FrontFault}
 use Rattle.front_mirror.specs.Front.{FrontValue, FrontState}
@@ -49,7 +49,7 @@ coded_sheet =
 -- a pause by its parts
 abbrev pub coded_pause : Coded SeenPause
 coded_pause =
-    code_by ((WatchWord × ℕ) × (Option ℕ × Bool)) (coded× (coded× watch.the_row.coded coded_ℕ) (coded× (coded_option coded_ℕ) coded_bool))
+    code_by ((WatchKind × ℕ) × (Option ℕ × Bool)) (coded× (coded× watch.the_row.coded coded_ℕ) (coded× (coded_option coded_ℕ) coded_bool))
     (λ p. ((p.kind, p.node), (p.target, p.insertion)))
     (λ p. record { kind = p.0.0; node = p.0.1; target = p.1.0; insertion = p.1.1 })
     (λ _. refl)

@@ -16,7 +16,7 @@ use Rattle.cdp_messages.specs.declared.down.ReplyBody.TheVariants as body
 use Rattle.client_views.specs.declared.effects.Effect.{Effect}
 use Rattle.client_views.specs.declared.effects.Effect.TheVariants as effect
 use Rattle.client_views.specs.Effects.{effect_of}
-use Rattle.cdp_messages.specs.declared.command.WatchWord.TheVariants.{Subtree, Attribute, Removed}
+use Rattle.node_tree.specs.declared.watches.WatchKind.TheVariants.{Subtree, Attribute, Removed}
 use Rattle.cdp_messages.specs.declared.down.PauseData.{PauseData}
 use Rattle.cdp_messages.specs.declared.down.PauseData.TheVariants as pause
 use Rattle.dom_objects.specs.Told.{Told, seen_nodes, seen_branch}

@@ -40,8 +40,8 @@ use Rattle.back_end.specs.Sheets.{as_book, numbered_sheets}
 use Rattle.back_end.specs.States.{loaded_state, page_nodes, book_in, sheets_shown, view_of}
 use Rattle.back_end.specs.Steps.{acts}
 use Rattle.inspect_world.specs.RunStates.{RunState, run_step, run_turn}
-use Rattle.cdp_messages.specs.Events.{watch_name}
-use Rattle.cdp_messages.specs.declared.command.WatchWord.TheVariants as watch
+use Rattle.node_tree.specs.Watches.{watch_name}
+use Rattle.node_tree.specs.declared.watches.WatchKind.TheVariants as watch
 use Rattle.inspect_world.specs.ShownPauses.{pauses_in, watched_text, pause_line, pause_lines, seen_pause_line, seen_pause_lines}
 use Rattle.cdp_messages.specs.declared.down.PauseData.{PauseData}
 use Rattle.cdp_messages.specs.declared.down.PauseData.TheVariants as pause

@@ -15,11 +15,13 @@ mod attribute_edits;
 mod attribute_lists;
 mod names;
 mod texts;
+mod watches;
 
 pub use attribute_edits::{drop_attribute, set_attribute};
 pub use attribute_lists::Attributes;
 pub use names::{is_attribute_name, is_element_name};
 pub use texts::Text;
+pub use watches::WatchKind;
 
 /// The kinds of nodes of a document (DOM, section 4.4), those that this page model has.
 #[derive(Clone, Copy)]

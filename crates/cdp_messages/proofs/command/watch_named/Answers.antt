@@ -1,7 +1,8 @@
 use Rattle.std.proofs.Common.{sym}
 use Rattle.cdp_json.proofs.KindLaws.{named_absent}
-use Rattle.cdp_messages.specs.Events.{watch_name, all_watches}
-use Rattle.cdp_messages.proofs.command.WatchWord.named.Goals as goal
+use Rattle.node_tree.specs.Watches.{watch_name}
+use Rattle.cdp_messages.specs.Events.{all_watches}
+use Rattle.cdp_messages.proofs.command.watch_named.Goals as goal
 
 pub returns-in_default : goal.returns-in_default
 returns-in_default c = sym (named_absent watch_name all_watches c.args.word.now
