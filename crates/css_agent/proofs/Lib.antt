@@ -8,3 +8,4 @@ pub mod TellableStyles
 pub mod DoneLemmas
 pub mod EditLemmas
 pub mod EditResults
+pub mod ClassLaws

@@ -1,7 +1,8 @@
 -- The names of the classes that the selectors of a sheet ask for.
-use Rattle.std.specs.Prelude.{ℕ, List, [], fold, Option, Some, None, option_to_list}
-use Rattle.std.specs.List.{flat_map}
+use Rattle.std.specs.Prelude.{◌≡◌, ℕ, Bool, List, [], ◌∷◌, fold, Option, Some, None, option_to_list, bytes_eq, ⊤}
+use Rattle.std.specs.List.{flat_map, list_any}
 use Rattle.std.specs.Ordering.{nat_cmp}
+use Rattle.std.specs.declared.cmp.Ordering.TheVariants.{Less}
 use Rattle.std.specs.Cmp.Lexicographic.{slice_cmp}
 use Rattle.std.specs.BTreeSet.{insert_key}
 use Rattle.selectors.specs.Forms.{TestForm, any, tag, id, class, attr, root, empty, nth, only_child, only_of_type, never, SimpleForm}
@@ -55,3 +56,19 @@ with_names names more = fold with_name names more
 -- the class names of a sheet's text: those of the selectors of its style rules, ascending by bytes, each once
 abbrev pub class_names : List ℕ → List (List ℕ)
 class_names text = with_names [] (classes_of_rules (sheet_of text).rules)
+
+-- ---- what holds of class names
+
+-- the name comes, by bytes, before all of these
+abbrev pub IsBeforeAll : List ℕ → List (List ℕ) → Type 0
+IsBeforeAll name [] = ⊤
+IsBeforeAll name (n ∷ ns) = (slice_cmp nat_cmp name n ≡ Less) × IsBeforeAll name ns
+
+-- each name comes, by bytes, before all later ones, so each stands there once
+abbrev pub NamesAscend : List (List ℕ) → Type 0
+NamesAscend [] = ⊤
+NamesAscend (n ∷ ns) = IsBeforeAll n ns × NamesAscend ns
+
+-- the name is one of these
+abbrev pub has_class_name : List ℕ → List (List ℕ) → Bool
+has_class_name name names = list_any (bytes_eq name) names

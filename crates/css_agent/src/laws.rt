@@ -1,8 +1,17 @@
 // Laws of the definitions.
+ghost use Rattle.std.specs.Prelude.{◌≡◌, ℕ, List};
+ghost use Rattle.sheet_reader.specs.Sheets.{sheet_of};
+ghost use Rattle.css_agent.specs.ClassNames.{class_names, classes_of_rules, NamesAscend, has_class_name};
 ghost use Rattle.css_agent.specs.EditLaws.{EditsAreDone};
 
 /// What a client's edit of sheets that has no fault comes to: splices that can be made one after the other, those that lead back,
 /// and a result of the edit's method.
 pub fn edit_law()
     ensures done { EditsAreDone }
+{}
+
+/// The class names of a sheet ascend by bytes, each once, and are exactly those that the selectors of its style rules ask for.
+pub fn class_names_law()
+    ensures ascend { (text : List ℕ) → NamesAscend (class_names text) }
+    ensures exactly { (text name : List ℕ) → has_class_name name (class_names text) ≡ has_class_name name (classes_of_rules (sheet_of text).rules) }
 {}

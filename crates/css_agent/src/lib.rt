@@ -27,5 +27,5 @@ mod units;
 
 pub use agent::CssAgent;
 pub use headers::told_header;
-pub use laws::edit_law;
+pub use laws::{class_names_law, edit_law};
 pub use outcomes::sheet_named;

@@ -9,5 +9,6 @@ pub mod AnswerLemmas
 pub mod PageLemmas
 pub mod ServeLemmas
 pub mod ServeEnds
+pub mod ReadLemmas
 pub mod SheetLineLemmas
 pub mod ServeRoom

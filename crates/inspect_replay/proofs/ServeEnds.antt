@@ -2,7 +2,7 @@
 use Rattle.std.proofs.Common.{◌≡◌, ℕ, zero, suc, ◌+◌, ◌^◌, ◌≤◌, List, [], ◌∷◌, ◌++◌, length, take, Option, Some, None, Result, Ok, Err}
 use Rattle.std.proofs.Common.{refl, sym, ◌∙◌, ap, subst, append_assoc, append-nil, length-append, arith}
 use Rattle.std.specs.Io.KnownBytes.{Appends, Consumes, IsAtEnd}
-use Rattle.pipe_frames.specs.Fault.{Rose}
+use Rattle.pipe_frames.specs.Fault.{Rose, next_count}
 use Rattle.pipe_frames.specs.Whole.{ReadPart, WrotePart}
 use Rattle.pipe_frames.proofs.FaultLemmas.{Rose-before}
 use Rattle.pipe_frames.proofs.WholeLemmas.{Appends-nil, WrotePart-longer, Consumes-nil, Consumes-append}
@@ -17,64 +17,75 @@ use Rattle.inspect_replay.specs.Followed.{Passed, StatusFolds}
 use Rattle.inspect_replay.specs.Answers.{StatusRose}
 use Rattle.inspect_replay.specs.Says.{Counts, status_of}
 use Rattle.inspect_replay.specs.Serving.{served, ServeCall, ServedRead, ServedAll, ServedLimit, ServeTook, IsServeStatus, ServeMoment}
-use Rattle.inspect_replay.specs.Serving.{Serves, PieceAnswered, PieceInPart, PieceServed, EndIsMet, ReadAnswered, PartAnswered, EndAnswered}
+use Rattle.inspect_replay.specs.Serving.{SoFar, Serves, PieceRead, PieceAnswered, PieceInPart, PieceServed, EndIsMet, ReadAnswered, PartAnswered, EndAnswered}
 use Rattle.inspect_replay.specs.Serving.{LimitAnswered, FaultAnswered, HasServed, HasServeCause, WriteRose, ServeRose}
+use Rattle.inspect_replay.specs.ServeReads.{ReadsInTurn}
+use Rattle.inspect_replay.proofs.ReadLemmas.{CameInTurn, none-in-turn, more-in-turn, reads-in-turn}
 use Rattle.inspect_replay.proofs.ServeLemmas.{answers_after, served-more}
 
 -- ---- the loop
 
--- so many bytes came, and were answered
-pub record ServedSoFar (before left start : Option (List ℕ)) (now : ServeMoment) (came : ℕ) : Type 0 where
+-- so many bytes came by reads in turn, and were answered
+pub record ServedSoFar (calls_before calls : ℕ) (before left start : Option (List ℕ)) (now : ServeMoment) (came : ℕ) : Type 0 where
   pub bytes : List ℕ
   pub count : length bytes ≡ came
   pub few : came ≤ 2 ^ 26
   pub read : Consumes before left bytes
   pub serves : Serves (record { start = start; bytes = bytes }) now
+  pub in_turn : CameInTurn calls_before calls start bytes
 
 -- nothing came yet
-pub nothing-came : (before : Option (List ℕ)) (now : ServeMoment) → Serves (record { start = now.taken; bytes = [] }) now
-    → ServedSoFar before before now.taken now 0
-nothing-came before now serves = record { bytes = []; count = refl; few = omega arith; read = Consumes-nil before; serves = serves }
+pub nothing-came : (calls : ℕ) (before : Option (List ℕ)) (now : ServeMoment) → Serves (record { start = now.taken; bytes = [] }) now
+    → ServedSoFar calls calls before before now.taken now 0
+nothing-came calls before now serves = record {
+  bytes = [];
+  count = refl;
+  few = omega arith;
+  read = Consumes-nil before;
+  serves = serves;
+  in_turn = none-in-turn calls now.taken;
+}
 
 -- a piece more
-pub more-came : (before left after start : Option (List ℕ)) (now new : ServeMoment) (came count most : ℕ)
-    (s : ServedSoFar before left start now came)
+pub more-came : (calls_before calls calls_after : ℕ) (before left after start : Option (List ℕ)) (now new : ServeMoment)
+    (came count most : ℕ) (s : ServedSoFar calls_before calls before left start now came)
     → PieceAnswered (record { start = start; bytes = s.bytes }) new (record { before = left; after = after; most = most }) count
-    → came + most ≤ 2 ^ 26
-    → ServedSoFar before after start new (came + count)
-more-came before left after start now new came count most s p room = record {
+    → came + most ≤ 2 ^ 26 → calls_after ≡ next_count calls
+    → ServedSoFar calls_before calls_after before after start new (came + count)
+more-came calls_before calls calls_after before left after start now new came count most s p room counted = record {
   bytes = s.bytes ++ p.piece;
   count = length-append s.bytes p.piece ∙ ap (λ n. n + length p.piece) s.count ∙ ap (λ n. came + n) p.length_is;
   few = let small : count ≤ most = p.few in omega (arith, small, room);
   read = Consumes-append before left after s.bytes p.piece s.read p.consumed;
   serves = p.serves;
+  in_turn = more-in-turn calls_before calls calls_after start now.taken s.bytes p.piece s.in_turn s.serves.wrote counted;
 }
 
 -- what came is what was read
-read-answered : (before left start : Option (List ℕ)) (now : ServeMoment) (came : ℕ) (s : ServedSoFar before left start now came)
+read-answered : (calls_before calls : ℕ) (before left start : Option (List ℕ)) (now : ServeMoment) (came : ℕ) (s : ServedSoFar calls_before calls before left start now came)
     → ReadAnswered (record { left_before = before; left_after = left; taken_before = start; taken_after = now.taken }) s.bytes []
-read-answered before left start now came s = record {
+read-answered calls_before calls before left start now came s = record {
   few = let count = s.count in let few = s.few in omega (arith, count, few);
   read = subst (λ bytes. Consumes before left bytes) (sym (append-nil s.bytes)) s.read;
   wrote = s.serves.wrote;
 }
 
 -- the source ended
-pub loop-ended : (before left start : Option (List ℕ)) (now : ServeMoment) (came : ℕ) → ServedSoFar before left start now came
-    → IsAtEnd left
+pub loop-ended : (calls_before calls : ℕ) (before left start : Option (List ℕ)) (now : ServeMoment) (came : ℕ)
+    → ServedSoFar calls_before calls before left start now came → IsAtEnd left
     → EndAnswered (record { left_before = before; left_after = left; taken_before = start; taken_after = now.taken })
-loop-ended before left start now came s ended = record {
+loop-ended calls_before calls before left start now came s ended = record {
   bytes = s.bytes;
-  answered = read-answered before left start now came s;
+  answered = read-answered calls_before calls before left start now came s;
   ended = ended;
 }
 
 -- a front part of the answers to what came was written
-loop-part : (before left after start : Option (List ℕ)) (now new : ServeMoment) (came most : ℕ) (s : ServedSoFar before left start now came)
+loop-part : (calls_before calls : ℕ) (before left after start : Option (List ℕ)) (now new : ServeMoment) (came most : ℕ) (s : ServedSoFar calls_before calls before left start now came)
     → PieceInPart (record { start = start; bytes = s.bytes }) new (record { before = left; after = after; most = most })
     → came + most ≤ 2 ^ 26
     → PartAnswered (record { left_before = before; left_after = after; taken_before = start; taken_after = new.taken })
-loop-part before left after start now new came most s p room = record {
+loop-part calls_before calls before left after start now new came most s p room = record {
   bytes = s.bytes ++ p.piece;
   few =
       let size : length (s.bytes ++ p.piece) ≡ length s.bytes + length p.piece = length-append s.bytes p.piece in
@@ -84,15 +95,15 @@ loop-part before left after start now new came most s p room = record {
 }
 
 -- the loop stopped
-pub loop-stopped : (before left after start : Option (List ℕ)) (now new : ServeMoment) (came most : ℕ) (stop : Stop)
-    (s : ServedSoFar before left start now came)
+pub loop-stopped : (calls_before calls : ℕ) (before left after start : Option (List ℕ)) (now new : ServeMoment) (came most : ℕ) (stop : Stop)
+    (s : ServedSoFar calls_before calls before left start now came)
     → PieceServed (record { start = start; bytes = s.bytes }) new (record { before = left; after = after; most = most }) (Err stop)
     → came + most ≤ 2 ^ 26
     → HasServed {T = Unit {0}} (record { left_before = before; left_after = after; taken_before = start; taken_after = new.taken })
     (Err stop)
-loop-stopped before left after start now new came most (Line number fault) s p room = absurd p
-loop-stopped before left after start now new came most TooLong s p room = absurd p
-loop-stopped before left after start now new came most ReadFault s p room = record {
+loop-stopped calls_before calls before left after start now new came most (Line number fault) s p room = absurd p
+loop-stopped calls_before calls before left after start now new came most TooLong s p room = absurd p
+loop-stopped calls_before calls before left after start now new came most ReadFault s p room = record {
   bytes = s.bytes;
   answered = record {
     few = let count = s.count in let few = s.few in omega (arith, count, few);
@@ -100,18 +111,18 @@ loop-stopped before left after start now new came most ReadFault s p room = reco
     wrote = p.1.wrote;
   };
 }
-loop-stopped before left after start now new came most WriteFault s p room = loop-part before left after start now new came most s p room
-loop-stopped before left after start now new came most LinkFault s p room = absurd p
-loop-stopped before left after start now new came most (FrontRefused place fault) s p room = absurd p
-loop-stopped before left after start now new came most NoRoom s p room = absurd p
-loop-stopped before left after start now new came most Memory s p room = loop-part before left after start now new came most s p room
+loop-stopped calls_before calls before left after start now new came most WriteFault s p room = loop-part calls_before calls before left after start now new came most s p room
+loop-stopped calls_before calls before left after start now new came most LinkFault s p room = absurd p
+loop-stopped calls_before calls before left after start now new came most (FrontRefused place fault) s p room = absurd p
+loop-stopped calls_before calls before left after start now new came most NoRoom s p room = absurd p
+loop-stopped calls_before calls before left after start now new came most Memory s p room = loop-part calls_before calls before left after start now new came most s p room
 
 -- as many came as an input may have
-pub loop-full : (before left after start : Option (List ℕ)) (now : ServeMoment) (came : ℕ) (result : Result (Unit {0}) Stop)
-    → ServedSoFar before left start now came → 2 ^ 26 ≤ came
+pub loop-full : (calls_before calls : ℕ) (before left after start : Option (List ℕ)) (now : ServeMoment) (came : ℕ) (result : Result (Unit {0}) Stop)
+    → ServedSoFar calls_before calls before left start now came → 2 ^ 26 ≤ came
     → EndIsMet left after result → HasServed
     (record { left_before = before; left_after = after; taken_before = start; taken_after = now.taken }) result
-loop-full before left after start now came (Ok value) s full met = record {
+loop-full calls_before calls before left after start now came (Ok value) s full met = record {
   bytes = s.bytes;
   answered = record {
     few = let count = s.count in let few = s.few in omega (arith, count, few);
@@ -120,8 +131,8 @@ loop-full before left after start now came (Ok value) s full met = record {
   };
   ended = met.1;
 }
-loop-full before left after start now came (Err (Line number fault)) s full met = absurd met
-loop-full before left after start now came (Err TooLong) s full met = record {
+loop-full calls_before calls before left after start now came (Err (Line number fault)) s full met = absurd met
+loop-full calls_before calls before left after start now came (Err TooLong) s full met = record {
   bytes = s.bytes;
   past = met.0;
   answered = record {
@@ -132,7 +143,7 @@ loop-full before left after start now came (Err TooLong) s full met = record {
   full = let count = s.count in let few = s.few in omega (arith, count, few, full);
   one_more = met.1;
 }
-loop-full before left after start now came (Err ReadFault) s full met = record {
+loop-full calls_before calls before left after start now came (Err ReadFault) s full met = record {
   bytes = s.bytes;
   answered = record {
     few = let count = s.count in let few = s.few in omega (arith, count, few);
@@ -140,11 +151,74 @@ loop-full before left after start now came (Err ReadFault) s full met = record {
     wrote = s.serves.wrote;
   };
 }
-loop-full before left after start now came (Err WriteFault) s full met = absurd met
-loop-full before left after start now came (Err LinkFault) s full met = absurd met
-loop-full before left after start now came (Err (FrontRefused place fault)) s full met = absurd met
-loop-full before left after start now came (Err NoRoom) s full met = absurd met
-loop-full before left after start now came (Err Memory) s full met = absurd met
+loop-full calls_before calls before left after start now came (Err WriteFault) s full met = absurd met
+loop-full calls_before calls before left after start now came (Err LinkFault) s full met = absurd met
+loop-full calls_before calls before left after start now came (Err (FrontRefused place fault)) s full met = absurd met
+loop-full calls_before calls before left after start now came (Err NoRoom) s full met = absurd met
+loop-full calls_before calls before left after start now came (Err Memory) s full met = absurd met
+
+-- ---- the reads
+
+-- all that came was read in turn
+pub turns-ended : (calls_before calls : ℕ) (before left start : Option (List ℕ)) (now : ServeMoment) (came : ℕ)
+    → ServedSoFar calls_before calls before left start now came
+    → ReadsInTurn calls_before calls (record { left_before = before; left_after = left; taken_before = start; taken_after = now.taken })
+turns-ended calls_before calls before left start now came s = reads-in-turn calls_before calls s.bytes _ s.in_turn s.read
+
+-- and what one read more gave
+turns-more : (calls_before calls calls_after : ℕ) (before left after start end : Option (List ℕ)) (now : ServeMoment) (came : ℕ)
+    (piece : List ℕ) → ServedSoFar calls_before calls before left start now came → calls_after ≡ next_count calls → Consumes left after piece
+    → ReadsInTurn calls_before calls_after (record { left_before = before; left_after = after; taken_before = start; taken_after = end })
+turns-more calls_before calls calls_after before left after start end now came piece s counted consumed =
+    reads-in-turn calls_before calls_after (s.bytes ++ piece) _
+    (more-in-turn calls_before calls calls_after start now.taken s.bytes piece s.in_turn s.serves.wrote counted)
+    (Consumes-append before left after s.bytes piece s.read consumed)
+
+-- what a call that stopped consumed
+consumed-piece : (so_far : SoFar) (new : ServeMoment) (read : PieceRead) (stop : Stop) → PieceServed so_far new read (Err stop)
+    → (piece : List ℕ) × Consumes read.before read.after piece
+consumed-piece so_far new read (Line number fault) p = absurd p
+consumed-piece so_far new read TooLong p = absurd p
+consumed-piece so_far new read ReadFault p = ([], p.0)
+consumed-piece so_far new read WriteFault p = (p.piece, p.consumed)
+consumed-piece so_far new read LinkFault p = absurd p
+consumed-piece so_far new read (FrontRefused place fault) p = absurd p
+consumed-piece so_far new read NoRoom p = absurd p
+consumed-piece so_far new read Memory p = (p.piece, p.consumed)
+
+-- the loop stopped at a read
+pub turns-stopped : (calls_before calls calls_after : ℕ) (before left after start : Option (List ℕ)) (now new : ServeMoment)
+    (came most : ℕ) (stop : Stop) (s : ServedSoFar calls_before calls before left start now came)
+    → PieceServed (record { start = start; bytes = s.bytes }) new (record { before = left; after = after; most = most }) (Err stop)
+    → calls_after ≡ next_count calls
+    → ReadsInTurn calls_before calls_after
+    (record { left_before = before; left_after = after; taken_before = start; taken_after = new.taken })
+turns-stopped calls_before calls calls_after before left after start now new came most stop s p counted =
+    let last = consumed-piece _ new _ stop p in
+    turns-more calls_before calls calls_after before left after start new.taken now came last.0 s counted last.1
+
+-- what the last read consumed
+consumed-end : (before after : Option (List ℕ)) (result : Result (Unit {0}) Stop) → EndIsMet before after result
+    → (piece : List ℕ) × Consumes before after piece
+consumed-end before after (Ok value) met = ([], met.0)
+consumed-end before after (Err (Line number fault)) met = absurd met
+consumed-end before after (Err TooLong) met = (met.0, met.2)
+consumed-end before after (Err ReadFault) met = ([], met)
+consumed-end before after (Err WriteFault) met = absurd met
+consumed-end before after (Err LinkFault) met = absurd met
+consumed-end before after (Err (FrontRefused place fault)) met = absurd met
+consumed-end before after (Err NoRoom) met = absurd met
+consumed-end before after (Err Memory) met = absurd met
+
+-- as many bytes came as an input may have, and one read more was made
+pub turns-full : (calls_before calls calls_after : ℕ) (before left after start : Option (List ℕ)) (now : ServeMoment) (came : ℕ)
+    (result : Result (Unit {0}) Stop) → ServedSoFar calls_before calls before left start now came → EndIsMet left after result
+    → calls_after ≡ next_count calls
+    → ReadsInTurn calls_before calls_after
+    (record { left_before = before; left_after = after; taken_before = start; taken_after = now.taken })
+turns-full calls_before calls calls_after before left after start now came result s met counted =
+    let last = consumed-end left after result met in
+    turns-more calls_before calls calls_after before left after start now.taken now came last.0 s counted last.1
 
 -- ---- causes
 

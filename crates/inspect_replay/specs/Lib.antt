@@ -10,3 +10,4 @@ pub mod Followed
 pub mod Prints
 pub mod Serving
 pub mod ServeRoom
+pub mod ServeReads

@@ -12,6 +12,7 @@ ghost use Rattle.inspect_replay.specs.Answers.{FitsLimits, TellsLine, Took, IsHo
 ghost use Rattle.inspect_replay.specs.Answers.{ReadsAll, IsLate};
 ghost use Rattle.inspect_replay.specs.Says.{status_of};
 ghost use Rattle.inspect_replay.specs.Serving.{ServeTook, IsServeStatus};
+ghost use Rattle.inspect_replay.specs.ServeReads.{ReadsInTurn};
 
 use crate::run::run_script;
 use crate::serve::serve;
@@ -100,6 +101,13 @@ pub fn inspect<S: Source, K: Sink, L: Link>(
           taken_before = K.taken out.old;
           taken_after = K.taken out.new;
         }) }
+    // it is answered before more is read: at each read the sink had taken the answers to all frames that were whole by then
+    ensures serve_reads { is_serve (map string_bytes words.now) ≡ true → ReadsInTurn (S.calls src.old) (S.calls src.new) (record {
+      left_before = S.left src.old;
+      left_after = S.left src.new;
+      taken_before = K.taken out.old;
+      taken_after = K.taken out.new;
+    }) }
     ensures serve_status { is_serve (map string_bytes words.now) ≡ true → IsServeStatus result }
     ensures serve_unlinked { is_serve (map string_bytes words.now) ≡ true → link.new ≡ link.old }
 {

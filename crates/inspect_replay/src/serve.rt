@@ -1,9 +1,10 @@
 // `serve`: a client speaks to the back end over the source and the sink, with no front end of ours between them.
 ghost use Rattle.std.specs.Prelude.{◌≡◌, ◌+◌, ◌≤◌, ◌<◌, ◌^◌, ℕ, List, length, take, Ok, Err, IfOk, OnErr};
 ghost use Rattle.std.specs.Io.KnownBytes.{Consumes, IsAtEnd, Keeps};
-ghost use Rattle.pipe_frames.specs.Fault.{Rose};
+ghost use Rattle.pipe_frames.specs.Fault.{Rose, next_count};
 ghost use Rattle.pipe_frames.specs.Whole.{ReadPart};
 ghost use Rattle.inspect_replay.specs.Answers.{StatusRose};
+ghost use Rattle.inspect_replay.specs.ServeReads.{ReadsInTurn};
 ghost use Rattle.inspect_replay.specs.Serving.{IsServeStatus, ServeTook, HasServed, HasServeCause, EndIsMet};
 ghost use Rattle.inspect_replay.specs.declared.stop.Stop.TheVariants.{ReadFault};
 
@@ -17,7 +18,7 @@ use std::alloc::{AllocError, Global};
 /// How many bytes a read asks for at most.
 const PIECE: usize = 65536;
 
-/// Reads once. 0 is the end.
+/// Reads once, and no more: what came is to be answered before the next read. 0 is the end.
 pub(crate) fn read_piece<S: Source>(src: &mut S, buf: &mut [u8]) -> Result<usize, Stop>
     requires { 0 < length buf.old }
     ensures bound { IfOk result (λ n. n ≤ length buf.new) }
@@ -27,6 +28,8 @@ pub(crate) fn read_piece<S: Source>(src: &mut S, buf: &mut [u8]) -> Result<usize
     ensures kept { OnErr result (Keeps (S.left src.old) (S.left src.new)) }
     ensures later { S.faults src.old ≤ S.faults src.new }
     ensures rose { OnErr result (Rose (S.faults src.old) (S.faults src.new)) }
+    ensures answered { S.faults src.old < S.faults src.new → result ≡ Err ReadFault }
+    ensures counted { S.calls src.new ≡ next_count (S.calls src.old) }
 {
     match src.read(buf) {
         Ok(count) => Ok(count),
@@ -38,6 +41,7 @@ pub(crate) fn read_piece<S: Source>(src: &mut S, buf: &mut [u8]) -> Result<usize
 pub(crate) fn end_of_input<S: Source>(src: &mut S, buf: &mut [u8]) -> Result<(), Stop>
     requires { length buf.old ≡ 1 }
     ensures met { EndIsMet (S.left src.old) (S.left src.new) result }
+    ensures counted { S.calls src.new ≡ next_count (S.calls src.old) }
     ensures cause { HasServeCause (record {
       source_before = S.faults src.old;
       source_after = S.faults src.new;
@@ -69,6 +73,12 @@ fn serve_source<S: Source, K: Sink>(alloc: Global, src: &mut S, out: &mut K) -> 
       taken_before = K.taken out.old;
       taken_after = K.taken out.new;
     }) result }
+    ensures in_turn { ReadsInTurn (S.calls src.old) (S.calls src.new) (record {
+      left_before = S.left src.old;
+      left_after = S.left src.new;
+      taken_before = K.taken out.old;
+      taken_after = K.taken out.new;
+    }) }
     ensures cause { HasServeCause (record {
       source_before = S.faults src.old;
       source_after = S.faults src.new;
@@ -86,6 +96,13 @@ fn serve_source<S: Source, K: Sink>(alloc: Global, src: &mut S, out: &mut K) -> 
 /// Reads frames, and answers each as soon as it is whole.
 pub(crate) fn serve<S: Source, K: Sink>(alloc: Global, src: &mut S, out: &mut K) -> Status
     ensures took { (input : List ℕ) → S.left src.old ≡ Some input → ServeTook result input (record {
+      left_before = S.left src.old;
+      left_after = S.left src.new;
+      taken_before = K.taken out.old;
+      taken_after = K.taken out.new;
+    }) }
+    // before each read what came was answered
+    ensures in_turn { ReadsInTurn (S.calls src.old) (S.calls src.new) (record {
       left_before = S.left src.old;
       left_after = S.left src.new;
       taken_before = K.taken out.old;

@@ -1,6 +1,7 @@
 // A back end that serves one client, frame by frame.
 ghost use Rattle.std.specs.Prelude.{◌≡◌, ◌<◌, ◌∷◌, [], length, IfOk, OnOk};
 ghost use Rattle.back_end.specs.Seats.{HasRoomLeft, IsSeated};
+ghost use Rattle.pipe_frames.specs.Fault.{next_count};
 
 use crate::program::INPUT_LIMIT;
 use crate::serve::{end_of_input, read_piece};
@@ -23,6 +24,7 @@ impl Service {
     ghost use Rattle.inspect_replay.specs.Serving.{IsServing, SoFar, Serves, AnswersFrames, TakesPiece, HasServed, HasServeCause};
     ghost use Rattle.inspect_replay.specs.Serving.{HasWriteCause, PieceServed, serve_moment};
     ghost use Rattle.inspect_replay.specs.ServeRoom.{CameFew, HasBytesLeft};
+    ghost use Rattle.inspect_replay.specs.ServeReads.{ReadsInTurn};
 
     /// The back end of a page of one document without children, which has the serial 1.
     pub(crate) fn new(alloc: Global) -> Result<Service, AllocError>
@@ -96,6 +98,7 @@ impl Service {
         ensures served { (so_far : SoFar) → Serves so_far (serve_moment self.old (K.taken out.old))
             → PieceServed so_far (serve_moment self.new (K.taken out.new))
             (record { before = S.left src.old; after = S.left src.new; most = length buf.new }) result }
+        ensures counted { S.calls src.new ≡ next_count (S.calls src.old) }
         ensures cause { HasServeCause (record {
           source_before = S.faults src.old;
           source_after = S.faults src.new;
@@ -129,6 +132,12 @@ impl Service {
           taken_before = K.taken out.old;
           taken_after = K.taken out.new;
         }) result }
+        ensures in_turn { ReadsInTurn (S.calls src.old) (S.calls src.new) (record {
+          left_before = S.left src.old;
+          left_after = S.left src.new;
+          taken_before = K.taken out.old;
+          taken_after = K.taken out.new;
+        }) }
         ensures cause { HasServeCause (record {
           source_before = S.faults src.old;
           source_after = S.faults src.new;

@@ -1,7 +1,7 @@
 -- A stop is the status that was served.
-use Rattle.std.proofs.Common.{sym, subst}
+use Rattle.std.proofs.Common.{Err, sym, subst}
 use Rattle.inspect_replay.specs.Serving.{ServeCall, ServeTook}
-use Rattle.inspect_replay.proofs.ServeEnds.{stop-served}
+use Rattle.inspect_replay.proofs.ServeEnds.{stop-served, served-reads}
 use Rattle.inspect_replay.proofs.serve.serve.Goals as goal
 
 pub returns-in-Err-clause-took : goal.returns-in-Err-clause-took
@@ -14,3 +14,13 @@ returns-in-Err-clause-took g c = λ input left.
     } in
     subst (λ status. ServeTook status input call) (sym c.status_of.ensures)
     (stop-served c.in-Err.stop input call left c.in-Err.ensures.served)
+
+pub returns-in-Err-clause-reads : goal.returns-in-Err-clause-reads
+returns-in-Err-clause-reads g c =
+    let call : ServeCall = record {
+      left_before = g.S.Source.left c.args.src.now;
+      left_after = g.S.Source.left c.serve_source.new.src;
+      taken_before = g.K.Sink.taken c.args.out.now;
+      taken_after = g.K.Sink.taken c.serve_source.new.out;
+    } in
+    served-reads call (Err c.in-Err.stop) c.in-Err.ensures.served

@@ -4,11 +4,12 @@ use Rattle.std.proofs.lemmas.List.{length-take}
 use Rattle.inspect_replay.specs.Serving.{serve_moment}
 use Rattle.inspect_replay.proofs.ServeLemmas.{serves-nothing}
 use Rattle.inspect_replay.proofs.ServeEnds.{nothing-came, more-came, loop-ended, loop-full, loop-stopped}
+use Rattle.inspect_replay.proofs.ServeEnds.{turns-ended, turns-stopped, turns-full}
 use Rattle.inspect_replay.proofs.service.Service.serve_within.Goals as goal
 
 pub loop-came-init : goal.loop-came-init
 loop-came-init g c = record {
-  so_far = nothing-came (g.S.Source.left c.args.src.now) (serve_moment c.args.self.now (g.K.Sink.taken c.args.out.now))
+  so_far = nothing-came (g.S.Source.calls c.args.src.now) (g.S.Source.left c.args.src.now) (serve_moment c.args.self.now (g.K.Sink.taken c.args.out.now))
       (serves-nothing c.args.self.now (g.K.Sink.taken c.args.out.now) c.requires.first);
   source_later = omega arith;
   sink_later = omega arith;
@@ -19,12 +20,13 @@ returns-in-Ok-eq0-clause-served g c =
     let so_far = c.loop-came.invariant.so_far in
     let piece = c.in-Ok-eq0.ensures.served _ so_far.serves in
     let room : c.loop-came.came + length c.serve_piece.new.buf ≤ 2 ^ 26 = grind (arith, length-take) in
-    loop-ended _ _ _ _ _
-    (more-came (g.S.Source.left c.args.src.now) (g.S.Source.left c.loop-came.src) (g.S.Source.left c.serve_piece.new.src)
+    loop-ended _ _ _ _ _ _ _
+    (more-came (g.S.Source.calls c.args.src.now) (g.S.Source.calls c.loop-came.src) (g.S.Source.calls c.serve_piece.new.src)
+    (g.S.Source.left c.args.src.now) (g.S.Source.left c.loop-came.src) (g.S.Source.left c.serve_piece.new.src)
     (g.K.Sink.taken c.args.out.now)
     (serve_moment c.loop-came.self (g.K.Sink.taken c.loop-came.out))
     (serve_moment c.serve_piece.new.self (g.K.Sink.taken c.serve_piece.new.out))
-    c.loop-came.came c.in-Ok-eq0.field-0 (length c.serve_piece.new.buf) so_far piece room) (piece.ends c.in-Ok-eq0.field-0-test)
+    c.loop-came.came c.in-Ok-eq0.field-0 (length c.serve_piece.new.buf) so_far piece room c.serve_piece.ensures.counted) (piece.ends c.in-Ok-eq0.field-0-test)
 
 pub overflow_add-came : goal.overflow_add-came
 overflow_add-came g c =
@@ -38,11 +40,13 @@ loop-came-preserved g c =
     let so_far = c.loop-came.invariant.so_far in
     let room : c.loop-came.came + length c.serve_piece.new.buf ≤ 2 ^ 26 = grind (arith, length-take) in
     record {
-      so_far = more-came (g.S.Source.left c.args.src.now) (g.S.Source.left c.loop-came.src) (g.S.Source.left c.serve_piece.new.src)
+      so_far = more-came (g.S.Source.calls c.args.src.now) (g.S.Source.calls c.loop-came.src) (g.S.Source.calls c.serve_piece.new.src)
+          (g.S.Source.left c.args.src.now) (g.S.Source.left c.loop-came.src) (g.S.Source.left c.serve_piece.new.src)
           (g.K.Sink.taken c.args.out.now)
           (serve_moment c.loop-came.self (g.K.Sink.taken c.loop-came.out))
           (serve_moment c.serve_piece.new.self (g.K.Sink.taken c.serve_piece.new.out))
-          c.loop-came.came c.in-Ok.count (length c.serve_piece.new.buf) so_far (c.in-Ok.ensures.served _ so_far.serves) room;
+          c.loop-came.came c.in-Ok.count (length c.serve_piece.new.buf) so_far (c.in-Ok.ensures.served _ so_far.serves) room
+          c.serve_piece.ensures.counted;
       source_later = omega (arith, c.loop-came.invariant.source_later, c.serve_piece.ensures.cause.source_later);
       sink_later = omega (arith, c.loop-came.invariant.sink_later, c.serve_piece.ensures.cause.sink_later);
     }
@@ -51,7 +55,7 @@ pub returns-in-Err-clause-served : goal.returns-in-Err-clause-served
 returns-in-Err-clause-served g c =
     let so_far = c.loop-came.invariant.so_far in
     let room : c.loop-came.came + length c.serve_piece.new.buf ≤ 2 ^ 26 = grind (arith, length-take) in
-    loop-stopped (g.S.Source.left c.args.src.now) (g.S.Source.left c.loop-came.src) (g.S.Source.left c.serve_piece.new.src)
+    loop-stopped (g.S.Source.calls c.args.src.now) (g.S.Source.calls c.loop-came.src) (g.S.Source.left c.args.src.now) (g.S.Source.left c.loop-came.src) (g.S.Source.left c.serve_piece.new.src)
     (g.K.Sink.taken c.args.out.now)
     (serve_moment c.loop-came.self (g.K.Sink.taken c.loop-came.out))
     (serve_moment c.serve_piece.new.self (g.K.Sink.taken c.serve_piece.new.out))
@@ -60,7 +64,7 @@ returns-in-Err-clause-served g c =
 pub returns-clause-served : goal.returns-clause-served
 returns-clause-served g c =
     let full : 2 ^ 26 ≤ c.loop-came.came = omega (arith, c.loop-came-test.false) in
-    loop-full (g.S.Source.left c.args.src.now) (g.S.Source.left c.loop-came.src) (g.S.Source.left c.end_of_input.new.src)
+    loop-full (g.S.Source.calls c.args.src.now) (g.S.Source.calls c.loop-came.src) (g.S.Source.left c.args.src.now) (g.S.Source.left c.loop-came.src) (g.S.Source.left c.end_of_input.new.src)
     (g.K.Sink.taken c.args.out.now)
     (serve_moment c.loop-came.self
     (g.K.Sink.taken c.loop-came.out)) c.loop-came.came c.end_of_input.result c.loop-came.invariant.so_far full c.end_of_input.ensures.met
@@ -69,3 +73,36 @@ pub serve_piece-requires-clause-left : goal.serve_piece-requires-clause-left
 serve_piece-requires-clause-left g c =
     let so_far = c.loop-came.invariant.so_far in
     record { bytes = so_far.bytes; is_serving = so_far.serves.is_serving; few = grind (arith, length-take, so_far.count) }
+
+pub returns-in-Ok-eq0-clause-in_turn : goal.returns-in-Ok-eq0-clause-in_turn
+returns-in-Ok-eq0-clause-in_turn g c =
+    let so_far = c.loop-came.invariant.so_far in
+    let piece = c.in-Ok-eq0.ensures.served _ so_far.serves in
+    let room : c.loop-came.came + length c.serve_piece.new.buf ≤ 2 ^ 26 = grind (arith, length-take) in
+    turns-ended _ _ _ _ _ (serve_moment c.serve_piece.new.self (g.K.Sink.taken c.serve_piece.new.out)) _
+    (more-came (g.S.Source.calls c.args.src.now) (g.S.Source.calls c.loop-came.src) (g.S.Source.calls c.serve_piece.new.src)
+    (g.S.Source.left c.args.src.now) (g.S.Source.left c.loop-came.src) (g.S.Source.left c.serve_piece.new.src)
+    (g.K.Sink.taken c.args.out.now)
+    (serve_moment c.loop-came.self (g.K.Sink.taken c.loop-came.out))
+    (serve_moment c.serve_piece.new.self (g.K.Sink.taken c.serve_piece.new.out))
+    c.loop-came.came c.in-Ok-eq0.field-0 (length c.serve_piece.new.buf) so_far piece room c.serve_piece.ensures.counted)
+
+pub returns-in-Err-clause-in_turn : goal.returns-in-Err-clause-in_turn
+returns-in-Err-clause-in_turn g c =
+    let so_far = c.loop-came.invariant.so_far in
+    turns-stopped (g.S.Source.calls c.args.src.now) (g.S.Source.calls c.loop-came.src) (g.S.Source.calls c.serve_piece.new.src)
+    (g.S.Source.left c.args.src.now) (g.S.Source.left c.loop-came.src) (g.S.Source.left c.serve_piece.new.src)
+    (g.K.Sink.taken c.args.out.now)
+    (serve_moment c.loop-came.self (g.K.Sink.taken c.loop-came.out))
+    (serve_moment c.serve_piece.new.self (g.K.Sink.taken c.serve_piece.new.out))
+    c.loop-came.came (length c.serve_piece.new.buf) c.in-Err.stop so_far (c.in-Err.ensures.served _ so_far.serves)
+    c.serve_piece.ensures.counted
+
+pub returns-clause-in_turn : goal.returns-clause-in_turn
+returns-clause-in_turn g c =
+    turns-full (g.S.Source.calls c.args.src.now) (g.S.Source.calls c.loop-came.src) (g.S.Source.calls c.end_of_input.new.src)
+    (g.S.Source.left c.args.src.now) (g.S.Source.left c.loop-came.src) (g.S.Source.left c.end_of_input.new.src)
+    (g.K.Sink.taken c.args.out.now)
+    (serve_moment c.loop-came.self
+    (g.K.Sink.taken c.loop-came.out)) c.loop-came.came c.end_of_input.result c.loop-came.invariant.so_far c.end_of_input.ensures.met
+    c.end_of_input.ensures.counted
