@@ -45,8 +45,8 @@ use Rattle.node_tree.specs.declared.watches.WatchKind.{WatchKind}
 use Rattle.node_tree.specs.declared.watches.WatchKind.TheVariants as watch
 use Rattle.dom_breakpoints.specs.declared.pauses.Pause.{Pause}
 use Rattle.dom_breakpoints.specs.Pauses.{pause_of}
-use Rattle.dom_breakpoints.specs.Watched.{Watched, unwatched, with_watch, without_watch, without_subtree}
-use Rattle.undo_marks.specs.Marks.{Marks, no_marks, newest, edited, marked, crossed_over, undone, redone}
+use Rattle.dom_breakpoints.specs.Watched.{Watched, with_watch, without_watch, without_subtree}
+use Rattle.undo_marks.specs.Marks.{Marks, newest, edited, marked, crossed_over, undone, redone}
 use Rattle.undo_marks.specs.Changes.{HistoryEntry as Entry, changes_on, backs_of}
 use Rattle.undo_marks.specs.Saved.{Saved}
 use Rattle.undo_marks.specs.SavedEdits.{page_after, way_back}
@@ -58,7 +58,7 @@ use Rattle.cdp_messages.specs.declared.dom_edit.DomEdit.TheVariants as tree
 use Rattle.back_end.specs.declared.node_edits.TreeWish.{TreeWish}
 use Rattle.back_end.specs.declared.node_edits.TreeWish.TheVariants.{One, MoveNode, CopyNode}
 use Rattle.back_end.specs.Sheets.{shown_sheet, SheetChange, leaves, comes}
-use Rattle.back_end.specs.States.{Side, Client, State, page_nodes, book_in, styled_in, loaded_side, saved_now}
+use Rattle.back_end.specs.States.{Side, Client, State, page_nodes, book_in, styled_in, new_client, loaded_side, saved_now}
 use Rattle.back_end.specs.Plans.{Plan, node_edit_fault, node_edit_plan, node_put, Deed, edits, restyles, one_edit, edit_fault, act_fault}
 use Rattle.back_end.specs.Plans.{act_plan}
 use Rattle.back_end.specs.OwnMethods.{edit_why, sheet_why, load_asked, act_judged, act_asked}
@@ -74,7 +74,7 @@ pub record Step : Type 0 where
 
 -- a step that tells something first
 abbrev pub telling_first : List Move → Step → Step
-telling_first before later = record { state = later.state; moves = before ++ later.moves }
+telling_first before later = record later { moves = before ++ later.moves }
 
 -- a step that changes nothing, and tells a refusal
 abbrev pub refusing : Option ℕ → Why → State → Step
@@ -82,7 +82,7 @@ refusing id why state = record { state = state; moves = failed (record { id = id
 
 -- the state with another client
 abbrev pub with_client : Client → State → State
-with_client client state = record { side = state.side; client = client }
+with_client client state = record state { client = client }
 
 -- a step that changes nothing, and tells nothing
 abbrev pub idle : State → Step
@@ -90,7 +90,7 @@ idle state = record { state = state; moves = [] }
 
 -- a step that is answered at last by this result
 abbrev pub replying : ℕ → ReplyBody → Step → Step
-replying id body done = record { state = done.state; moves = done.moves ++ replied id body ∷ [] }
+replying id body done = record done { moves = done.moves ++ replied id body ∷ [] }
 
 -- a step that is answered at last by the empty result
 abbrev pub answering : ℕ → Step → Step
@@ -137,20 +137,11 @@ edited_by e state = session_edited e state.side.page state.client.session
 
 -- the state with another page
 abbrev pub with_page : PageValue → State → State
-with_page page state = record {
-  side = record { page = page; sheets = state.side.sheets; next_sheet = state.side.next_sheet };
-  client = state.client;
-}
+with_page page state = record state { side = record state.side { page = page } }
 
 -- the client after an edit
 abbrev pub client_edited : TreeEdit → State → Client
-client_edited e state = record {
-  dom_on = state.client.dom_on;
-  css_on = state.client.css_on;
-  session = (edited_by e state).state;
-  watched = watched_after e state;
-  marks = state.client.marks;
-}
+client_edited e state = record state.client { session = (edited_by e state).state; watched = watched_after e state }
 
 -- one edit of the page, with its events
 abbrev pub edit_step : TreeEdit → State → Step
@@ -202,9 +193,8 @@ script_steps (e ∷ es) state = followed_by (script_step e state) (script_steps 
 
 -- the page's side after a change of its sheets
 abbrev pub side_changed : SheetChange → Side → Side
-side_changed (leaves number) side = record { page = side.page; sheets = sheets_without number side.sheets; next_sheet = side.next_sheet }
-side_changed (comes origin text) side = record {
-  page = side.page;
+side_changed (leaves number) side = record side { sheets = sheets_without number side.sheets }
+side_changed (comes origin text) side = record side {
   sheets = side.sheets ++ shown_sheet side.next_sheet origin text ∷ [];
   next_sheet = side.next_sheet + 1;
 }
@@ -221,7 +211,7 @@ while_css state moves = cond state.client.css_on moves []
 -- one change of the sheets, with its event
 abbrev pub sheet_step : SheetChange → State → Step
 sheet_step change state = record {
-  state = record { side = side_changed change state.side; client = state.client };
+  state = record state { side = side_changed change state.side };
   moves = while_css state (sheet_move change state.side ∷ []);
 }
 
@@ -237,14 +227,7 @@ abbrev pub splice_step : Splice → State → Step
 splice_step s state =
     let text = text_under s.sheet (after_splice s (book_in state)) in
     record {
-      state = record {
-        side = record {
-          page = state.side.page;
-          sheets = sheets_with_text s.sheet text state.side.sheets;
-          next_sheet = state.side.next_sheet;
-        };
-        client = state.client;
-      };
+      state = record state { side = record state.side { sheets = sheets_with_text s.sheet text state.side.sheets } };
       moves = while_css state (rewritten s.sheet text ∷ []);
     }
 
@@ -261,9 +244,8 @@ with_marks marks state = with_client (record state.client { marks = marks }) sta
 
 -- The step by which a client made these edits, from that state on: each is kept with the pages before and after it, all as one edit.
 abbrev pub keeping : List Inverse → State → Step → Step
-keeping es before done = record {
+keeping es before done = record done {
   state = with_marks (edited (changes_on page_after es (saved_now before)) before.client.marks) done.state;
-  moves = done.moves;
 }
 
 -- an edit out of a history: one of the tree, or a splice of a sheet's text
@@ -312,7 +294,7 @@ with_crossed state = with_marks (crossed_over state.client.marks) state
 
 -- a step that is not the client's
 abbrev pub crossing : Step → Step
-crossing done = record { state = with_crossed done.state; moves = done.moves }
+crossing done = record done { state = with_crossed done.state }
 
 -- edits of the page, from that with the drawn serials; or changes of its sheets
 abbrev pub deed_step : Deed → State → Step
@@ -334,13 +316,7 @@ lone_step e state = planned_step (edit_fault (first_fault e state.side.page.tree
 
 -- the client of a page that goes: nothing is known, the ids are dead, no node is watched and no edit kept
 abbrev pub client_reset : Bool → Client → Client
-client_reset on client = record {
-  dom_on = on;
-  css_on = client.css_on && on;
-  session = reset client.session;
-  watched = unwatched;
-  marks = no_marks;
-}
+client_reset on client = record new_client { dom_on = on; css_on = client.css_on && on; session = reset client.session }
 
 -- the moves that tell that sheets go, each by itself
 abbrev pub moves_gone : List ShownSheet → List Move

@@ -21,7 +21,8 @@ use Rattle.inspect_replay.specs.declared.service.Service.{Service}
 use Rattle.inspect_replay.specs.declared.stop.Stop.{Stop}
 use Rattle.inspect_replay.specs.Serving.{first_served, served_step, served_run, served, IsServing, ServeMoment, serve_moment, SoFar}
 use Rattle.inspect_replay.specs.Serving.{with_more, Serves, Answered, PartServed, ServesOn}
-use Rattle.inspect_replay.proofs.RunLemmas.{IsNewSide, stands-first}
+use Rattle.inspect_replay.specs.Starts.{IsNewSide}
+use Rattle.inspect_replay.proofs.RunLemmas.{stands-first}
 
 -- ---- steps on frames
 

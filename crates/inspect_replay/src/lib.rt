@@ -12,6 +12,7 @@
 #![tactic(auto)]
 
 mod ends;
+mod moments;
 mod page_lines;
 mod pause_lines;
 mod pipes;

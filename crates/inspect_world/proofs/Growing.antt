@@ -1,5 +1,5 @@
 -- What a front end keeps for good of the messages that it takes: the pauses among them, and matched styles.
-use Rattle.std.specs.List.{All, list_all, flat_map}
+use Rattle.std.specs.List.{list_all, flat_map}
 use Rattle.cdp_messages.specs.declared.down.PauseData.{PauseData}
 use Rattle.client_views.specs.Moves.{shows, inserts, removes, counts, sets, drops, says, paused_nodes}
 use Rattle.dom_objects.specs.Told.{seen_nodes, seen_branch}

@@ -106,8 +106,9 @@ run_started state lines shown = record { state = state; lines = lines; shown = s
 abbrev pub one_line_more : Started → Started
 one_line_more start = run_started start.state (start.lines + 1) start.shown
 
--- how a pipe goes on from an earlier moment
+-- how a pipe goes on from an earlier moment, when no more was given than sent
 pub record PipeGoesOn (start now : Pipe) (sent given : List ℕ) : Type 0 where
+  pub within : length start.given ≤ length start.sent
   pub sent_is : now.sent ≡ start.sent ++ sent
   pub given_is : now.given ≡ start.given ++ given
 

@@ -81,4 +81,4 @@ run_step s frame =
 
 -- the script's own step, which answers nothing
 abbrev pub run_turn : Turn → RunState → Stepped RunState
-run_turn x s = let done = turn x s.back in record { state = record { back = done.state; styles = s.styles }; sent = done.sent }
+run_turn x s = let done = turn x s.back in record { state = record s { back = done.state }; sent = done.sent }
