@@ -15,7 +15,7 @@ use Rattle.front_mirror.specs.Front.{FrontValue, first_value, fetch_params, take
 use Rattle.front_mirror.specs.Sheets.{has_sheet, stale_of}
 use Rattle.cdp_messages.specs.Asked.{command_text}
 use Rattle.front_mirror.specs.Laws.{Has}
-use Rattle.cdp_messages.specs.Views.{ShownSheet}
+use Rattle.client_views.specs.Views.{ShownSheet}
 use Rattle.front_mirror.specs.declared.sheets.KnownSheet.{KnownSheet}
 use Rattle.back_end.specs.States.{view_of, sheets_shown}
 use Rattle.inspect_world.specs.RunStates.{RunState, run_step}
