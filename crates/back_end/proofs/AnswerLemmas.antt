@@ -5,14 +5,14 @@ use Rattle.node_binding.specs.Sessions.{Session}
 use Rattle.node_tree.specs.Nodes.{Branch}
 use Rattle.node_tree.specs.Seen.{Seen}
 use Rattle.cdp_messages.specs.declared.down.ReplyBody.TheVariants.{Root}
-use Rattle.cdp_messages.specs.Told.{told_branch}
+use Rattle.dom_objects.specs.Told.{told_branch}
 use Rattle.cdp_messages.specs.declared.dom_ask.DomAsk.{DomAsk}
 use Rattle.cdp_messages.specs.declared.dom_ask.DomAsk.TheVariants as ask
 use Rattle.cdp_messages.specs.DomAsks.{ask_name}
 use Rattle.cdp_messages.specs.Laws.{answers}
-use Rattle.cdp_messages.specs.Moves.{Move}
-use Rattle.cdp_messages.specs.declared.effects.Effect.TheVariants.{NothingElse}
-use Rattle.cdp_messages.specs.Effects.{effect_of_method}
+use Rattle.client_views.specs.Moves.{Move}
+use Rattle.client_views.specs.declared.effects.Effect.TheVariants.{NothingElse}
+use Rattle.client_views.specs.Effects.{effect_of_method}
 use Rattle.dom_agent.specs.Requests.{Showing, Outcome, shows_root, served, refused, opening_moves, moves_of}
 use Rattle.dom_agent.specs.Laws.{IsReplyTo}
 use Rattle.back_end.specs.States.{State}

@@ -4,7 +4,7 @@ use Rattle.std.specs.List.{flat_map}
 use Rattle.cdp_json.specs.Kinds.{is_counted}
 use Rattle.cdp_messages.specs.declared.command.Why.{Why}
 use Rattle.cdp_messages.specs.declared.down.ReplyBody.{ReplyBody}
-use Rattle.cdp_messages.specs.Moves.{Move, replied, failed}
+use Rattle.client_views.specs.Moves.{Move, replied, failed}
 use Rattle.back_end.specs.States.{State, IsState}
 use Rattle.back_end.specs.Steps.{Step, refusing, replying}
 use Rattle.back_end.specs.Laws.{HasRoom, StepsWell, KeepsAtMost, MayAnswer, MayAnswerAll, TellTextOf, reply_ids}

@@ -17,14 +17,14 @@ use Rattle.cdp_messages.specs.declared.command.Asked.{Asked}
 use Rattle.cdp_messages.specs.declared.command.Refused.{Refused}
 use Rattle.cdp_messages.specs.declared.command.Why.{Why}
 use Rattle.cdp_messages.specs.declared.command.Why.TheVariants.{DomOff, CssOff, NoMethod, UnknownNode}
-use Rattle.cdp_messages.specs.declared.command.WatchWord.{WatchWord}
+use Rattle.node_tree.specs.declared.watches.WatchKind.{WatchKind}
 use Rattle.cdp_messages.specs.declared.dom_ask.DomAsk.{DomAsk}
 use Rattle.cdp_messages.specs.declared.dom_ask.DomAsk.TheVariants as ask
 use Rattle.cdp_messages.specs.declared.down.ReplyBody.TheVariants.{Nothing}
 use Rattle.cdp_messages.specs.Asked.{asked, method_name, fits_command}
 use Rattle.cdp_messages.specs.DomAsks.{ask_name, fits_ask}
-use Rattle.cdp_messages.specs.Views.{ShownSheet}
-use Rattle.cdp_messages.specs.Moves.{replied, all_off, failed, CanBeTold, Course, ends, goes}
+use Rattle.client_views.specs.Views.{ShownSheet}
+use Rattle.client_views.specs.Moves.{replied, all_off, failed, CanBeTold, Course, ends, goes}
 use Rattle.cdp_messages.specs.declared.css_ask.CssAsk.{CssAsk}
 use Rattle.cdp_messages.specs.declared.css_ask.CssAsk.TheVariants as css
 use Rattle.cdp_messages.specs.declared.css_edit.CssEdit.{CssEdit}
@@ -44,7 +44,7 @@ use Rattle.back_end.proofs.TreeSteps.{AsksFor, tree-edit-answered}
 use Rattle.back_end.specs.States.{State, page_nodes, book_in, sheets_shown, view_of, HoldsNow, HasHistory, IsState}
 use Rattle.back_end.specs.OwnMethods.{load_asked, act_asked}
 use Rattle.back_end.specs.Steps.{Step, with_client, refusing, client_reset, moves_come, Turn, acts, loads, turn_step, ask_needs_on}
-use Rattle.back_end.specs.Steps.{needs_on, needs_css, turns_on, client_served, agent_step, css_step, serial_now, watch_kind, watch_step}
+use Rattle.back_end.specs.Steps.{needs_on, needs_css, turns_on, client_served, agent_step, css_step, serial_now, watch_step}
 use Rattle.back_end.specs.Steps.{own_step, sheet_edit_step, served_step, command_step, asked_step}
 use Rattle.back_end.specs.Texts.{HasServedTexts}
 use Rattle.back_end.specs.Laws.{reply_ids, MayAnswer, HasRoom, StepsWell, KeepsAtMost, most_splices, most_edits, edits_asked, MayAnswerAll}
@@ -437,11 +437,11 @@ serves id (EditCss edit) state fits texts is room small =
 serves id (SetBreakpoint node word) state fits texts is room small =
     let c : Command = SetBreakpoint node word in
     command-serves id c 0 state is room small
-    (λ dom css. serves-watch id (with_watch (watch_kind word)) node c state (with-adds (watch_kind word)) (refl, refl) is room small)
+    (λ dom css. serves-watch id (with_watch word) node c state (with-adds word) (refl, refl) is room small)
 serves id (RemoveBreakpoint node word) state fits texts is room small =
     let c : Command = RemoveBreakpoint node word in
     command-serves id c 0 state is room small
-    (λ dom css. serves-watch id (without_watch (watch_kind word)) node c state (without-adds (watch_kind word)) (refl, refl) is room small)
+    (λ dom css. serves-watch id (without_watch word) node c state (without-adds word) (refl, refl) is room small)
 serves id (ReplayLoad params) state fits texts is room small =
     serves-own loads id (load_asked params) (ReplayLoad params) state (λ page e. load-turn params page texts e) (refl, refl) is room small
 serves id (ReplayAct params) state fits texts is room small =

@@ -10,7 +10,7 @@ use Rattle.page_tree.specs.Pages.{PageRow}
 use Rattle.page_tree.specs.Edits.{label_at, restored, back_tree}
 use Rattle.page_tree.specs.declared.edits.TreeEdit.{TreeEdit}
 use Rattle.page_tree.specs.declared.edits.TreeEdit.TheVariants.{SetAttr, DropAttr, SetText, Attach, Detach}
-use Rattle.cdp_messages.specs.Laws.{PairsHaveUtf8}
+use Rattle.node_tree.specs.Labels.{PairsHaveUtf8}
 use Rattle.dom_agent.specs.Laws.{RowsHaveUtf8}
 use Rattle.undo_marks.specs.Marks.{Marks, no_marks, handed_out, noted_singly, edited, marked, crossed_over, undone, redone, past_popped}
 use Rattle.undo_marks.specs.Marks.{future_popped, past_pushed, future_pushed}

@@ -3,17 +3,16 @@ use Rattle.std.proofs.Common.{◌≡◌, ℕ, Bool, true, false, cond, not, ◌&
 use Rattle.std.proofs.Common.{◌∙◌, subst, arith}
 use Rattle.page_tree.specs.declared.edits.TreeEdit.{TreeEdit}
 use Rattle.node_binding.specs.Sessions.{Session}
-use Rattle.cdp_messages.specs.declared.command.Why.{Why}
 use Rattle.cdp_messages.specs.declared.command.Why.TheVariants.{DomOff, CssOff}
 use Rattle.cdp_messages.specs.declared.dom_ask.DomAsk.{DomAsk}
-use Rattle.cdp_messages.specs.Moves.{frames_of_moves}
+use Rattle.client_views.specs.Moves.{frames_of_moves}
 use Rattle.cdp_messages.specs.declared.css_ask.CssAsk.{CssAsk}
 use Rattle.std.specs.Result.{OnOk}
 use Rattle.dom_agent.specs.Requests.{Outcome, shows_root, served, refused}
 use Rattle.dom_agent.specs.Laws.{session_outcome}
 use Rattle.dom_breakpoints.specs.declared.pauses.Pause.{Pause}
 use Rattle.dom_breakpoints.specs.Pauses.{pause_of}
-use Rattle.dom_breakpoints.specs.Watched.{Watched}
+use Rattle.dom_breakpoints.specs.Watched.{Watched, with_watch, without_watch}
 use Rattle.page_forms.specs.declared.acts.Act.{Act}
 use Rattle.page_forms.specs.Pages.{LoadedPage}
 use Rattle.undo_marks.specs.Marks.{Marks, no_marks, crossed_over}
@@ -29,13 +28,12 @@ use Rattle.cdp_messages.specs.declared.command.Command.{Command}
 use Rattle.cdp_messages.specs.declared.command.Command.TheVariants.{DomEnable, DomDisable, CssEnable, CssDisable, AskDom, AskCss}
 use Rattle.cdp_messages.specs.declared.command.Command.TheVariants.{SetBreakpoint, RemoveBreakpoint}
 use Rattle.back_end.specs.Steps.{Step, refusing, with_page, client_served, push_step, push_steps, pause_step, script_step, script_steps}
-use Rattle.back_end.specs.Steps.{sheet_step, sheet_steps, deed_step, planned_step, act_step, load_step, watch_kind, watch_step, serial_now}
+use Rattle.back_end.specs.Steps.{sheet_step, sheet_steps, deed_step, planned_step, act_step, load_step, watch_step, serial_now}
 use Rattle.back_end.specs.Steps.{needs_on, needs_css, served_step, command_step}
-use Rattle.dom_breakpoints.specs.Watched.{with_watch, without_watch}
-use Rattle.cdp_messages.specs.declared.command.WatchWord.{WatchWord}
+use Rattle.node_tree.specs.declared.watches.WatchKind.{WatchKind}
 use Rattle.back_end.specs.Seats.{DeskStandsFor, BothStandFor}
 use Rattle.back_end.proofs.HistoryLemmas.{keeps-same, keeps-crossed, keeps-cleared}
-use Rattle.back_end.proofs.SeatLemmas.{on_ok, off-is, css-off-is, on-is}
+use Rattle.back_end.proofs.SeatLemmas.{on_ok, on-is}
 use Rattle.back_end.proofs.SheetSeats.{dom-on}
 
 -- ---- steps that leave the history alone
@@ -85,11 +83,11 @@ watch-stays : (id : ℕ) (change : ℕ → Watched → Watched) (found : Option 
 watch-stays id change None state = stayed state
 watch-stays id change (Some node) state = record { marks = refl; side = refl }
 
-watches-stay : (id node : ℕ) (word : WatchWord) (state : State) → Stays state (served_step id (SetBreakpoint node word) state).state
-watches-stay id node word state = watch-stays id (with_watch (watch_kind word)) (serial_now state node) state
+watches-stay : (id node : ℕ) (word : WatchKind) (state : State) → Stays state (served_step id (SetBreakpoint node word) state).state
+watches-stay id node word state = watch-stays id (with_watch word) (serial_now state node) state
 
-unwatches-stay : (id node : ℕ) (word : WatchWord) (state : State) → Stays state (served_step id (RemoveBreakpoint node word) state).state
-unwatches-stay id node word state = watch-stays id (without_watch (watch_kind word)) (serial_now state node) state
+unwatches-stay : (id node : ℕ) (word : WatchKind) (state : State) → Stays state (served_step id (RemoveBreakpoint node word) state).state
+unwatches-stay id node word state = watch-stays id (without_watch word) (serial_now state node) state
 
 -- a command that leaves the history alone
 abbrev pub LeavesAlone : Command → Type 0
@@ -107,10 +105,10 @@ css-disables-alone id state = record { marks = refl; side = refl }
 pub styles-alone : (ask : CssAsk) → LeavesAlone (AskCss ask)
 styles-alone ask id state = stayed state
 
-pub watches-alone : (node : ℕ) (word : WatchWord) → LeavesAlone (SetBreakpoint node word)
+pub watches-alone : (node : ℕ) (word : WatchKind) → LeavesAlone (SetBreakpoint node word)
 watches-alone node word id state = watches-stay id node word state
 
-pub unwatches-alone : (node : ℕ) (word : WatchWord) → LeavesAlone (RemoveBreakpoint node word)
+pub unwatches-alone : (node : ℕ) (word : WatchKind) → LeavesAlone (RemoveBreakpoint node word)
 unwatches-alone node word id state = unwatches-stay id node word state
 
 pub agent-alone : (ask : DomAsk) → LeavesAlone (AskDom ask)
@@ -136,30 +134,6 @@ pub part-sent : {T E : Type 0} (result : Result T E) (state : State) (id : ℕ) 
     → OnOk result (new ≡ old ++ frames_of_moves (command_step id q state).moves)
 part-sent result state id p q old new is done = subst
     (λ (x : Command). OnOk result (new ≡ old ++ frames_of_moves (command_step id x state).moves)) is done
-
--- a step that is a refusal
-refused-both : (d : Desk) (h : Marks Inverse) (s : PageSide) (state : State) (done : Step) (id : Option ℕ) (why : Why)
-    → done ≡ refusing id why state → BothStandFor d h s state
-    → BothStandFor d h s done.state
-refused-both d h s state done id why is both = subst (λ (x : Step). BothStandFor d h s x.state) (sym is) both
-
--- one since DOM is off, and one since CSS is
-pub off-both : (d : Desk) (h : Marks Inverse) (s : PageSide) (state : State) (id : ℕ) (command : Command) → needs_on command ≡ true
-    → BothStandFor d h s state → d.is_on ≡ false
-    → BothStandFor d h s (command_step id command state).state
-off-both d h s state id command needs both was =
-    let off : (needs_on command && not state.client.dom_on)
-    ≡ true = ap (λ a. a && not state.client.dom_on) needs ∙ ap (λ b. not b) (sym both.stands.on_is ∙ was) in
-    refused-both d h s state (command_step id command state) (Some id) DomOff (off-is id command state off) both
-
-pub css-off-both : (d : Desk) (h : Marks Inverse) (s : PageSide) (state : State) (id : ℕ) (command : Command) → needs_css command ≡ true
-    → BothStandFor d h s state → d.is_on ≡ true → d.css ≡ false
-    → BothStandFor d h s (command_step id command state).state
-css-off-both d h s state id command needs both on was =
-    let off : (needs_css command && not state.client.css_on)
-    ≡ true = ap (λ a. a && not state.client.css_on) needs ∙ ap (λ b. not b) (sym both.stands.css_is ∙ was) in
-    refused-both d h s state (command_step id command state) (Some id) CssOff
-    (css-off-is id command state (dom-on command d s state both.stands on) off) both
 
 -- ---- `DOM.disable`
 

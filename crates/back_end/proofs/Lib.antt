@@ -41,3 +41,4 @@ pub mod UndoSeats
 pub mod NoteCounts
 pub mod AskCounts
 pub mod StartLemmas
+mod DomainLemmas

@@ -23,8 +23,8 @@ use Rattle.undo_marks.specs.declared.inverse_lists.Inverse.TheVariants.{Tree, Sh
 use Rattle.undo_marks.proofs.SheetLemmas.{after-saved, back-saved, taken-saved}
 use Rattle.back_end.specs.declared.desk.Desk.{Desk}
 use Rattle.back_end.specs.declared.side.PageSide.{PageSide}
-use Rattle.back_end.specs.declared.node_edits.NodeEdit.{NodeEdit}
-use Rattle.back_end.specs.declared.node_edits.NodeEdit.TheVariants.{One, MoveNode, CopyNode}
+use Rattle.back_end.specs.declared.node_edits.TreeWish.{TreeWish}
+use Rattle.back_end.specs.declared.node_edits.TreeWish.TheVariants.{One, MoveNode, CopyNode}
 use Rattle.back_end.specs.Plans.{Plan, node_edit_fault, node_edit_plan, node_put}
 use Rattle.back_end.specs.States.{State, page_nodes, book_in, HoldsNow, TakesWell, saved_now, Keeps}
 use Rattle.back_end.specs.Steps.{Step, idle, with_page, with_marks, keeping, edit_step, edit_steps, splice_steps, plan_step}
@@ -75,7 +75,7 @@ record Begins (state : State) (plan : Plan) : Type 0 where
   can : CanApplyAll plan.edits plan.page
   texts : EditsHaveTexts plan.edits
 
-begins : (state : State) (e : NodeEdit) → HoldsNow state → IsPlainEdit e → node_edit_fault e state.side.page ≡ None
+begins : (state : State) (e : TreeWish) → HoldsNow state → IsPlainEdit e → node_edit_fault e state.side.page ≡ None
     → Begins state (node_edit_plan e state.side.page)
 begins state (One e) is plain fits = record {
   page = is.page;
@@ -111,11 +111,11 @@ put-marks : (id : ℕ) (put : Option ℕ) (es : List Inverse) (state : State) (d
 put-marks id None es state done = refl
 put-marks id (Some node) es state done = refl
 
-abbrev plan_of : NodeEdit → State → Plan
+abbrev plan_of : TreeWish → State → Plan
 plan_of e state = node_edit_plan e state.side.page
 
 -- what is noted of an edit that was carried out is kept
-planned-kept : (h : Marks Inverse) (state : State) (e : NodeEdit) → Keeps h state → HoldsNow state → IsPlainEdit e
+planned-kept : (h : Marks Inverse) (state : State) (e : TreeWish) → Keeps h state → HoldsNow state → IsPlainEdit e
     → node_edit_fault e state.side.page ≡ None
     → Keeps (noted_singly (back_all page_after way_back (trees (plan_of e state).edits) (saved_now state)) h)
     (planned_by_client (plan_of e state) state).state
@@ -139,7 +139,7 @@ saved-here d s state stands = ap (λ (p : PageValue). saved_of p.tree s.sheets.e
     (saved_of state.side.page.tree) stands.sheets_are
 
 -- an edit that was carried out, noted and answered
-pub edited-both : (d d1 : Desk) (h h1 : Marks Inverse) (s s1 : PageSide) (state : State) (id : ℕ) (e : NodeEdit) (put : Option ℕ)
+pub edited-both : (d d1 : Desk) (h h1 : Marks Inverse) (s s1 : PageSide) (state : State) (id : ℕ) (e : TreeWish) (put : Option ℕ)
     → BothStandFor d h s state → IsPlainEdit e
     → node_edit_fault e s.page ≡ None → put ≡ node_put e s.page
     → h1 ≡ noted_singly (back_all page_after way_back (trees (node_edit_plan e s.page).edits) (saved_of s.page.tree s.sheets.entries)) h

@@ -19,7 +19,7 @@ use Rattle.cdp_messages.specs.declared.command.Param.TheVariants.{Params}
 use Rattle.cdp_messages.specs.declared.command.Why.{Why}
 use Rattle.cdp_messages.specs.declared.command.Why.TheVariants.{BadParam}
 use Rattle.cdp_messages.specs.declared.down.ReplyBody.TheVariants.{Nothing}
-use Rattle.cdp_messages.specs.Moves.{replied, CanBeTold, ends, goes}
+use Rattle.client_views.specs.Moves.{replied, CanBeTold, ends, goes}
 use Rattle.dom_agent.proofs.StepLemmas.{course-join}
 use Rattle.back_end.specs.States.{State, IsState, view_of}
 use Rattle.back_end.specs.Plans.{act_fault}

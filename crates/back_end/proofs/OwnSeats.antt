@@ -14,7 +14,7 @@ use Rattle.cdp_messages.specs.declared.command.Why.{Why}
 use Rattle.cdp_messages.specs.declared.down.ReplyBody.TheVariants.{Nothing}
 use Rattle.cdp_messages.specs.Answers.{Commands}
 use Rattle.pipe_frames.specs.Frames.{framed}
-use Rattle.cdp_messages.specs.Moves.{Move, replied, frames_of_moves, move_text}
+use Rattle.client_views.specs.Moves.{Move, replied, frames_of_moves, move_text}
 use Rattle.cdp_messages.specs.Replies.{reply_text}
 use Rattle.back_end.specs.declared.faults.ActFault.{ActFault}
 use Rattle.back_end.specs.States.{State, book_in, Keeps}

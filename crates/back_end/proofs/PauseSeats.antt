@@ -20,13 +20,13 @@ use Rattle.node_binding.proofs.StartLemmas.{distinct-alone}
 use Rattle.cdp_messages.specs.declared.down.PauseData.{PauseData}
 use Rattle.cdp_messages.specs.declared.down.PauseData.TheVariants as told_pause
 use Rattle.pipe_frames.specs.Frames.{framed}
-use Rattle.cdp_messages.specs.Moves.{Move, met, frames_of_moves, move_text}
+use Rattle.client_views.specs.Moves.{Move, met, frames_of_moves, move_text}
 use Rattle.dom_agent.specs.Keepers.{session_keeper}
 use Rattle.dom_agent.specs.Requests.{Opening, pushing, all_opened, pushed}
 use Rattle.dom_agent.proofs.OpeningsLemmas.{AreOpenings, pushing-are}
 use Rattle.dom_agent.proofs.OutcomeLemmas.{containers-page}
-use Rattle.dom_breakpoints.specs.declared.pauses.WatchKind.{WatchKind}
-use Rattle.dom_breakpoints.specs.declared.pauses.WatchKind.TheVariants.{Subtree, Attribute, Removed}
+use Rattle.node_tree.specs.declared.watches.WatchKind.{WatchKind}
+use Rattle.node_tree.specs.declared.watches.WatchKind.TheVariants.{Subtree, Attribute, Removed}
 use Rattle.dom_breakpoints.specs.declared.pauses.Pause.{Pause}
 use Rattle.dom_breakpoints.specs.Pauses.{pause_of}
 use Rattle.dom_breakpoints.specs.Watched.{Watched, is_watched}

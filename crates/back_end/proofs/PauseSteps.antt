@@ -20,13 +20,13 @@ use Rattle.node_binding.specs.Sessions.{Session, session_ids, cut_by}
 use Rattle.node_binding.proofs.PairLemmas.{find-there}
 use Rattle.node_binding.proofs.SessionLemmas.{times-known}
 use Rattle.node_binding.proofs.StartLemmas.{distinct-alone}
-use Rattle.cdp_messages.specs.Moves.{met, AreShown, paused_nodes}
+use Rattle.client_views.specs.Moves.{met, AreShown, paused_nodes}
 use Rattle.dom_agent.specs.Requests.{pushing}
 use Rattle.dom_agent.proofs.KnownLemmas.{pushed-known}
 use Rattle.dom_agent.proofs.OpeningsLemmas.{opened_all-grows}
 use Rattle.dom_agent.proofs.OutcomeLemmas.{containers-page}
-use Rattle.dom_breakpoints.specs.declared.pauses.WatchKind.{WatchKind}
-use Rattle.dom_breakpoints.specs.declared.pauses.WatchKind.TheVariants.{Subtree, Attribute, Removed}
+use Rattle.node_tree.specs.declared.watches.WatchKind.{WatchKind}
+use Rattle.node_tree.specs.declared.watches.WatchKind.TheVariants.{Subtree, Attribute, Removed}
 use Rattle.dom_breakpoints.specs.declared.pauses.Pause.{Pause}
 use Rattle.dom_breakpoints.specs.Pauses.{own_pause, subtree_pause, pause_of}
 use Rattle.dom_breakpoints.specs.Watched.{Watched, is_watched}

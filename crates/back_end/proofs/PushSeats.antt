@@ -7,7 +7,7 @@ use Rattle.page_tree.specs.Pages.{PageValue, row_serial}
 use Rattle.node_binding.specs.Bindings.{BindingValue, Stands, id_in}
 use Rattle.node_binding.specs.Sessions.{Session, IsSession, session_of, session_ids}
 use Rattle.node_binding.proofs.StartLemmas.{distinct-alone}
-use Rattle.cdp_messages.specs.Moves.{frames_of_moves}
+use Rattle.client_views.specs.Moves.{frames_of_moves}
 use Rattle.dom_agent.specs.Keepers.{session_keeper, binding_keeper}
 use Rattle.dom_agent.specs.Requests.{Progress, pushed, frames_told}
 use Rattle.dom_agent.proofs.OutcomeLemmas.{containers-page}

@@ -18,7 +18,7 @@ use Rattle.page_forms.specs.declared.acts.Act.TheVariants.{Insert, Move}
 use Rattle.node_binding.specs.Bindings.{BindingValue, Stands, with_bound, forgotten, all_forgotten, opened_in}
 use Rattle.dom_agent.specs.Edits.{Edited, OnFault}
 use Rattle.std.specs.Result.{OnOk}
-use Rattle.cdp_messages.specs.Moves.{Move as Told, frames_of_moves, move_text}
+use Rattle.client_views.specs.Moves.{Move as Told, frames_of_moves, move_text}
 use Rattle.pipe_frames.specs.Frames.{framed}
 use Rattle.dom_agent.specs.EditLaws.{session_edited, binding_edited}
 use Rattle.dom_agent.proofs.EditKeepers.{edit_keeps_bound, same_edit_moves}

@@ -7,7 +7,7 @@ use Rattle.node_binding.specs.Bindings.{Stands, cleared}
 use Rattle.node_binding.specs.Sessions.{Session, reset}
 use Rattle.node_binding.proofs.StandsLemmas.{Stands-reset}
 use Rattle.cdp_messages.specs.DomAsks.{fits_ask}
-use Rattle.cdp_messages.specs.Moves.{frames_of_moves}
+use Rattle.client_views.specs.Moves.{frames_of_moves}
 use Rattle.cdp_messages.specs.declared.dom_ask.DomAsk.{DomAsk}
 use Rattle.cdp_messages.specs.declared.dom_ask.DomAsk.TheVariants.{GetDocument, RequestChildNodes, PushByPath, PushBySerials, QuerySelector}
 use Rattle.cdp_messages.specs.declared.dom_ask.DomAsk.TheVariants.{QuerySelectorAll, GetAttributes, DescribeNode}
@@ -25,6 +25,7 @@ use Rattle.back_end.specs.Sheets.{NumberedBook}
 use Rattle.back_end.specs.States.{Client, State, page_nodes}
 use Rattle.cdp_messages.specs.declared.command.Command.{Command}
 use Rattle.cdp_messages.specs.declared.command.Command.TheVariants.{DomEnable, DomDisable, AskDom}
+use Rattle.cdp_messages.proofs.MethodRows.{asks-without-css}
 use Rattle.back_end.specs.Steps.{Step, refusing, with_marks, ask_needs_on, needs_on, needs_css, turns_on, client_served, served_step}
 use Rattle.back_end.specs.Steps.{command_step}
 use Rattle.back_end.specs.declared.desk.Desk.{Desk}
@@ -64,21 +65,9 @@ marks-stands marks d s state stands = record {
 
 -- ---- a command that needs DOM on, or does not
 
--- one that is refused, since DOM is off
-pub off-is : (id : ℕ) (command : Command) (state : State) → (needs_on command && not state.client.dom_on) ≡ true
-    → command_step id command state ≡ refusing (Some id) DomOff state
-off-is id command state off =
-    ap (λ t. cond t (refusing (Some id) DomOff state)
-    (cond (needs_css command && not state.client.css_on) (refusing (Some id) CssOff state) (served_step id command state))) off
-
--- one that is refused, since CSS is off
-pub css-off-is : (id : ℕ) (command : Command) (state : State) → (needs_on command && not state.client.dom_on) ≡ false
-    → (needs_css command && not state.client.css_on) ≡ true
-    → command_step id command state ≡ refusing (Some id) CssOff state
-css-off-is id command state on off =
-    ap (λ t. cond t (refusing (Some id) DomOff state)
-    (cond (needs_css command && not state.client.css_on) (refusing (Some id) CssOff state) (served_step id command state))) on
-    ∙ ap (λ t. cond t (refusing (Some id) CssOff state) (served_step id command state)) off
+-- what the DOM agent is asked needs no CSS
+ask-passes : (c : DomAsk) (on : Bool) → (needs_css (AskDom c) && not on) ≡ false
+ask-passes c on = ap (λ (b : Bool). b && not on) (asks-without-css c)
 
 -- one that is carried out
 pub on-is : (id : ℕ) (command : Command) (state : State) → (needs_on command && not state.client.dom_on) ≡ false
@@ -149,7 +138,7 @@ asked-stands d d1 s s1 state id c page fits is_off stands same_side sheets_is sa
     stays_bound state.side.page c w d.agent stands.now.page fits stands.now.session stands.stands in
     let agent_now : state_after d.agent (binding_outcome state.side.page c d.agent) ≡ d1.agent =
     sym (agent_is ∙ ap (λ page. state_after d.agent (binding_outcome page c d.agent)) (same_page ∙ stands.page_is)) in
-    subst (λ (done : Step). DeskStandsFor d1 s1 done.state) (sym (on-is id (AskDom c) state on refl)) (record {
+    subst (λ (done : Step). DeskStandsFor d1 s1 done.state) (sym (on-is id (AskDom c) state on (ask-passes c state.client.css_on))) (record {
       now = served-is c o state stands.now (off-after c state stands.now on)
           (unknown-before state.side.page c w stands.now.page stands.now.session)
           (stays_session state.side.page c w stands.now.page fits stands.now.session);
@@ -171,23 +160,7 @@ asked-sent d s state id c page old new fits is_off stands same_page sent =
     sent ∙ ap (λ page. old ++ answer id (binding_outcome page c d.agent)) (same_page ∙ stands.page_is)
     ∙ ap (λ ms. old ++ frames_of_moves ms)
     (same_moves state.side.page c state.client.session d.agent id stands.now.page fits stands.now.session stands.stands)
-    ∙ ap (λ (done : Step). old ++ frames_of_moves done.moves) (sym (on-is id (AskDom c) state on refl))
-
--- an ask that is refused
-pub refused-stands : (d : Desk) (s : PageSide) (state : State) (id : ℕ) (c : DomAsk) → true ≡ (ask_needs_on c && not d.is_on)
-    → DeskStandsFor d s state
-    → DeskStandsFor d s (command_step id (AskDom c) state).state
-refused-stands d s state id c is_off stands =
-    let off : (ask_needs_on c && not state.client.dom_on) ≡ true = same-on c d.is_on state.client.dom_on true stands.on_is is_off in
-    subst (λ (done : Step). DeskStandsFor d s done.state) (sym (off-is id (AskDom c) state off)) stands
-
-pub refused-sent : (d : Desk) (s : PageSide) (state : State) (id : ℕ) (c : DomAsk) (old new : List ℕ)
-    → true ≡ (ask_needs_on c && not d.is_on) → DeskStandsFor d s state
-    → new ≡ old ++ frames_of_moves (refusing (Some id) DomOff state).moves
-    → new ≡ old ++ frames_of_moves (command_step id (AskDom c) state).moves
-refused-sent d s state id c old new is_off stands sent =
-    let off : (ask_needs_on c && not state.client.dom_on) ≡ true = same-on c d.is_on state.client.dom_on true stands.on_is is_off in
-    sent ∙ ap (λ (done : Step). old ++ frames_of_moves done.moves) (sym (off-is id (AskDom c) state off))
+    ∙ ap (λ (done : Step). old ++ frames_of_moves done.moves) (sym (on-is id (AskDom c) state on (ask-passes c state.client.css_on)))
 
 -- ---- the seat's own commands
 
@@ -208,9 +181,6 @@ enabled-stands d d1 s s1 state id stands same sheets_is on css_is watches_is age
 -- `DOM.disable`, where DOM is on
 disable-on : (b on : Bool) → b ≡ on → b ≡ true → (true && not on) ≡ false
 disable-on b on is h = ap (λ x. not x) (sym is ∙ h)
-
-disable-off : (b on : Bool) → b ≡ on → b ≡ false → (true && not on) ≡ true
-disable-off b on is h = ap (λ x. not x) (sym is ∙ h)
 
 and-false : (b : Bool) → (b && false) ≡ false
 and-false true = refl
@@ -239,10 +209,3 @@ pub disabled-sent : (d : Desk) (s : PageSide) (state : State) (id : ℕ) (old mi
 disabled-sent d s state id old middle new stands was sent more =
     more ∙ append-nil middle ∙ sent ∙ ap (λ (done : Step). old ++ frames_of_moves done.moves)
     (sym (on-is id DomDisable state (disable-on d.is_on state.client.dom_on stands.on_is was) refl))
-
-pub off-sent : (d : Desk) (s : PageSide) (state : State) (id : ℕ) (old new : List ℕ) → DeskStandsFor d s state → d.is_on ≡ false
-    → new ≡ old ++ frames_of_moves (refusing (Some id) DomOff state).moves
-    → new ≡ old ++ frames_of_moves (command_step id DomDisable state).moves
-off-sent d s state id old new stands was sent =
-    sent ∙ ap (λ (done : Step). old ++ frames_of_moves done.moves)
-    (sym (off-is id DomDisable state (disable-off d.is_on state.client.dom_on stands.on_is was)))

@@ -22,7 +22,7 @@ use Rattle.style_edits.specs.Edits.{is_too_big, new_sheet, IfFault}
 use Rattle.page_forms.specs.declared.sheets.SheetForm.{SheetForm}
 use Rattle.page_forms.specs.Sheets.{max_sheets, max_sheet_bytes, is_short, can_hold_sheets}
 use Rattle.page_forms.specs.Texts.{SheetsHaveTexts}
-use Rattle.cdp_messages.specs.Views.{ShownSheet, sheet_number, AreSheets, shows_sheet, shown_text, sheets_without, is_in, is_distinct}
+use Rattle.client_views.specs.Views.{ShownSheet, sheet_number, AreSheets, shows_sheet, shown_text, sheets_without, is_in, is_distinct}
 use Rattle.css_agent.specs.Told.{told_origin}
 use Rattle.css_agent.specs.Asks.{sheet_named}
 use Rattle.cascade_match.proofs.MatchLemmas.{drop-at}

@@ -22,18 +22,18 @@ use Rattle.style_edits.specs.Edits.{is_too_big, new_sheet}
 use Rattle.page_forms.specs.Pages.{LoadedPage, CanLoadPage}
 use Rattle.page_forms.specs.declared.acts.Act.TheVariants as act
 use Rattle.cdp_messages.specs.declared.command.Why.{Why}
-use Rattle.cdp_messages.specs.declared.command.Why.TheVariants.{DomOff, CssOff, NotElement}
+use Rattle.cdp_messages.specs.declared.command.Why.TheVariants.{NotElement}
 use Rattle.cdp_messages.specs.declared.down.ReplyBody.TheVariants.{Nothing, SheetText}
 use Rattle.pipe_frames.specs.Frames.{framed}
 use Rattle.cdp_messages.specs.Events.{News, sheet_added, sheet_removed}
 use Rattle.cdp_messages.specs.Replies.{Message, event, event_text, reply_text}
-use Rattle.cdp_messages.specs.Views.{ShownSheet, sheet_header}
-use Rattle.cdp_messages.specs.Moves.{Move, clear, added, dropped, replied, message_of, move_text, frames_of_moves}
+use Rattle.client_views.specs.Views.{ShownSheet, sheet_header}
+use Rattle.client_views.specs.Moves.{Move, clear, added, dropped, replied, message_of, move_text, frames_of_moves}
 use Rattle.cascade_match.proofs.MatchLemmas.{drop-at}
 use Rattle.cdp_messages.specs.declared.css_ask.CssAsk.{CssAsk}
 use Rattle.cdp_messages.specs.declared.css_ask.CssAsk.TheVariants as css
 use Rattle.css_agent.specs.Told.{told_origin, told_header, added_message, turn_messages, event_messages, message_frame, message_frames}
-use Rattle.css_agent.specs.Asks.{sheet_named, if_sheet, css_outcome, answer_move}
+use Rattle.css_agent.specs.Asks.{sheet_named, if_sheet, styled_page, css_outcome, answer_move}
 use Rattle.dom_agent.specs.Keepers.{session_keeper, binding_keeper}
 use Rattle.dom_agent.specs.Requests.{known_node}
 use Rattle.back_end.specs.declared.desk.Desk.{Desk}
@@ -42,7 +42,7 @@ use Rattle.back_end.specs.declared.faults.ActFault.{ActFault}
 use Rattle.back_end.specs.declared.faults.ActFault.TheVariants.{Sheet}
 use Rattle.style_edits.specs.declared.faults.SheetFault.TheVariants.{TooBig}
 use Rattle.back_end.specs.Sheets.{origin_in_book, entry_of_sheet, as_book, numbered_sheets, SheetChange, leaves, comes, NumberedBook}
-use Rattle.back_end.specs.States.{State, page_nodes, book_in}
+use Rattle.back_end.specs.States.{State, page_nodes, book_in, first_medium, styled_in}
 use Rattle.back_end.specs.Plans.{Deed, restyles, size_fault, drop_fault, replace_fault, dropping, replacing}
 use Rattle.dom_breakpoints.specs.Watched.{unwatched}
 use Rattle.cdp_messages.specs.declared.command.Command.{Command}
@@ -56,7 +56,7 @@ use Rattle.back_end.proofs.SheetLemmas.{own-test, book-last, book-without, fits-
 use Rattle.back_end.proofs.SheetSteps.{change-is, css-on-is, css-off-is}
 use Rattle.undo_marks.specs.Marks.{crossed_over}
 use Rattle.back_end.proofs.StepLemmas.{load-is}
-use Rattle.back_end.proofs.SeatLemmas.{marks-stands, off-is, css-off-is as css-refused-is, on-is}
+use Rattle.back_end.proofs.SeatLemmas.{marks-stands, on-is}
 
 -- ---- frames of messages
 
@@ -100,26 +100,6 @@ frames-append ms ks = flat_map-append (λ (m : Move). framed (move_text m)) ms k
 
 -- ---- commands that are refused
 
-test-is : (needs was on : Bool) (t : Bool) → was ≡ on → (needs && not was) ≡ t → (needs && not on) ≡ t
-test-is needs was on t is e = ap (λ b. needs && not b) (sym is) ∙ e
-
-pub dom-off-stands : (d : Desk) (s : PageSide) (state : State) (id : ℕ) (command : Command) → needs_on command ≡ true
-    → DeskStandsFor d s state → d.is_on ≡ false
-    → DeskStandsFor d s (command_step id command state).state
-dom-off-stands d s state id command needs stands was =
-    let off : (needs_on command && not state.client.dom_on)
-    ≡ true = ap (λ a. a && not state.client.dom_on) needs ∙ ap (λ b. not b) (sym stands.on_is ∙ was) in
-    subst (λ (done : Step). DeskStandsFor d s done.state) (sym (off-is id command state off)) stands
-
-pub dom-off-sent : (d : Desk) (s : PageSide) (state : State) (id : ℕ) (command : Command) (old new : List ℕ) → needs_on command ≡ true
-    → DeskStandsFor d s state → d.is_on ≡ false
-    → new ≡ old ++ frames_of_moves (refusing (Some id) DomOff state).moves
-    → new ≡ old ++ frames_of_moves (command_step id command state).moves
-dom-off-sent d s state id command old new needs stands was sent =
-    let off : (needs_on command && not state.client.dom_on)
-    ≡ true = ap (λ a. a && not state.client.dom_on) needs ∙ ap (λ b. not b) (sym stands.on_is ∙ was) in
-    sent ∙ ap (λ (done : Step). old ++ frames_of_moves done.moves) (sym (off-is id command state off))
-
 pub dom-on : (command : Command) (d : Desk) (s : PageSide) (state : State) → DeskStandsFor d s state → d.is_on ≡ true
     → (needs_on command && not state.client.dom_on) ≡ false
 dom-on command d s state stands was = ap (λ b. needs_on command && not b) (sym stands.on_is ∙ was) ∙ at (needs_on command) where
@@ -127,31 +107,12 @@ dom-on command d s state stands was = ap (λ b. needs_on command && not b) (sym 
   at true = refl
   at false = refl
 
-css-refused : (command : Command) (d : Desk) (s : PageSide) (state : State) → needs_css command ≡ true → DeskStandsFor d s state
-    → d.css ≡ false → (needs_css command && not state.client.css_on) ≡ true
-css-refused command d s state needs stands was = ap (λ a. a && not state.client.css_on) needs ∙ ap (λ b. not b) (sym stands.css_is ∙ was)
-
 pub css-taken : (command : Command) (d : Desk) (s : PageSide) (state : State) → DeskStandsFor d s state → d.css ≡ true
     → (needs_css command && not state.client.css_on) ≡ false
 css-taken command d s state stands was = ap (λ b. needs_css command && not b) (sym stands.css_is ∙ was) ∙ at (needs_css command) where
   at : (a : Bool) → (a && false) ≡ false
   at true = refl
   at false = refl
-
-pub css-off-stands : (d : Desk) (s : PageSide) (state : State) (id : ℕ) (command : Command) → needs_css command ≡ true
-    → DeskStandsFor d s state → d.is_on ≡ true → d.css ≡ false
-    → DeskStandsFor d s (command_step id command state).state
-css-off-stands d s state id command needs stands on off =
-    subst (λ (done : Step). DeskStandsFor d s done.state)
-    (sym (css-refused-is id command state (dom-on command d s state stands on) (css-refused command d s state needs stands off))) stands
-
-pub css-off-sent : (d : Desk) (s : PageSide) (state : State) (id : ℕ) (command : Command) (old new : List ℕ) → needs_css command ≡ true
-    → DeskStandsFor d s state → d.is_on ≡ true → d.css ≡ false
-    → new ≡ old ++ frames_of_moves (refusing (Some id) CssOff state).moves
-    → new ≡ old ++ frames_of_moves (command_step id command state).moves
-css-off-sent d s state id command old new needs stands on off sent =
-    sent ∙ ap (λ (done : Step). old ++ frames_of_moves done.moves)
-    (sym (css-refused-is id command state (dom-on command d s state stands on) (css-refused command d s state needs stands off)))
 
 -- ---- `CSS.enable` and `CSS.disable`
 
@@ -247,11 +208,14 @@ same-node page w b (Some serial) = refl
 -- an ask that names no node
 plain-asked : (d : Desk) (s : PageSide) (state : State) (id : ℕ) (ask : CssAsk) (page : PageValue) (book : List SheetEntry)
     (old new : List ℕ) → DeskStandsFor d s state
-    → page ≡ s.page → book ≡ s.sheets.entries → new ≡ old ++ frames_of_moves (answer_move id (css_outcome page.tree book 0 ask) ∷ [])
-    → new ≡ old ++ frames_of_moves (answer_move id (css_outcome state.side.page.tree (book_in state) 0 ask) ∷ [])
+    → page ≡ s.page → book ≡ s.sheets.entries → new ≡ old ++ frames_of_moves
+    (answer_move id (css_outcome (styled_page page.tree book first_medium) 0 ask) ∷ [])
+    → new ≡ old ++ frames_of_moves (answer_move id (css_outcome (styled_in state) 0 ask) ∷ [])
 plain-asked d s state id ask page book old new stands page_is book_is sent =
-    sent ∙ ap (λ (p : PageValue). old ++ frames_of_moves (answer_move id (css_outcome p.tree book 0 ask) ∷ [])) (page_is ∙ stands.page_is)
-    ∙ ap (λ (b : List SheetEntry). old ++ frames_of_moves (answer_move id (css_outcome state.side.page.tree b 0 ask) ∷ []))
+    sent ∙ ap (λ (p : PageValue). old ++ frames_of_moves
+    (answer_move id (css_outcome (styled_page p.tree book first_medium) 0 ask) ∷ [])) (page_is ∙ stands.page_is)
+    ∙ ap (λ (b : List SheetEntry). old ++ frames_of_moves
+    (answer_move id (css_outcome (styled_page state.side.page.tree b first_medium) 0 ask) ∷ []))
     (book_is ∙ stands.sheets_are)
 
 -- the ask names no node
@@ -261,7 +225,7 @@ NamesNone (css.GetStyleSheetText sheet) = Unit {0}
 NamesNone (css.CollectClassNames sheet) = Unit {0}
 
 plain-frames : (id : ℕ) (ask : CssAsk) (state : State) → NamesNone ask
-    → frames_of_moves (answer_move id (css_outcome state.side.page.tree (book_in state) 0 ask) ∷ [])
+    → frames_of_moves (answer_move id (css_outcome (styled_in state) 0 ask) ∷ [])
     ≡ frames_of_moves (css_step id ask state).moves
 plain-frames id (css.GetMatchedStyles target) state none = absurd none
 plain-frames id (css.GetStyleSheetText sheet) state none = text-frames id (sheet_named sheet (book_in state))
@@ -271,7 +235,7 @@ pub plain-sent : (d : Desk) (s : PageSide) (state : State) (id : ℕ) (ask : Css
     (old new : List ℕ) → DeskStandsFor d s state
     → ((x : List ℕ) × (ask ≡ css.GetStyleSheetText x)) ⊎ ((x : List ℕ) × (ask ≡ css.CollectClassNames x)) → page ≡ s.page
     → book ≡ s.sheets.entries
-    → new ≡ old ++ frames_of_moves (answer_move id (css_outcome page.tree book 0 ask) ∷ [])
+    → new ≡ old ++ frames_of_moves (answer_move id (css_outcome (styled_page page.tree book first_medium) 0 ask) ∷ [])
     → new ≡ old ++ frames_of_moves (css_step id ask state).moves
 plain-sent d s state id ask page book old new stands is page_is book_is sent =
     plain-asked d s state id ask page book old new stands page_is book_is sent ∙ ap (λ (bs : List ℕ). old ++ bs)
@@ -298,13 +262,16 @@ element-is d s state page named r stands page_is is =
 pub node-asked : (d : Desk) (s : PageSide) (state : State) (id named serial : ℕ) (page : PageValue) (book : List SheetEntry)
     (old new : List ℕ) → DeskStandsFor d s state
     → page ≡ s.page → book ≡ s.sheets.entries → element_named named state ≡ Ok serial
-    → new ≡ old ++ frames_of_moves (answer_move id (css_outcome page.tree book serial (css.GetMatchedStyles named)) ∷ [])
+    → new ≡ old ++ frames_of_moves
+    (answer_move id (css_outcome (styled_page page.tree book first_medium) serial (css.GetMatchedStyles named)) ∷ [])
     → new ≡ old ++ frames_of_moves (css_step id (css.GetMatchedStyles named) state).moves
 node-asked d s state id named serial page book old new stands page_is book_is is sent =
     sent ∙ ap (λ (p : PageValue). old
-    ++ frames_of_moves (answer_move id (css_outcome p.tree book serial (css.GetMatchedStyles named)) ∷ [])) (page_is ∙ stands.page_is)
+    ++ frames_of_moves
+    (answer_move id (css_outcome (styled_page p.tree book first_medium) serial (css.GetMatchedStyles named)) ∷ [])) (page_is ∙ stands.page_is)
     ∙ ap (λ (b : List SheetEntry). old
-    ++ frames_of_moves (answer_move id (css_outcome state.side.page.tree b serial (css.GetMatchedStyles named)) ∷ []))
+    ++ frames_of_moves
+    (answer_move id (css_outcome (styled_page state.side.page.tree b first_medium) serial (css.GetMatchedStyles named)) ∷ []))
     (book_is ∙ stands.sheets_are)
     ∙ ap (λ (r : Result ℕ Why). old ++ frames_of_moves (node_answer id (css.GetMatchedStyles named) r state ∷ [])) (sym is)
 

@@ -8,9 +8,9 @@ use Rattle.cdp_json.specs.Kinds.{is_counted}
 use Rattle.page_tree.specs.Pages.{PageValue}
 use Rattle.node_binding.specs.Sessions.{Session, reset}
 use Rattle.cdp_messages.specs.declared.down.ReplyBody.TheVariants.{Nothing}
-use Rattle.cdp_messages.specs.Views.{ShownSheet, View, text_units, shows_sheet, sheets_without}
-use Rattle.cdp_messages.specs.Moves.{Move as Told, clear as cleared, added, dropped, replied, sheets_off, CanBeTold, Moves, Course, ends}
-use Rattle.cdp_messages.specs.Moves.{goes}
+use Rattle.client_views.specs.Views.{ShownSheet, View, text_units, shows_sheet, sheets_without}
+use Rattle.client_views.specs.Moves.{Move as Told, clear as cleared, added, dropped, replied, sheets_off, CanBeTold, Moves, Course, ends}
+use Rattle.client_views.specs.Moves.{goes}
 use Rattle.css_agent.proofs.TellableStyles.{counted, units-few}
 use Rattle.dom_agent.specs.Laws.{CanTellSheets, session_view as seen_by}
 use Rattle.dom_agent.proofs.StepLemmas.{course-join}

@@ -16,7 +16,7 @@ use Rattle.style_edits.specs.Edits.{IfFault}
 use Rattle.style_edits.specs.declared.splice.Splice.{Splice}
 use Rattle.style_edits.specs.Splices.{spliced_entry, after_by, after_splice, after_splices}
 use Rattle.cdp_messages.specs.declared.command.Why.{Why}
-use Rattle.cdp_messages.specs.Moves.{Move, replied, frames_of_moves}
+use Rattle.client_views.specs.Moves.{Move, replied, frames_of_moves}
 use Rattle.cdp_messages.specs.declared.css_edit.CssEdit.{CssEdit}
 use Rattle.css_agent.specs.Edits.{CssDone, CssEdited, css_edited, css_splices, splice_moves, moves_with_reply, edit_moves, edit_splices}
 use Rattle.css_agent.specs.EditLaws.{HasEditTexts}

@@ -17,10 +17,10 @@ use Rattle.style_edits.specs.declared.edits.StyleEdit.{StyleEdit}
 use Rattle.style_edits.specs.Edits.{Found as SpliceFound, style_splice}
 use Rattle.style_edits.proofs.BookForms.{entry_id}
 use Rattle.page_forms.specs.Sheets.{max_sheet_bytes}
-use Rattle.cdp_messages.specs.declared.effects.Effect.TheVariants.{NothingElse}
-use Rattle.cdp_messages.specs.Effects.{effect_of_method}
-use Rattle.cdp_messages.specs.Views.{ShownSheet, shows_sheet, sheets_with_text}
-use Rattle.cdp_messages.specs.Moves.{Move, rewritten, replied}
+use Rattle.client_views.specs.declared.effects.Effect.TheVariants.{NothingElse}
+use Rattle.client_views.specs.Effects.{effect_of_method}
+use Rattle.client_views.specs.Views.{ShownSheet, shows_sheet, sheets_with_text}
+use Rattle.client_views.specs.Moves.{Move, rewritten, replied}
 use Rattle.cdp_messages.specs.declared.css_edit.CssEdit.{CssEdit}
 use Rattle.cdp_messages.specs.declared.css_edit.CssEdit.TheVariants as edit
 use Rattle.css_agent.specs.Edits.{CssDone, CssEdited, css_edited, style_edit, one_splice, splices_on, style_splices, css_splices}

@@ -35,8 +35,8 @@ use Rattle.sheet_reader.specs.declared.book.SheetEntry.{SheetEntry}
 use Rattle.sheet_reader.specs.Books.{removed}
 use Rattle.style_edits.specs.declared.faults.SheetFault.TheVariants.{TooBig}
 use Rattle.style_edits.specs.Edits.{is_too_big}
-use Rattle.cdp_messages.specs.Views.{ShownSheet, sheets_without}
-use Rattle.cdp_messages.specs.Moves.{CanBeTold, Course}
+use Rattle.client_views.specs.Views.{ShownSheet, sheets_without}
+use Rattle.client_views.specs.Moves.{CanBeTold, Course}
 use Rattle.css_agent.specs.Asks.{sheet_named}
 use Rattle.dom_agent.specs.Laws.{CanTell, CanTellSheets, RowsHaveUtf8, session_view as seen_by}
 use Rattle.dom_agent.specs.EditLaws.{session_edited}

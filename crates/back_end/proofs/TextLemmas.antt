@@ -15,7 +15,7 @@ use Rattle.page_tree.specs.Edits.{pairs_without, with_attribute, without_attribu
 use Rattle.page_tree.specs.Edits.{with_child, without_child, put_in, changed_at, after_tree, form_at, numbered_branch}
 use Rattle.page_tree.specs.declared.edits.TreeEdit.{TreeEdit}
 use Rattle.page_tree.specs.declared.edits.TreeEdit.TheVariants.{SetAttr, DropAttr, SetText, Attach, Detach}
-use Rattle.cdp_messages.specs.Laws.{PairsHaveUtf8, LabelHasUtf8}
+use Rattle.node_tree.specs.Labels.{PairsHaveUtf8, LabelHasUtf8}
 use Rattle.dom_agent.specs.Laws.{RowsHaveUtf8}
 use Rattle.cdp_json.proofs.ReadTexts.{IfSome}
 use Rattle.back_end.specs.Texts.{HaveTexts, FormHasTexts, EditHasTexts}

@@ -25,11 +25,11 @@ use Rattle.page_tree.proofs.FaultLemmas.{move_live}
 use Rattle.page_tree.proofs.InsertLemmas.{copy-leads}
 use Rattle.page_tree.proofs.MoveLemmas.{move-leads}
 use Rattle.cdp_messages.specs.declared.command.Why.{Why}
-use Rattle.cdp_messages.specs.Moves.{Move as Told, frames_of_moves, move_text}
+use Rattle.client_views.specs.Moves.{Move as Told, frames_of_moves, move_text}
 use Rattle.pipe_frames.specs.Frames.{framed}
 use Rattle.cdp_messages.specs.declared.dom_edit.DomEdit.{DomEdit}
-use Rattle.back_end.specs.declared.node_edits.NodeEdit.{NodeEdit}
-use Rattle.back_end.specs.declared.node_edits.NodeEdit.TheVariants.{One, MoveNode, CopyNode}
+use Rattle.back_end.specs.declared.node_edits.TreeWish.{TreeWish}
+use Rattle.back_end.specs.declared.node_edits.TreeWish.TheVariants.{One, MoveNode, CopyNode}
 use Rattle.back_end.specs.declared.desk.Desk.{Desk}
 use Rattle.back_end.specs.declared.side.PageSide.{PageSide}
 use Rattle.back_end.specs.States.{State, page_nodes, HoldsNow}
@@ -45,6 +45,9 @@ use Rattle.back_end.proofs.PushSteps.{is-begun, begun-is, begun-known}
 use Rattle.back_end.proofs.TreeSteps.{begun-after, named-known}
 use Rattle.back_end.proofs.SheetSeats.{dom-on}
 use Rattle.back_end.proofs.SeatLemmas.{on-is}
+use Rattle.cdp_messages.specs.declared.method.Domains.{Domains}
+use Rattle.cdp_messages.specs.Methods.{needs_both}
+use Rattle.cdp_messages.proofs.MethodRows.{edits-need-dom}
 
 -- ---- a move
 
@@ -173,7 +176,7 @@ attached-there next parent before x tree can =
     let own : 0 < tally row_serial s (alone x) = tally_row row_serial s x.row x.children none refl in
     has-there row_serial s m (omega (arith, count, put, own))
 
-pub put-there : (state : State) (e : NodeEdit) → HoldsNow state → node_edit_fault e state.side.page ≡ None → (serial : ℕ)
+pub put-there : (state : State) (e : TreeWish) → HoldsNow state → node_edit_fault e state.side.page ≡ None → (serial : ℕ)
     → node_put e state.side.page ≡ Some serial
     → has row_serial serial (page_nodes (plan_step (node_edit_plan e state.side.page) state).state) ≡ true
 put-there state (One e) is fits serial put = let no : ◌≡◌ {A = Option ℕ} None (Some serial) = put in absurd cc
@@ -195,7 +198,7 @@ put-there state (CopyNode copied parent before) is fits serial put =
     (attached-there (drawn form page).next parent before x page.tree (copy-leads page copied parent before is.page fits).taken.0)
 
 -- it can become known
-pub can-push : (state : State) (e : NodeEdit) (put : Option ℕ) → HoldsNow state → is_some state.client.session.opened ≡ true
+pub can-push : (state : State) (e : TreeWish) (put : Option ℕ) → HoldsNow state → is_some state.client.session.opened ≡ true
     → node_edit_fault e state.side.page ≡ None → node_put e state.side.page ≡ put
     → CanPushAny put (plan_step (node_edit_plan e state.side.page) state).state
 can-push state e None is begun fits h = tt
@@ -220,7 +223,7 @@ put-moves id None done = refl
 put-moves id (Some serial) done = sym (append_assoc done.moves (push_step serial done.state).moves _)
 
 -- the fault at the desk is that of the state
-pub fault-here : (s : PageSide) (state : State) (e : NodeEdit) (o : Option EditFault) → s.page ≡ state.side.page
+pub fault-here : (s : PageSide) (state : State) (e : TreeWish) (o : Option EditFault) → s.page ≡ state.side.page
     → node_edit_fault e s.page ≡ o → node_edit_fault e state.side.page ≡ o
 fault-here s state e o same h = ap (λ (p : PageValue). node_edit_fault e p) (sym same) ∙ h
 
@@ -230,7 +233,7 @@ kept-moves : (id : ℕ) (put : Option ℕ) (es : List Inverse) (state : State) (
 kept-moves id None es state done = refl
 kept-moves id (Some serial) es state done = refl
 
-pub put-answered-sent : (s : PageSide) (state : State) (id : ℕ) (e : NodeEdit) (put : Option ℕ) (old middle new : List ℕ)
+pub put-answered-sent : (s : PageSide) (state : State) (id : ℕ) (e : TreeWish) (put : Option ℕ) (old middle new : List ℕ)
     → s.page ≡ state.side.page → node_edit_fault e s.page ≡ None → put ≡ node_put e s.page
     → middle ≡ old ++ frames_of_moves (plan_step (node_edit_plan e state.side.page) state).moves
     → new ≡ middle ++ frames_of_moves (put_answer id put (idle (plan_step (node_edit_plan e state.side.page) state).state)).moves
@@ -250,13 +253,13 @@ put-answered-sent s state id e put old middle new same fits put_is first second 
     ∙ ap (λ o. old ++ frames_of_moves (unless_fault id o e state).moves) (sym (fault-here s state e None same fits))
 
 -- one that the page refuses
-pub fault-both : (d : Desk) (h : Marks Inverse) (s : PageSide) (state : State) (id : ℕ) (e : NodeEdit) (f : EditFault)
+pub fault-both : (d : Desk) (h : Marks Inverse) (s : PageSide) (state : State) (id : ℕ) (e : TreeWish) (f : EditFault)
     → BothStandFor d h s state → node_edit_fault e s.page ≡ Some f
     → BothStandFor d h s (node_edit_step id (Ok e) state).state
 fault-both d h s state id e f both fault =
     subst (λ o. BothStandFor d h s (unless_fault id o e state).state) (sym (fault-here s state e (Some f) both.stands.page_is fault)) both
 
-pub fault-sent : (s : PageSide) (state : State) (id : ℕ) (e : NodeEdit) (f : EditFault) (old new : List ℕ) → s.page ≡ state.side.page
+pub fault-sent : (s : PageSide) (state : State) (id : ℕ) (e : TreeWish) (f : EditFault) (old new : List ℕ) → s.page ≡ state.side.page
     → node_edit_fault e s.page ≡ Some f
     → new ≡ old ++ frames_of_moves (refusing (Some id) (edit_why f) state).moves
     → new ≡ old ++ frames_of_moves (node_edit_step id (Ok e) state).moves
@@ -266,28 +269,29 @@ fault-sent s state id e f old new same fault sent =
 -- ---- the command
 
 -- the edit that is named at the desk is the state's
-pub named-here : (d : Desk) (s : PageSide) (state : State) (edit : DomEdit) (r : Result NodeEdit Why) → DeskStandsFor d s state
+pub named-here : (d : Desk) (s : PageSide) (state : State) (edit : DomEdit) (r : Result TreeWish Why) → DeskStandsFor d s state
     → r ≡ edit_named (map.get d.agent.serials) (lowered edit)
     → edit_named (serial_now state) (lowered edit) ≡ r
 named-here d s state edit r stands is = sym
     (is ∙ ap (λ (serials : ℕ → Option ℕ). edit_named serials (lowered edit)) (λ i id. stands.stands.serials_are id i))
 
 -- where one is named, something is opened
-pub named-begun : (state : State) (edit : DomEdit) (e : NodeEdit) → edit_named (serial_now state) (lowered edit) ≡ Ok e
+pub named-begun : (state : State) (edit : DomEdit) (e : TreeWish) → edit_named (serial_now state) (lowered edit) ≡ Ok e
     → is_some state.client.session.opened ≡ true
 named-begun state edit e h =
     let k = named-known (serial_now state) (lowered edit) e h in
     begun-is state.client.session (begun-known state.client.session state k.id k.serial k.is)
 
-pub edit-is : (d : Desk) (s : PageSide) (state : State) (id : ℕ) (edit : DomEdit) (r : Result NodeEdit Why) → DeskStandsFor d s state
+pub edit-is : (d : Desk) (s : PageSide) (state : State) (id : ℕ) (edit : DomEdit) (r : Result TreeWish Why) → DeskStandsFor d s state
     → d.is_on ≡ true → r ≡ edit_named (map.get d.agent.serials) (lowered edit)
     → node_edit_step id r state ≡ command_step id (EditDom edit) state
 edit-is d s state id edit r stands on is =
     ap (λ x. node_edit_step id x state) (sym (named-here d s state edit r stands is))
-    ∙ sym (on-is id (EditDom edit) state (dom-on (EditDom edit) d s state stands on) refl)
+    ∙ sym (on-is id (EditDom edit) state (dom-on (EditDom edit) d s state stands on)
+    (ap (λ (w : Domains). needs_both w && not state.client.css_on) (edits-need-dom edit)))
 
 pub named-both : {T E : Type 0} (result : Result T E) (d d1 : Desk) (h h1 : Marks Inverse) (s s1 : PageSide) (state : State) (id : ℕ)
-    (edit : DomEdit) (e : NodeEdit) → DeskStandsFor d s state → d.is_on ≡ true
+    (edit : DomEdit) (e : TreeWish) → DeskStandsFor d s state → d.is_on ≡ true
     → Ok e ≡ edit_named (map.get d.agent.serials) (lowered edit)
     → (is_some state.client.session.opened ≡ true → OnOk result (BothStandFor d1 h1 s1 (node_edit_step id (Ok e) state).state))
     → OnOk result (BothStandFor d1 h1 s1 (command_step id (EditDom edit) state).state)
@@ -302,7 +306,7 @@ pub unnamed-both : (d : Desk) (h : Marks Inverse) (s : PageSide) (state : State)
 unnamed-both d h s state id edit why both on is =
     subst (λ (x : Step). BothStandFor d h s x.state) (edit-is d s state id edit (Err why) both.stands on is) both
 
-pub edited-sent : {T E : Type 0} (result : Result T E) (d : Desk) (s : PageSide) (state : State) (id : ℕ) (edit : DomEdit) (e : NodeEdit)
+pub edited-sent : {T E : Type 0} (result : Result T E) (d : Desk) (s : PageSide) (state : State) (id : ℕ) (edit : DomEdit) (e : TreeWish)
     (old new : List ℕ) → DeskStandsFor d s state → d.is_on ≡ true
     → Ok e ≡ edit_named (map.get d.agent.serials) (lowered edit)
     → (is_some state.client.session.opened ≡ true → OnOk result (new ≡ old ++ frames_of_moves (node_edit_step id (Ok e) state).moves))

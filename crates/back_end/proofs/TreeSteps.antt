@@ -20,13 +20,13 @@ use Rattle.node_binding.specs.Sessions.{Session, session_ids}
 use Rattle.cdp_messages.specs.declared.command.Why.{Why}
 use Rattle.cdp_messages.specs.declared.command.Why.TheVariants.{UnknownNode}
 use Rattle.cdp_messages.specs.declared.down.ReplyBody.TheVariants.{Nothing, NodeId}
-use Rattle.cdp_messages.specs.Moves.{replied, Course}
+use Rattle.client_views.specs.Moves.{replied, Course}
 use Rattle.sheet_reader.specs.declared.book.SheetEntry.{SheetEntry}
 use Rattle.dom_agent.proofs.StepLemmas.{is_small, ids-below}
 use Rattle.cdp_messages.specs.declared.dom_edit.DomEdit.{DomEdit}
 use Rattle.cdp_messages.specs.declared.dom_edit.DomEdit.TheVariants as dom
-use Rattle.back_end.specs.declared.node_edits.NodeEdit.{NodeEdit}
-use Rattle.back_end.specs.declared.node_edits.NodeEdit.TheVariants.{One, MoveNode, CopyNode}
+use Rattle.back_end.specs.declared.node_edits.TreeWish.{TreeWish}
+use Rattle.back_end.specs.declared.node_edits.TreeWish.TheVariants.{One, MoveNode, CopyNode}
 use Rattle.back_end.specs.OwnMethods.{edit_why}
 use Rattle.dom_agent.specs.Laws.{RowsHaveUtf8}
 use Rattle.undo_marks.specs.Changes.{after_all, AllTaken}
@@ -83,7 +83,7 @@ all-events (e ∷ es) state =
 -- ---- what an edit is
 
 -- what is known of an edit whose nodes are known: its texts, and that the method may be answered so
-abbrev pub IsNamed : List ℕ → NodeEdit → Type 0
+abbrev pub IsNamed : List ℕ → TreeWish → Type 0
 IsNamed method (One e) = EditHasTexts e × ((next : ℕ) (tree : Branch PageRow) → IsReady next e tree) × MayAnswer method (replied 0 Nothing)
 IsNamed method (MoveNode node parent before) = (id : ℕ) → MayAnswer method (replied 0 (NodeId id))
 IsNamed method (CopyNode node parent before) = (id : ℕ) → MayAnswer method (replied 0 (NodeId id))
@@ -120,19 +120,19 @@ pub record HasKnown (serials : ℕ → Option ℕ) : Type 0 where
   pub serial : ℕ
   pub is : serials id ≡ Some serial
 
-no-ok : {P : Type 0} (why : Why) (e : NodeEdit) → ◌≡◌ {A = Result NodeEdit Why} (Err why) (Ok e) → P
-no-ok why e h = let no : ◌≡◌ {A = Result NodeEdit Why} (Err why) (Ok e) = h in absurd cc
+no-ok : {P : Type 0} (why : Why) (e : TreeWish) → ◌≡◌ {A = Result TreeWish Why} (Err why) (Ok e) → P
+no-ok why e h = let no : ◌≡◌ {A = Result TreeWish Why} (Err why) (Ok e) = h in absurd cc
 
-same-ok : (d e : NodeEdit) → ◌≡◌ {A = Result NodeEdit Why} (Ok d) (Ok e) → d ≡ e
+same-ok : (d e : TreeWish) → ◌≡◌ {A = Result TreeWish Why} (Ok d) (Ok e) → d ≡ e
 same-ok d e h = cc
 
-one-named : (P : NodeEdit → Type 0) (edit : ℕ → NodeEdit) (serials : ℕ → Option ℕ) (node : ℕ) (o : Option ℕ) (e : NodeEdit)
+one-named : (P : TreeWish → Type 0) (edit : ℕ → TreeWish) (serials : ℕ → Option ℕ) (node : ℕ) (o : Option ℕ) (e : TreeWish)
     → serials node ≡ o → ((s : ℕ) → P (edit s))
     → of_node edit o ≡ Ok e → P e × HasKnown serials
 one-named P edit serials node None e is has h = no-ok UnknownNode e h
 one-named P edit serials node (Some s) e is has h = (subst P (same-ok (edit s) e h) (has s), record { id = node; serial = s; is = is })
 
-put-named : (P : NodeEdit → Type 0) (edit : ℕ → ℕ → ℕ → NodeEdit) (serials : ℕ → Option ℕ) (node : ℕ) (o p q : Option ℕ) (e : NodeEdit)
+put-named : (P : TreeWish → Type 0) (edit : ℕ → ℕ → ℕ → TreeWish) (serials : ℕ → Option ℕ) (node : ℕ) (o p q : Option ℕ) (e : TreeWish)
     → serials node ≡ o → ((s t b : ℕ) → P (edit s t b))
     → put_node edit o p q ≡ Ok e → P e × HasKnown serials
 put-named P edit serials node None p q e is has h = no-ok UnknownNode e h
@@ -141,7 +141,7 @@ put-named P edit serials node (Some s) (Some t) None e is has h = no-ok UnknownN
 put-named P edit serials node (Some s) (Some t) (Some b) e is has h =
     (subst P (same-ok (edit s t b) e h) (has s t b), record { id = node; serial = s; is = is })
 
-named-is : (method : List ℕ) (serials : ℕ → Option ℕ) (edit : DomEdit) (e : NodeEdit) → HasTreeTexts edit → AsksFor method edit
+named-is : (method : List ℕ) (serials : ℕ → Option ℕ) (edit : DomEdit) (e : TreeWish) → HasTreeTexts edit → AsksFor method edit
     → edit_named serials edit ≡ Ok e → IsNamed method e × HasKnown serials
 named-is method serials (dom.SetAttributeValue node name value) e texts asks h =
     one-named (IsNamed method) (λ s. One (SetAttr s name value)) serials node (serials node) e refl (λ s. (texts, λ next tree. tt, asks)) h
@@ -157,7 +157,7 @@ named-is method serials (dom.CopyTo node target before) e texts asks h = put-nam
     (serials target) (before_by serials before) e refl (λ s t b. asks) h
 
 -- what the code carries out
-pub named-plain : (serials : ℕ → Option ℕ) (edit : DomEdit) (e : NodeEdit) → HasTreeTexts edit → edit_named serials edit ≡ Ok e
+pub named-plain : (serials : ℕ → Option ℕ) (edit : DomEdit) (e : TreeWish) → HasTreeTexts edit → edit_named serials edit ≡ Ok e
     → IsPlainEdit e
 named-plain serials (dom.SetAttributeValue node name value) e texts h =
     (one-named IsPlainEdit (λ s. One (SetAttr s name value)) serials node (serials node) e refl (λ s. (texts, λ next tree. tt)) h).0
@@ -173,7 +173,7 @@ named-plain serials (dom.CopyTo node target before) e texts h =
     (put-named IsPlainEdit CopyNode serials node (serials node) (serials target) (before_by serials before) e refl (λ s t b. tt) h).0
 
 -- an edit is named only where some node is known
-pub named-known : (serials : ℕ → Option ℕ) (edit : DomEdit) (e : NodeEdit) → edit_named serials edit ≡ Ok e → HasKnown serials
+pub named-known : (serials : ℕ → Option ℕ) (edit : DomEdit) (e : TreeWish) → edit_named serials edit ≡ Ok e → HasKnown serials
 named-known serials (dom.SetAttributeValue node name value) e h =
     (one-named (λ x. ⊤) (λ s. One (SetAttr s name value)) serials node (serials node) e refl (λ s. tt) h).1
 named-known serials (dom.RemoveAttribute node name) e h =
@@ -202,7 +202,7 @@ copy-few serial parent before tree h =
     negated true e = refl
     negated false e = absurd cc
 
-pub node-edit-planned : (method : List ℕ) (state : State) (e : NodeEdit) → HoldsNow state → IsNamed method e
+pub node-edit-planned : (method : List ℕ) (state : State) (e : TreeWish) → HoldsNow state → IsNamed method e
     → node_edit_fault e state.side.page ≡ None → Planned state (node_edit_plan e state.side.page)
 node-edit-planned method state (One e) is named fits = planned-edit state e is
     (record { fits = fits; ready = named.1 state.side.page.next state.side.page.tree }) named.0
@@ -345,7 +345,7 @@ abbrev MayPut : List ℕ → Option ℕ → Type 0
 MayPut method None = MayAnswer method (replied 0 Nothing)
 MayPut method (Some serial) = (id : ℕ) → MayAnswer method (replied 0 (NodeId id))
 
-may-put : (method : List ℕ) (e : NodeEdit) (page : PageValue) → IsNamed method e → MayPut method (node_put e page)
+may-put : (method : List ℕ) (e : TreeWish) (page : PageValue) → IsNamed method e → MayPut method (node_put e page)
 may-put method (One e) page named = named.2
 may-put method (MoveNode node parent before) page named = named
 may-put method (CopyNode node parent before) page named = named
@@ -369,7 +369,7 @@ answer-answered method sheet id (Some serial) before done can are well recalls =
     reply-answered method sheet id 2 (NodeId (id_now shown.state serial)) before shown (can (id_now shown.state serial)) events
     (steps-well {ids = 100002} (omega arith) (omega arith) (more (omega arith) (omega arith) (omega arith) well) recalls) recalls.few_edits
 
-unless-answered : (method : List ℕ) (sheet : Option ℕ) (id : ℕ) (fault : Option EditFault) (e : NodeEdit) (state : State)
+unless-answered : (method : List ℕ) (sheet : Option ℕ) (id : ℕ) (fault : Option EditFault) (e : TreeWish) (state : State)
     → node_edit_fault e state.side.page ≡ fault → IsNamed method e → IsBegun state.client.session
     → IsState state → HasRoom state → is_counted id ≡ true → Answered method sheet id 2 state (unless_fault id fault e state)
 unless-answered method sheet id (Some f) e state fits named begun is room small = refusal-answered method sheet id 2
@@ -389,7 +389,7 @@ pub tree-edit-answered : (method : List ℕ) (sheet : Option ℕ) (id : ℕ) (ed
     → AsksFor method edit → IsState state → HasRoom state → is_counted id ≡ true
     → Answered method sheet id 2 state (tree_edit_step id edit state)
 tree-edit-answered method sheet id edit state texts asks is room small = at (edit_named (serial_now state) (lowered edit)) refl where
-  at : (r : Result NodeEdit Why) → edit_named (serial_now state) (lowered edit) ≡ r
+  at : (r : Result TreeWish Why) → edit_named (serial_now state) (lowered edit) ≡ r
       → Answered method sheet id 2 state (node_edit_step id r state)
   at (Err why) h = refusal-answered method sheet id 2 why state is room small
   at (Ok e) h =

@@ -8,9 +8,9 @@ use Rattle.page_tree.specs.declared.edits.TreeEdit.{TreeEdit}
 use Rattle.page_tree.specs.declared.edits.TreeEdit.TheVariants.{SetAttr, DropAttr, SetText, Attach, Detach}
 use Rattle.page_forms.specs.declared.acts.Act.{Act}
 use Rattle.node_binding.specs.Sessions.{Session, knows, is_open}
-use Rattle.cdp_messages.specs.Views.{ShownSheet}
-use Rattle.cdp_messages.specs.Moves.{Move, change, clear, met, added, dropped, rewritten, root, texted, replied, all_off, sheets_off}
-use Rattle.cdp_messages.specs.Moves.{failed}
+use Rattle.client_views.specs.Views.{ShownSheet}
+use Rattle.client_views.specs.Moves.{Move, change, clear, met, added, dropped, rewritten, root, texted, replied, all_off, sheets_off}
+use Rattle.client_views.specs.Moves.{failed}
 use Rattle.dom_agent.specs.Keepers.{session_keeper}
 use Rattle.dom_agent.specs.Requests.{Showing, pushed, opening_moves}
 use Rattle.dom_agent.specs.Edits.{Edited}

@@ -15,8 +15,8 @@ use Rattle.style_edits.specs.Splices.{spliced, TakesSplice}
 use Rattle.style_edits.proofs.BookForms.{entry_id}
 use Rattle.cdp_messages.specs.declared.down.ReplyBody.TheVariants.{Nothing}
 use Rattle.cdp_messages.specs.declared.command.Why.TheVariants.{Crossed}
-use Rattle.cdp_messages.specs.Views.{ShownSheet}
-use Rattle.cdp_messages.specs.Moves.{replied}
+use Rattle.client_views.specs.Views.{ShownSheet}
+use Rattle.client_views.specs.Moves.{replied}
 use Rattle.undo_marks.specs.Marks.{Marks, handed_out, marked, taken_back, done_again, undone, redone}
 use Rattle.undo_marks.specs.Changes.{HistoryEntry as Entry, after_all, AllTaken, page_undone, page_redone}
 use Rattle.undo_marks.specs.Saved.{SavedSheet, Saved}

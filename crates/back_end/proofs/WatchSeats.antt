@@ -3,7 +3,7 @@ use Rattle.std.proofs.Common.{◌≡◌, ℕ, ◌++◌, List, true, false, not, 
 use Rattle.std.specs.FinMap as map
 use Rattle.node_binding.specs.Bindings.{Stands}
 use Rattle.cdp_messages.specs.declared.command.Why.TheVariants.{UnknownNode}
-use Rattle.cdp_messages.specs.Moves.{frames_of_moves}
+use Rattle.client_views.specs.Moves.{frames_of_moves}
 use Rattle.dom_breakpoints.specs.Watched.{Watched}
 use Rattle.back_end.specs.States.{State, page_nodes}
 use Rattle.cdp_messages.specs.declared.command.Command.{Command}

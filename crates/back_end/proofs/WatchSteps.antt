@@ -15,9 +15,9 @@ use Rattle.node_binding.specs.Sessions.{Session, session_ids, known_by}
 use Rattle.node_binding.proofs.Known.{known-tally}
 use Rattle.node_binding.proofs.PairLemmas.{find-there}
 use Rattle.cdp_messages.specs.declared.down.ReplyBody.TheVariants.{Nothing}
-use Rattle.cdp_messages.specs.Moves.{replied, CanBeTold, ends, goes}
-use Rattle.dom_breakpoints.specs.declared.pauses.WatchKind.{WatchKind}
-use Rattle.dom_breakpoints.specs.declared.pauses.WatchKind.TheVariants.{Subtree, Attribute, Removed}
+use Rattle.client_views.specs.Moves.{replied, CanBeTold, ends, goes}
+use Rattle.node_tree.specs.declared.watches.WatchKind.{WatchKind}
+use Rattle.node_tree.specs.declared.watches.WatchKind.TheVariants.{Subtree, Attribute, Removed}
 use Rattle.dom_breakpoints.specs.Watched.{Serials, Watched, is_watched, with_watch, without_watch}
 use Rattle.back_end.specs.States.{State, page_nodes, view_of, HoldsNow}
 use Rattle.back_end.specs.Steps.{with_client, serial_now, watch_step}

@@ -18,8 +18,8 @@ use Rattle.page_tree.proofs.EditLemmas.{clear, changed, serial-live, Parted, par
 use Rattle.node_tree.proofs.PairLemmas.{left}
 use Rattle.page_tree.proofs.WholeLemmas.{whole-valid}
 use Rattle.dom_agent.proofs.SetLemmas.{there_once}
-use Rattle.dom_breakpoints.specs.declared.pauses.WatchKind.{WatchKind}
-use Rattle.dom_breakpoints.specs.declared.pauses.WatchKind.TheVariants as watch
+use Rattle.node_tree.specs.declared.watches.WatchKind.{WatchKind}
+use Rattle.node_tree.specs.declared.watches.WatchKind.TheVariants as watch
 use Rattle.dom_breakpoints.specs.Watched.{Serials, unwatched, is_watched, is_within, outside, without_subtree}
 use Rattle.back_end.specs.States.{State, page_nodes, AreAmong}
 use Rattle.back_end.specs.Steps.{watched_after}

@@ -4,9 +4,9 @@ use Rattle.std.proofs.Common.{◌≡◌, ℕ, ◌+◌, ◌^◌, ◌<◌, ◌≤�
 use Rattle.cdp_json.specs.Kinds.{is_counted}
 use Rattle.node_tree.specs.Nodes.{node_count}
 use Rattle.node_binding.proofs.StartLemmas.{count-alone}
-use Rattle.cdp_messages.specs.Views.{ShownSheet}
+use Rattle.client_views.specs.Views.{ShownSheet}
 use Rattle.cdp_messages.specs.declared.down.ReplyBody.TheVariants.{Nothing}
-use Rattle.cdp_messages.specs.Moves.{Move as Told, replied, CanBeTold, Moves, Course, ends, goes}
+use Rattle.client_views.specs.Moves.{Move as Told, replied, CanBeTold, Moves, Course, ends, goes}
 use Rattle.dom_agent.specs.Laws.{CanTell, CanTellSheets, session_view as seen_by}
 use Rattle.dom_agent.proofs.StepLemmas.{course-join}
 use Rattle.dom_agent.proofs.TellableLemmas.{can_say}

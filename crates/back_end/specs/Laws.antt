@@ -8,10 +8,10 @@ use Rattle.cdp_messages.specs.declared.command.Asked.{Asked}
 use Rattle.cdp_messages.specs.declared.command.Refused.{Refused}
 use Rattle.cdp_messages.specs.Asked.{asked, method_name}
 use Rattle.cdp_messages.specs.Laws.{answers}
-use Rattle.cdp_messages.specs.declared.effects.Effect.TheVariants.{NothingElse}
-use Rattle.cdp_messages.specs.Effects.{effect_of_method}
-use Rattle.cdp_messages.specs.Moves.{Move, change, clear, met, added, dropped, rewritten, root, texted, replied, all_off, sheets_off}
-use Rattle.cdp_messages.specs.Moves.{failed, Course}
+use Rattle.client_views.specs.declared.effects.Effect.TheVariants.{NothingElse}
+use Rattle.client_views.specs.Effects.{effect_of_method}
+use Rattle.client_views.specs.Moves.{Move, change, clear, met, added, dropped, rewritten, root, texted, replied, all_off, sheets_off}
+use Rattle.client_views.specs.Moves.{failed, Course}
 use Rattle.css_objects.specs.Sheets.{sheet_in}
 use Rattle.cdp_messages.specs.declared.command.Command.{Command}
 use Rattle.cdp_messages.specs.declared.css_ask.CssAsk.{CssAsk}
@@ -46,7 +46,7 @@ abbrev pub tree_edits_in : List (Entry Saved Inverse) → ℕ
 tree_edits_in [] = 0
 tree_edits_in (e ∷ es) = tree_edit e.edit + tree_edits_in es
 
--- and in groups
+-- the edits of the tree in groups
 abbrev pub tree_edits_among : List (List (Entry Saved Inverse)) → ℕ
 tree_edits_among [] = 0
 tree_edits_among (g ∷ gs) = tree_edits_in g + tree_edits_among gs
@@ -128,7 +128,7 @@ MayAnswer method (all_off id) = method ≡ codes "DOM.disable"
 MayAnswer method (sheets_off id) = method ≡ codes "CSS.disable"
 MayAnswer method (failed r) = ⊤
 
--- each of them may
+-- each of these moves may answer
 abbrev pub MayAnswerAll : List ℕ → List Move → Type 0
 MayAnswerAll method [] = ⊤
 MayAnswerAll method (m ∷ ms) = MayAnswer method m × MayAnswerAll method ms
@@ -215,7 +215,7 @@ abbrev pub IsTurn : Turn → Type 0
 IsTurn (acts act) = IsInsertable act × ActHasTexts act
 IsTurn (loads page) = CanLoadPage page × PageHasTexts page
 
--- and its steps, which answer nothing
+-- the steps of what a script may do, which answer nothing
 abbrev pub TurnsStepWell : Type 0
 TurnsStepWell =
     (state : State) (x : Turn) → IsState state → HasRoom state → IsTurn x

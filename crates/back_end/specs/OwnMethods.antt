@@ -46,7 +46,7 @@ edit_why edit_fault.BadName = BadName
 edit_why edit_fault.NoAttr = NoAttr
 edit_why edit_fault.NotContainer = NotContainer
 
--- and a change of its sheets
+-- what a change of the page's sheets is refused with: the name of the fault
 abbrev pub sheet_why : SheetFault → Why
 sheet_why sheet_fault.NoSheet = NoSheet
 sheet_why sheet_fault.NotMutable = NotMutable

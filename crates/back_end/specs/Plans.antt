@@ -15,8 +15,8 @@ use Rattle.page_forms.specs.declared.acts.Act.{Act}
 use Rattle.page_forms.specs.declared.acts.Act.TheVariants.{SetAttr, DropAttr, SetText, Insert, Remove, Move, AddSheet, DropSheet}
 use Rattle.page_forms.specs.declared.acts.Act.TheVariants.{ReplaceSheet}
 use Rattle.back_end.specs.declared.faults.ActFault.{ActFault}
-use Rattle.back_end.specs.declared.node_edits.NodeEdit.{NodeEdit}
-use Rattle.back_end.specs.declared.node_edits.NodeEdit.TheVariants.{One, MoveNode, CopyNode}
+use Rattle.back_end.specs.declared.node_edits.TreeWish.{TreeWish}
+use Rattle.back_end.specs.declared.node_edits.TreeWish.TheVariants.{One, MoveNode, CopyNode}
 use Rattle.back_end.specs.declared.faults.ActFault.TheVariants.{Edit, Sheet}
 use Rattle.back_end.specs.Sheets.{SheetChange, leaves, comes}
 
@@ -57,7 +57,7 @@ abbrev pub dropping : Option SheetEntry → List SheetChange
 dropping None = []
 dropping (Some e) = leaves e.id ∷ []
 
--- it goes, and one of the same origin comes
+-- the sheet that was named goes, and one of the same origin comes
 abbrev pub replacing : List ℕ → Option SheetEntry → List SheetChange
 replacing text None = []
 replacing text (Some e) = leaves e.id ∷ comes e.origin text ∷ []
@@ -95,20 +95,20 @@ act_plan (ReplaceSheet sheet text) page book = restyles (replacing text (sheet_n
 -- ---- a client's edits of the tree
 
 -- the fault of an edit, the first by number
-abbrev pub node_edit_fault : NodeEdit → PageValue → Option EditFault
+abbrev pub node_edit_fault : TreeWish → PageValue → Option EditFault
 node_edit_fault (One edit) page = first_fault edit page.tree
 node_edit_fault (MoveNode node parent before) page = move_fault node parent before page.tree
 node_edit_fault (CopyNode node parent before) page = copy_fault node parent before page.tree
 
 -- what one without a fault comes to
-abbrev pub node_edit_plan : NodeEdit → PageValue → Plan
+abbrev pub node_edit_plan : TreeWish → PageValue → Plan
 node_edit_plan (One edit) page = record { page = page; edits = edit ∷ [] }
 node_edit_plan (MoveNode node parent before) page = record { page = page; edits = move_edits node parent before page.tree }
 node_edit_plan (CopyNode node parent before) page =
     record { page = drawn (form_at node page.tree) page; edits = copy_edits node parent before page }
 
 -- the node that was moved, or the copy, which has the first serial that was drawn
-abbrev pub node_put : NodeEdit → PageValue → Option ℕ
+abbrev pub node_put : TreeWish → PageValue → Option ℕ
 node_put (One edit) page = None
 node_put (MoveNode node parent before) page = Some node
 node_put (CopyNode node parent before) page = Some page.next

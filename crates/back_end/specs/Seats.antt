@@ -4,7 +4,7 @@ use Rattle.node_tree.specs.Nodes.{Nodes, none}
 use Rattle.node_tree.specs.Keys.{has}
 use Rattle.page_tree.specs.Pages.{PageRow, row_serial}
 use Rattle.node_binding.specs.Bindings.{Stands}
-use Rattle.dom_breakpoints.specs.declared.pauses.WatchKind.TheVariants.{Subtree, Attribute, Removed}
+use Rattle.node_tree.specs.declared.watches.WatchKind.TheVariants.{Subtree, Attribute, Removed}
 use Rattle.dom_breakpoints.specs.declared.pauses.Pause.{Pause}
 use Rattle.dom_breakpoints.specs.Watched.{Watched, is_watched}
 use Rattle.page_forms.specs.declared.pages.PageForm.{PageForm}
@@ -28,12 +28,12 @@ pub record DeskStandsFor (desk : Desk) (side : PageSide) (state : State) : Type 
   pub stands : Stands (page_nodes state) state.client.session desk.agent
   pub watches_are : desk.watches ≡ state.client.watched
 
--- the same with a history, which keeps the edits of the state's
+-- a desk with its side and a history stand for a state: the history keeps the edits of the state's
 pub record BothStandFor (desk : Desk) (history : Marks Inverse) (side : PageSide) (state : State) : Type 0 where
   pub stands : DeskStandsFor desk side state
   pub kept : Keeps history state
 
--- the same of a seat
+-- a seat with its side stands for a state
 abbrev pub StandsFor : Seat → PageSide → State → Type 0
 StandsFor seat side state = BothStandFor seat.desk seat.history side state
 
@@ -51,7 +51,7 @@ pub record HasNumbersLeft (desk : Desk) (side : PageSide) : Type 0 where
 abbrev pub edits_in : Marks Inverse → ℕ
 edits_in history = entry_count history.past + entry_count history.future
 
--- and places are left in its history
+-- ids, serials, numbers of sheets and places in the history are left for a step
 pub record HasRoomLeft (seat : Seat) (side : PageSide) : Type 0 where
   pub numbers : HasNumbersLeft seat.desk side
   pub edits : edits_in seat.history < 2 ^ 30
@@ -63,7 +63,7 @@ pub record CanPush (serial : ℕ) (state : State) : Type 0 where
   pub begun : is_some state.client.session.opened ≡ true
   pub there : has row_serial serial (page_nodes state) ≡ true
 
--- where there is one
+-- the node that is named can become known, where there is one
 abbrev pub CanPushAny : Option ℕ → State → Type 0
 CanPushAny None state = ⊤
 CanPushAny (Some serial) state = CanPush serial state
@@ -72,11 +72,11 @@ CanPushAny (Some serial) state = CanPush serial state
 abbrev pub attribute_pause : ℕ → Pause
 attribute_pause node = record { kind = Attribute; node = node; target = None; insertion = false }
 
--- by a watch of a node that goes
+-- the pause by a watch of a node that goes
 abbrev pub removal_pause : ℕ → Pause
 removal_pause node = record { kind = Removed; node = node; target = None; insertion = false }
 
--- by a watch of what is below a node
+-- the pause by a watch of what is below a node
 abbrev pub subtree_watch_pause : ℕ → ℕ → Bool → Pause
 subtree_watch_pause node target insertion = record { kind = Subtree; node = node; target = Some target; insertion = insertion }
 

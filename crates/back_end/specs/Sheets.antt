@@ -11,7 +11,7 @@ use Rattle.sheet_reader.specs.contracts.book.SheetEntry as entry
 use Rattle.style_edits.specs.Edits.{new_sheet}
 use Rattle.page_forms.specs.declared.sheets.SheetForm.{SheetForm}
 use Rattle.page_forms.specs.Sheets.{max_sheets, max_sheet_bytes}
-use Rattle.cdp_messages.specs.Views.{ShownSheet}
+use Rattle.client_views.specs.Views.{ShownSheet}
 use Rattle.css_agent.specs.Told.{told_origin}
 
 -- ---- a sheet in the book, and as messages tell it

@@ -19,19 +19,16 @@ use Rattle.cdp_messages.specs.declared.command.Why.TheVariants.{DomOff, CssOff, 
 use Rattle.cdp_messages.specs.declared.command.Asked.{Asked}
 use Rattle.cdp_messages.specs.declared.command.Refused.{Refused}
 use Rattle.cdp_messages.specs.declared.dom_ask.DomAsk.{DomAsk}
-use Rattle.cdp_messages.specs.declared.dom_ask.DomAsk.TheVariants.{GetDocument, RequestChildNodes, PushByPath, PushBySerials, QuerySelector}
-use Rattle.cdp_messages.specs.declared.dom_ask.DomAsk.TheVariants.{QuerySelectorAll, GetAttributes, DescribeNode}
-use Rattle.cdp_messages.specs.declared.command.WatchWord.{WatchWord}
-use Rattle.cdp_messages.specs.declared.command.WatchWord.TheVariants as word
 use Rattle.cdp_messages.specs.declared.down.PauseData.{PauseData}
 use Rattle.cdp_messages.specs.declared.down.PauseData.TheVariants as told_pause
 use Rattle.cdp_messages.specs.declared.down.ReplyBody.{ReplyBody}
 use Rattle.cdp_messages.specs.declared.down.ReplyBody.TheVariants.{Nothing, NodeId}
-use Rattle.cdp_messages.specs.Asked.{asked}
+use Rattle.cdp_messages.specs.Asked.{asked, method_of}
+use Rattle.cdp_messages.specs.Methods.{domains_of, needs_dom, needs_both, turns_dom_on}
 use Rattle.sheet_reader.specs.declared.book.SheetEntry.{SheetEntry}
-use Rattle.cdp_messages.specs.Views.{ShownSheet, sheets_without, sheets_with_text}
-use Rattle.cdp_messages.specs.Moves.{Move, clear, met, rewritten, added, dropped, texted, replied, all_off, sheets_off, failed}
-use Rattle.cdp_messages.specs.Moves.{frames_of_moves}
+use Rattle.client_views.specs.Views.{ShownSheet, sheets_without, sheets_with_text}
+use Rattle.client_views.specs.Moves.{Move, clear, met, rewritten, added, dropped, texted, replied, all_off, sheets_off, failed}
+use Rattle.client_views.specs.Moves.{frames_of_moves}
 use Rattle.cdp_messages.specs.declared.css_ask.CssAsk.{CssAsk}
 use Rattle.cdp_messages.specs.declared.css_ask.CssAsk.TheVariants as css
 use Rattle.css_agent.specs.Asks.{css_outcome, answer_move, sheet_named}
@@ -44,12 +41,12 @@ use Rattle.dom_agent.specs.Requests.{pushed, opening_moves, Outcome, shows_root,
 use Rattle.dom_agent.specs.Edits.{Edited}
 use Rattle.dom_agent.specs.EditLaws.{session_edited}
 use Rattle.dom_agent.specs.Laws.{session_outcome}
-use Rattle.dom_breakpoints.specs.declared.pauses.WatchKind.{WatchKind}
-use Rattle.dom_breakpoints.specs.declared.pauses.WatchKind.TheVariants as watch
+use Rattle.node_tree.specs.declared.watches.WatchKind.{WatchKind}
+use Rattle.node_tree.specs.declared.watches.WatchKind.TheVariants as watch
 use Rattle.dom_breakpoints.specs.declared.pauses.Pause.{Pause}
 use Rattle.dom_breakpoints.specs.Pauses.{pause_of}
-use Rattle.dom_breakpoints.specs.Watched.{Watched, unwatched, with_watch, without_watch, without_subtree}
-use Rattle.undo_marks.specs.Marks.{Marks, no_marks, newest, edited, marked, crossed_over, undone, redone}
+use Rattle.dom_breakpoints.specs.Watched.{Watched, with_watch, without_watch, without_subtree}
+use Rattle.undo_marks.specs.Marks.{Marks, newest, edited, marked, crossed_over, undone, redone}
 use Rattle.undo_marks.specs.Changes.{HistoryEntry as Entry, changes_on, backs_of}
 use Rattle.undo_marks.specs.Saved.{Saved}
 use Rattle.undo_marks.specs.SavedEdits.{page_after, way_back}
@@ -58,10 +55,10 @@ use Rattle.undo_marks.specs.declared.inverse_lists.Inverse.TheVariants as kept
 use Rattle.back_end.specs.declared.faults.ActFault.{ActFault}
 use Rattle.cdp_messages.specs.declared.dom_edit.DomEdit.{DomEdit}
 use Rattle.cdp_messages.specs.declared.dom_edit.DomEdit.TheVariants as tree
-use Rattle.back_end.specs.declared.node_edits.NodeEdit.{NodeEdit}
-use Rattle.back_end.specs.declared.node_edits.NodeEdit.TheVariants.{One, MoveNode, CopyNode}
+use Rattle.back_end.specs.declared.node_edits.TreeWish.{TreeWish}
+use Rattle.back_end.specs.declared.node_edits.TreeWish.TheVariants.{One, MoveNode, CopyNode}
 use Rattle.back_end.specs.Sheets.{shown_sheet, SheetChange, leaves, comes}
-use Rattle.back_end.specs.States.{Side, Client, State, page_nodes, book_in, loaded_side, saved_now}
+use Rattle.back_end.specs.States.{Side, Client, State, page_nodes, book_in, styled_in, new_client, loaded_side, saved_now}
 use Rattle.back_end.specs.Plans.{Plan, node_edit_fault, node_edit_plan, node_put, Deed, edits, restyles, one_edit, edit_fault, act_fault}
 use Rattle.back_end.specs.Plans.{act_plan}
 use Rattle.back_end.specs.OwnMethods.{edit_why, sheet_why, load_asked, act_judged, act_asked}
@@ -77,15 +74,15 @@ pub record Step : Type 0 where
 
 -- a step that tells something first
 abbrev pub telling_first : List Move → Step → Step
-telling_first before later = record { state = later.state; moves = before ++ later.moves }
+telling_first before later = record later { moves = before ++ later.moves }
 
 -- a step that changes nothing, and tells a refusal
 abbrev pub refusing : Option ℕ → Why → State → Step
 refusing id why state = record { state = state; moves = failed (record { id = id; why = why }) ∷ [] }
 
--- the state with another client, and with another side
+-- the state with another client
 abbrev pub with_client : Client → State → State
-with_client client state = record { side = state.side; client = client }
+with_client client state = record state { client = client }
 
 -- a step that changes nothing, and tells nothing
 abbrev pub idle : State → Step
@@ -93,9 +90,9 @@ idle state = record { state = state; moves = [] }
 
 -- a step that is answered at last by this result
 abbrev pub replying : ℕ → ReplyBody → Step → Step
-replying id body done = record { state = done.state; moves = done.moves ++ replied id body ∷ [] }
+replying id body done = record done { moves = done.moves ++ replied id body ∷ [] }
 
--- by the empty result
+-- a step that is answered at last by the empty result
 abbrev pub answering : ℕ → Step → Step
 answering id done = replying id Nothing done
 
@@ -107,7 +104,7 @@ push_step serial state =
     let p = pushed (session_keeper (page_nodes state)) state.side.page.tree serial state.client.session in
     record { state = with_client (record state.client { session = p.state }) state; moves = opening_moves p.shown }
 
--- where there is one
+-- the node with that serial and all above it become known, where there is one
 abbrev pub push_steps : Option ℕ → State → Step
 push_steps None state = idle state
 push_steps (Some serial) state = push_step serial state
@@ -122,7 +119,7 @@ serial_now state id = serial_at state.client.session (page_nodes state) id
 
 -- ---- edits of the page
 
--- the SetBreakpoint that are left after an edit of that tree: those of a tree that goes are dropped
+-- the watches that are left after an edit of that tree: those of a tree that goes are dropped
 abbrev pub watches_left : TreeEdit → Branch PageRow → Watched → Watched
 watches_left (SetAttr node name value) tree w = w
 watches_left (DropAttr node name) tree w = w
@@ -130,7 +127,7 @@ watches_left (SetText node value) tree w = w
 watches_left (Attach parent before attached) tree w = w
 watches_left (Detach node) tree w = without_subtree node tree w
 
--- those of the state's client
+-- the watches of the state's client that are left after an edit of the page
 abbrev pub watched_after : TreeEdit → State → Watched
 watched_after e state = watches_left e state.side.page.tree state.client.watched
 
@@ -140,20 +137,11 @@ edited_by e state = session_edited e state.side.page state.client.session
 
 -- the state with another page
 abbrev pub with_page : PageValue → State → State
-with_page page state = record {
-  side = record { page = page; sheets = state.side.sheets; next_sheet = state.side.next_sheet };
-  client = state.client;
-}
+with_page page state = record state { side = record state.side { page = page } }
 
 -- the client after an edit
 abbrev pub client_edited : TreeEdit → State → Client
-client_edited e state = record {
-  dom_on = state.client.dom_on;
-  css_on = state.client.css_on;
-  session = (edited_by e state).state;
-  watched = watched_after e state;
-  marks = state.client.marks;
-}
+client_edited e state = record state.client { session = (edited_by e state).state; watched = watched_after e state }
 
 -- one edit of the page, with its events
 abbrev pub edit_step : TreeEdit → State → Step
@@ -205,14 +193,13 @@ script_steps (e ∷ es) state = followed_by (script_step e state) (script_steps 
 
 -- the page's side after a change of its sheets
 abbrev pub side_changed : SheetChange → Side → Side
-side_changed (leaves number) side = record { page = side.page; sheets = sheets_without number side.sheets; next_sheet = side.next_sheet }
-side_changed (comes origin text) side = record {
-  page = side.page;
+side_changed (leaves number) side = record side { sheets = sheets_without number side.sheets }
+side_changed (comes origin text) side = record side {
   sheets = side.sheets ++ shown_sheet side.next_sheet origin text ∷ [];
   next_sheet = side.next_sheet + 1;
 }
 
--- the move that tells it
+-- the move that tells a change of the sheets
 abbrev pub sheet_move : SheetChange → Side → Move
 sheet_move (leaves number) side = dropped number
 sheet_move (comes origin text) side = added (shown_sheet side.next_sheet origin text)
@@ -224,11 +211,11 @@ while_css state moves = cond state.client.css_on moves []
 -- one change of the sheets, with its event
 abbrev pub sheet_step : SheetChange → State → Step
 sheet_step change state = record {
-  state = record { side = side_changed change state.side; client = state.client };
+  state = record state { side = side_changed change state.side };
   moves = while_css state (sheet_move change state.side ∷ []);
 }
 
--- changes, one after the other
+-- changes of the sheets, one after the other
 abbrev pub sheet_steps : List SheetChange → State → Step
 sheet_steps [] state = record { state = state; moves = [] }
 sheet_steps (c ∷ cs) state = let first = sheet_step c state in telling_first first.moves (sheet_steps cs first.state)
@@ -240,18 +227,11 @@ abbrev pub splice_step : Splice → State → Step
 splice_step s state =
     let text = text_under s.sheet (after_splice s (book_in state)) in
     record {
-      state = record {
-        side = record {
-          page = state.side.page;
-          sheets = sheets_with_text s.sheet text state.side.sheets;
-          next_sheet = state.side.next_sheet;
-        };
-        client = state.client;
-      };
+      state = record state { side = record state.side { sheets = sheets_with_text s.sheet text state.side.sheets } };
       moves = while_css state (rewritten s.sheet text ∷ []);
     }
 
--- splices, one after the other
+-- splices of sheets' texts, one after the other
 abbrev pub splice_steps : List Splice → State → Step
 splice_steps [] state = idle state
 splice_steps (s ∷ ss) state = followed_by (splice_step s state) (splice_steps ss)
@@ -264,9 +244,8 @@ with_marks marks state = with_client (record state.client { marks = marks }) sta
 
 -- The step by which a client made these edits, from that state on: each is kept with the pages before and after it, all as one edit.
 abbrev pub keeping : List Inverse → State → Step → Step
-keeping es before done = record {
+keeping es before done = record done {
   state = with_marks (edited (changes_on page_after es (saved_now before)) before.client.marks) done.state;
-  moves = done.moves;
 }
 
 -- an edit out of a history: one of the tree, or a splice of a sheet's text
@@ -315,7 +294,7 @@ with_crossed state = with_marks (crossed_over state.client.marks) state
 
 -- a step that is not the client's
 abbrev pub crossing : Step → Step
-crossing done = record { state = with_crossed done.state; moves = done.moves }
+crossing done = record done { state = with_crossed done.state }
 
 -- edits of the page, from that with the drawn serials; or changes of its sheets
 abbrev pub deed_step : Deed → State → Step
@@ -337,19 +316,13 @@ lone_step e state = planned_step (edit_fault (first_fault e state.side.page.tree
 
 -- the client of a page that goes: nothing is known, the ids are dead, no node is watched and no edit kept
 abbrev pub client_reset : Bool → Client → Client
-client_reset on client = record {
-  dom_on = on;
-  css_on = client.css_on && on;
-  session = reset client.session;
-  watched = unwatched;
-  marks = no_marks;
-}
+client_reset on client = record new_client { dom_on = on; css_on = client.css_on && on; session = reset client.session }
 
 -- the moves that tell that sheets go, each by itself
 abbrev pub moves_gone : List ShownSheet → List Move
 moves_gone sheets = map (λ s. dropped s.number) sheets
 
--- and that sheets come
+-- the moves that tell that sheets come, each by itself
 abbrev pub moves_come : List ShownSheet → List Move
 moves_come sheets = map (λ s. added s) sheets
 
@@ -371,78 +344,40 @@ pub data Turn : Type 0 where
   acts : Act → Turn
   loads : LoadedPage → Turn
 
--- its step
+-- the step of what a script does by itself
 abbrev pub turn_step : Turn → State → Step
 turn_step (acts act) state = act_step act state
 turn_step (loads page) state = load_step page state
 
 -- ---- commands
 
--- an ask that is refused while DOM is off
-abbrev pub ask_needs_on : DomAsk → Bool
-ask_needs_on (GetDocument depth pierce) = false
-ask_needs_on (RequestChildNodes id depth pierce) = true
-ask_needs_on (PushByPath path) = true
-ask_needs_on (PushBySerials serials) = true
-ask_needs_on (QuerySelector id text) = true
-ask_needs_on (QuerySelectorAll id text) = true
-ask_needs_on (GetAttributes id) = true
-ask_needs_on (DescribeNode id serial depth pierce) = false
-
 -- a command that is refused while DOM is off
 abbrev pub needs_on : Command → Bool
-needs_on DomEnable = false
-needs_on DomDisable = true
-needs_on (AskDom ask) = ask_needs_on ask
-needs_on (EditDom edit) = true
-needs_on MarkUndoableState = true
-needs_on Undo = true
-needs_on Redo = true
-needs_on CssEnable = true
-needs_on CssDisable = true
-needs_on (AskCss ask) = true
-needs_on (EditCss edit) = true
-needs_on (SetBreakpoint node word) = true
-needs_on (RemoveBreakpoint node word) = true
-needs_on (ReplayLoad params) = false
-needs_on (ReplayAct params) = false
+needs_on c = needs_dom (domains_of (method_of c))
+
+-- an ask that is refused while DOM is off
+abbrev pub ask_needs_on : DomAsk → Bool
+ask_needs_on ask = needs_on (AskDom ask)
 
 -- a command that is refused while CSS is off
 abbrev pub needs_css : Command → Bool
-needs_css DomEnable = false
-needs_css DomDisable = false
-needs_css (AskDom ask) = false
-needs_css (EditDom edit) = false
-needs_css MarkUndoableState = false
-needs_css Undo = false
-needs_css Redo = false
-needs_css CssEnable = false
-needs_css CssDisable = true
-needs_css (AskCss ask) = true
-needs_css (EditCss edit) = true
-needs_css (SetBreakpoint node word) = false
-needs_css (RemoveBreakpoint node word) = false
-needs_css (ReplayLoad params) = false
-needs_css (ReplayAct params) = false
+needs_css c = needs_both (domains_of (method_of c))
+
+-- why a command is refused whatever it says, where DOM and CSS are on or off so: a domain that it needs is off
+abbrev pub missing : Bool → Bool → Command → Option Why
+missing dom_on css_on command = cond (needs_on command && not dom_on) (Some DomOff) (cond (needs_css command && not css_on) (Some CssOff) None)
 
 -- an ask that turns DOM on
 abbrev pub turns_on : DomAsk → Bool
-turns_on (GetDocument depth pierce) = true
-turns_on (RequestChildNodes id depth pierce) = false
-turns_on (PushByPath path) = false
-turns_on (PushBySerials serials) = false
-turns_on (QuerySelector id text) = false
-turns_on (QuerySelectorAll id text) = false
-turns_on (GetAttributes id) = false
-turns_on (DescribeNode id serial depth pierce) = false
+turns_on ask = turns_dom_on (domains_of (method_of (AskDom ask)))
 
--- the client after what its AskDom was asked: one whose ask was refused is as before
+-- the client after what its DOM agent was asked: one whose ask was refused is as before
 abbrev pub client_served : DomAsk → Outcome Session → Client → Client
 client_served ask (shows_root w b) client = record client { dom_on = client.dom_on || turns_on ask; session = w }
 client_served ask (served p body) client = record client { dom_on = client.dom_on || turns_on ask; session = p.state }
 client_served ask (refused why) client = client
 
--- the step on what the AskDom is asked
+-- the step on what the DOM agent is asked
 abbrev pub agent_step : ℕ → DomAsk → State → Step
 agent_step id ask state =
     let outcome = session_outcome state.side.page ask state.client.session in
@@ -455,7 +390,7 @@ abbrev pub element_serial : Option (Branch PageRow) → Result ℕ Why
 element_serial None = Err UnknownNode
 element_serial (Some b) = cond (is_element b.row.label.kind) (Ok b.row.serial) (Err NotElement)
 
--- that of the known node that has the id
+-- the serial of the known element that has the id, or why there is none
 abbrev pub element_named : ℕ → State → Result ℕ Why
 element_named node state =
     let w = state.client.session in
@@ -465,54 +400,54 @@ element_named node state =
 -- the move that answers an ask of the node that was named, or the refusal
 abbrev pub node_answer : ℕ → CssAsk → Result ℕ Why → State → Move
 node_answer id ask (Err why) state = failed (record { id = Some id; why = why })
-node_answer id ask (Ok serial) state = answer_move id (css_outcome state.side.page.tree (book_in state) serial ask)
+node_answer id ask (Ok serial) state = answer_move id (css_outcome (styled_in state) serial ask)
 
 -- the move that answers an ask for the text of a sheet
 abbrev pub text_answer : ℕ → Option SheetEntry → Move
 text_answer id None = failed (record { id = Some id; why = NoSheet })
 text_answer id (Some e) = texted id e.id e.text
 
--- the move that answers what the AskDom is asked
+-- the move that answers what the CSS agent is asked
 abbrev pub css_answer : ℕ → CssAsk → State → Move
 css_answer id (css.GetMatchedStyles node) state = node_answer id (css.GetMatchedStyles node) (element_named node state) state
 css_answer id (css.GetStyleSheetText sheet) state = text_answer id (sheet_named sheet (book_in state))
 css_answer id (css.CollectClassNames sheet) state =
-    answer_move id (css_outcome state.side.page.tree (book_in state) 0 (css.CollectClassNames sheet))
+    answer_move id (css_outcome (styled_in state) 0 (css.CollectClassNames sheet))
 
--- the step on what the CSS AskDom is asked
+-- the step on what the CSS agent is asked
 abbrev pub css_step : ℕ → CssAsk → State → Step
 css_step id ask state = record { state = state; moves = css_answer id ask state ∷ [] }
 
--- the step that turns the domain on: each sheet comes, where it was off
+-- the step that turns the domain CSS on: each sheet comes, where it was off
 abbrev pub css_on_step : ℕ → State → Step
 css_on_step id state = record {
   state = with_client (record state.client { css_on = true }) state;
   moves = cond state.client.css_on [] (moves_come state.side.sheets) ++ replied id Nothing ∷ [];
 }
 
--- the step that turns it off
+-- the step that turns the domain CSS off
 abbrev pub css_off_step : ℕ → State → Step
 css_off_step id state = record { state = with_client (record state.client { css_on = false }) state; moves = sheets_off id ∷ [] }
 
 -- ---- a client's edits of the tree
 
 -- an edit of one known node
-abbrev pub of_node : (ℕ → NodeEdit) → Option ℕ → Result NodeEdit Why
+abbrev pub of_node : (ℕ → TreeWish) → Option ℕ → Result TreeWish Why
 of_node edit None = Err UnknownNode
 of_node edit (Some node) = Ok (edit node)
 
 -- an edit that puts a node before a known one
-abbrev pub put_before_known : (ℕ → ℕ → ℕ → NodeEdit) → ℕ → ℕ → Option ℕ → Result NodeEdit Why
+abbrev pub put_before_known : (ℕ → ℕ → ℕ → TreeWish) → ℕ → ℕ → Option ℕ → Result TreeWish Why
 put_before_known edit node parent None = Err UnknownNode
 put_before_known edit node parent (Some before) = Ok (edit node parent before)
 
--- below a known one
-abbrev pub put_below : (ℕ → ℕ → ℕ → NodeEdit) → ℕ → Option ℕ → Option ℕ → Result NodeEdit Why
+-- an edit that puts a node below a known one, before a known one or last
+abbrev pub put_below : (ℕ → ℕ → ℕ → TreeWish) → ℕ → Option ℕ → Option ℕ → Result TreeWish Why
 put_below edit node None before = Err UnknownNode
 put_below edit node (Some parent) before = put_before_known edit node parent before
 
--- and is known itself
-abbrev pub put_node : (ℕ → ℕ → ℕ → NodeEdit) → Option ℕ → Option ℕ → Option ℕ → Result NodeEdit Why
+-- an edit that puts a known node below a known one, before a known one or last
+abbrev pub put_node : (ℕ → ℕ → ℕ → TreeWish) → Option ℕ → Option ℕ → Option ℕ → Result TreeWish Why
 put_node edit None parent before = Err UnknownNode
 put_node edit (Some node) parent before = put_below edit node parent before
 
@@ -531,7 +466,7 @@ lowered (tree.MoveTo node target before) = tree.MoveTo node target before
 lowered (tree.CopyTo node target before) = tree.CopyTo node target before
 
 -- an edit with its nodes by their serials, where each is known
-abbrev pub edit_named : (ℕ → Option ℕ) → DomEdit → Result NodeEdit Why
+abbrev pub edit_named : (ℕ → Option ℕ) → DomEdit → Result TreeWish Why
 edit_named serials (tree.SetAttributeValue node name value) = of_node (λ s. One (SetAttr s name value)) (serials node)
 edit_named serials (tree.RemoveAttribute node name) = of_node (λ s. One (DropAttr s name)) (serials node)
 edit_named serials (tree.SetNodeValue node value) = of_node (λ s. One (SetText s value)) (serials node)
@@ -550,18 +485,18 @@ put_answer id (Some node) done =
 abbrev pub plan_step : Plan → State → Step
 plan_step plan state = edit_steps plan.edits (with_page plan.page state)
 
--- the same by a client, whose edits are kept
+-- the edits of a plan made by a client, which are kept
 abbrev pub planned_by_client : Plan → State → Step
 planned_by_client plan state = keeping (map (λ e. kept.Tree e) plan.edits) state (plan_step plan state)
 
--- the step of an edit; of one that the page refuses
-abbrev pub unless_fault : ℕ → Option EditFault → NodeEdit → State → Step
+-- the step of a client's edit of the tree, or of one that the page refuses
+abbrev pub unless_fault : ℕ → Option EditFault → TreeWish → State → Step
 unless_fault id (Some f) edit state = refusing (Some id) (edit_why f) state
 unless_fault id None edit state = put_answer id (node_put edit state.side.page)
     (planned_by_client (node_edit_plan edit state.side.page) state)
 
--- of one whose nodes are known
-abbrev pub node_edit_step : ℕ → Result NodeEdit Why → State → Step
+-- the step of a client's edit whose nodes are known, or of one that names an unknown one
+abbrev pub node_edit_step : ℕ → Result TreeWish Why → State → Step
 node_edit_step id (Err why) state = refusing (Some id) why state
 node_edit_step id (Ok edit) state = unless_fault id (node_edit_fault edit state.side.page) edit state
 
@@ -571,7 +506,7 @@ tree_edit_step id edit state = node_edit_step id (edit_named (serial_now state) 
 
 -- ---- a client's edits of sheets
 
--- the step of an edit that came to this
+-- the step of an edit of sheets that came to this
 abbrev pub restyled_step : ℕ → CssEdited → List Splice → State → Step
 restyled_step id (Err f) splices state = refusing (Some id) (sheet_why f) state
 restyled_step id (Ok done) splices state = replying id done.body
@@ -581,15 +516,9 @@ restyled_step id (Ok done) splices state = replying id done.body
 abbrev pub sheet_edit_step : ℕ → CssEdit → State → Step
 sheet_edit_step id edit state = restyled_step id (css_edited (book_in state) edit) (css_splices (book_in state) edit) state
 
--- ---- SetBreakpoint
+-- ---- watches
 
--- the kind of a watch, by the word of a message
-abbrev pub watch_kind : WatchWord → WatchKind
-watch_kind word.Subtree = watch.Subtree
-watch_kind word.Attribute = watch.Attribute
-watch_kind word.Removed = watch.Removed
-
--- the SetBreakpoint are others, of a node that is known
+-- the watches of the client become others, by a command on a known node
 abbrev pub watch_step : ℕ → (ℕ → Watched → Watched) → Option ℕ → State → Step
 watch_step id change None state = refusing (Some id) UnknownNode state
 watch_step id change (Some node) state =
@@ -624,8 +553,8 @@ served_step id CssEnable state = css_on_step id state
 served_step id CssDisable state = css_off_step id state
 served_step id (AskCss ask) state = css_step id ask state
 served_step id (EditCss edit) state = sheet_edit_step id edit state
-served_step id (SetBreakpoint node word) state = watch_step id (with_watch (watch_kind word)) (serial_now state node) state
-served_step id (RemoveBreakpoint node word) state = watch_step id (without_watch (watch_kind word)) (serial_now state node) state
+served_step id (SetBreakpoint node word) state = watch_step id (with_watch word) (serial_now state node) state
+served_step id (RemoveBreakpoint node word) state = watch_step id (without_watch word) (serial_now state node) state
 served_step id (ReplayLoad params) state = own_step loads id (load_asked params) state
 served_step id (ReplayAct params) state = own_step acts id (act_asked params state.side.page (book_in state)) state
 

@@ -13,8 +13,8 @@ use Rattle.cdp_messages.specs.declared.command.Command.TheVariants.{CssEnable, C
 use Rattle.cdp_messages.specs.declared.command.Command.TheVariants.{ReplayLoad, ReplayAct}
 use Rattle.cdp_messages.specs.declared.dom_edit.DomEdit.{DomEdit}
 use Rattle.cdp_messages.specs.declared.dom_edit.DomEdit.TheVariants as dom
-use Rattle.back_end.specs.declared.node_edits.NodeEdit.{NodeEdit}
-use Rattle.back_end.specs.declared.node_edits.NodeEdit.TheVariants.{One, MoveNode, CopyNode}
+use Rattle.back_end.specs.declared.node_edits.TreeWish.{TreeWish}
+use Rattle.back_end.specs.declared.node_edits.TreeWish.TheVariants.{One, MoveNode, CopyNode}
 use Rattle.css_agent.specs.EditLaws.{HasEditTexts}
 use Rattle.dom_agent.specs.Laws.{RowsHaveUtf8}
 use Rattle.undo_marks.specs.declared.inverse_lists.Inverse.{Inverse}
@@ -62,7 +62,7 @@ HasServedTexts (ReplayLoad params) = HasUtf8 params
 HasServedTexts (ReplayAct params) = HasUtf8 params
 
 -- An edit with nodes by their serials: one alone attaches no tree of its own, and its texts are UTF-8.
-abbrev pub IsPlainEdit : NodeEdit → Type 0
+abbrev pub IsPlainEdit : TreeWish → Type 0
 IsPlainEdit (One edit) = EditHasTexts edit × ((next : ℕ) (tree : Branch PageRow) → IsReady next edit tree)
 IsPlainEdit (MoveNode node parent before) = ⊤
 IsPlainEdit (CopyNode node parent before) = ⊤

@@ -1,39 +1,28 @@
 // Watched nodes, and the pauses that a script's edits come to.
-ghost use Rattle.std.specs.Prelude.{◌≡◌, ◌++◌, OnOk};
-ghost use Rattle.cdp_messages.specs.Moves.{frames_of_moves};
+ghost use Rattle.std.specs.Prelude.{◌≡◌, ◌++◌, OnOk, true};
+ghost use Rattle.client_views.specs.Moves.{frames_of_moves};
 ghost use Rattle.back_end.specs.States.{State};
 ghost use Rattle.cdp_messages.specs.declared.command.Command.TheVariants as commands;
 ghost use Rattle.back_end.specs.Steps.{command_step};
-ghost use Rattle.back_end.specs.Steps as steps;
 ghost use Rattle.back_end.specs.Seats.{DeskStandsFor};
 
 use crate::desk::Desk;
 use crate::side::PageSide;
-use cdp_messages::{ReplyBody, WatchWord, Why, write_reply};
+use cdp_messages::{ReplyBody, Why, write_reply};
 use dom_breakpoints::WatchKind;
 use std::alloc::AllocError;
 
-/// The kind of a watch, by the word of a message.
-fn watch_kind(word: WatchWord) -> WatchKind
-    ensures { result ≡ steps.watch_kind word }
-{
-    match word {
-        WatchWord::Subtree => WatchKind::Subtree,
-        WatchWord::Attribute => WatchKind::Attribute,
-        WatchWord::Removed => WatchKind::Removed,
-    }
-}
-
 impl Desk {
-    /// `DOMDebugger.setDOMBreakpoint`, which is refused while DOM is off.
+    /// `DOMDebugger.setDOMBreakpoint`
     pub(crate) fn watch(
         &mut self,
         side: &mut PageSide,
         id: u64,
         node: u64,
-        kind: WatchWord,
+        kind: WatchKind,
         out: &mut Vec<u8>,
     ) -> Result<(), AllocError>
+        requires on { self.old.is_on ≡ true }
         ensures stands { (state : State) → DeskStandsFor self.old side.old state
             → OnOk result (DeskStandsFor self.new side.new (command_step id (commands.SetBreakpoint node kind) state).state) }
         ensures sent { (state : State) → DeskStandsFor self.old side.old state
@@ -42,25 +31,23 @@ impl Desk {
     {
         // The clauses alone speak of the page.
         let _ = side;
-        if !self.is_on {
-            return self.refuse(id, Why::DomOff, out);
-        }
         let Some(serial) = self.agent.serial_of(node) else {
             return self.refuse(id, Why::UnknownNode, out);
         };
-        self.watches.set(serial, watch_kind(kind))?;
+        self.watches.set(serial, kind)?;
         write_reply(self.alloc, id, &ReplyBody::Nothing, out)
     }
 
-    /// `DOMDebugger.removeDOMBreakpoint`, which is refused while DOM is off.
+    /// `DOMDebugger.removeDOMBreakpoint`
     pub(crate) fn unwatch(
         &mut self,
         side: &mut PageSide,
         id: u64,
         node: u64,
-        kind: WatchWord,
+        kind: WatchKind,
         out: &mut Vec<u8>,
     ) -> Result<(), AllocError>
+        requires on { self.old.is_on ≡ true }
         ensures stands { (state : State) → DeskStandsFor self.old side.old state
             → OnOk result (DeskStandsFor self.new side.new (command_step id (commands.RemoveBreakpoint node kind) state).state) }
         ensures sent { (state : State) → DeskStandsFor self.old side.old state
@@ -69,13 +56,10 @@ impl Desk {
     {
         // The clauses alone speak of the page.
         let _ = side;
-        if !self.is_on {
-            return self.refuse(id, Why::DomOff, out);
-        }
         let Some(serial) = self.agent.serial_of(node) else {
             return self.refuse(id, Why::UnknownNode, out);
         };
-        self.watches.remove(serial, watch_kind(kind));
+        self.watches.remove(serial, kind);
         write_reply(self.alloc, id, &ReplyBody::Nothing, out)
     }
 }

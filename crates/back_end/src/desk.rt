@@ -1,13 +1,13 @@
-ghost use Rattle.std.specs.Prelude.{◌≡◌, ◌<◌, ◌^◌, ◌++◌, ◌&&◌, ◌||◌, not, false, true, Some, OnOk};
+ghost use Rattle.std.specs.Prelude.{◌≡◌, ◌<◌, ◌^◌, ◌++◌, ◌&&◌, ◌||◌, not, false, true, Some, None, OnOk};
 ghost use Rattle.node_binding.specs.Bindings.{empty_from};
 ghost use Rattle.dom_breakpoints.specs.Watched.{unwatched};
 ghost use Rattle.cdp_messages.specs.DomAsks.{fits_ask};
 ghost use Rattle.cdp_messages.specs.Asked.{fits_command};
-ghost use Rattle.cdp_messages.specs.Moves.{frames_of_moves};
+ghost use Rattle.client_views.specs.Moves.{frames_of_moves};
 ghost use Rattle.back_end.specs.States.{State};
 ghost use Rattle.back_end.specs.Texts.{HasServedTexts};
 ghost use Rattle.cdp_messages.specs.declared.command.Command.TheVariants as commands;
-ghost use Rattle.back_end.specs.Steps.{ask_needs_on, command_step, frame_step, refusing, served_step};
+ghost use Rattle.back_end.specs.Steps.{ask_needs_on, command_step, frame_step, missing, refusing, served_step};
 ghost use Rattle.back_end.specs.Steps as steps;
 ghost use Rattle.back_end.specs.Seats.{BothStandFor, DeskStandsFor, HasNumbersLeft, edits_in};
 
@@ -30,37 +30,6 @@ pub(crate) struct Desk {
     pub(crate) css: CssAgent,
     pub(crate) agent: DomAgent,
     pub(crate) watches: Watches,
-}
-
-/// Whether an ask is refused while DOM is off.
-fn needs_on(ask: &DomAsk) -> bool
-    ensures { result ≡ ask_needs_on ask.now }
-{
-    match ask {
-        DomAsk::GetDocument { .. } | DomAsk::DescribeNode { .. } => false,
-        DomAsk::RequestChildNodes { .. }
-        | DomAsk::PushByPath { .. }
-        | DomAsk::PushBySerials { .. }
-        | DomAsk::QuerySelector { .. }
-        | DomAsk::QuerySelectorAll { .. }
-        | DomAsk::GetAttributes { .. } => true,
-    }
-}
-
-/// Whether an ask turns DOM on.
-fn turns_on(ask: &DomAsk) -> bool
-    ensures { result ≡ steps.turns_on ask.now }
-{
-    match ask {
-        DomAsk::GetDocument { .. } => true,
-        DomAsk::RequestChildNodes { .. }
-        | DomAsk::PushByPath { .. }
-        | DomAsk::PushBySerials { .. }
-        | DomAsk::QuerySelector { .. }
-        | DomAsk::QuerySelectorAll { .. }
-        | DomAsk::GetAttributes { .. }
-        | DomAsk::DescribeNode { .. } => false,
-    }
 }
 
 impl Desk {
@@ -104,6 +73,23 @@ impl Desk {
         }
     }
 
+    /// Why a command is refused whatever it says: a domain that it needs is off.
+    fn missing(&self, command: &Command) -> Option<Why>
+        ensures { result ≡ missing self.now.is_on self.now.css command.now }
+    {
+        let domains = command.method().domains();
+        let needs_on = domains.needs_dom();
+        if needs_on && !self.is_on {
+            return Some(Why::DomOff);
+        }
+        let needs_css = domains.needs_css();
+        let css_on = self.css.is_on();
+        if needs_css && !css_on {
+            return Some(Why::CssOff);
+        }
+        None
+    }
+
     /// Answers a command.
     fn answer(
         &mut self,
@@ -114,6 +100,32 @@ impl Desk {
         out: &mut Vec<u8>,
     ) -> Result<(), AllocError>
         requires command { fits_command command ≡ true }
+        requires texts { HasServedTexts command }
+        requires room { HasNumbersLeft self.old side.old }
+        requires few { edits_in history.old < 2 ^ 30 }
+        requires standing { ∥ ((state : State) × BothStandFor self.old history.old side.old state) ∥₁ }
+        ensures stands { (state : State) → BothStandFor self.old history.old side.old state
+            → OnOk result (BothStandFor self.new history.new side.new (command_step id command state).state) }
+        ensures sent { (state : State) → BothStandFor self.old history.old side.old state
+            → OnOk result (out.new.items ≡ out.old.items ++ frames_of_moves (command_step id command state).moves) }
+    {
+        match self.missing(&command) {
+            Some(why) => self.refuse(id, why, out),
+            None => self.serve(history, side, id, command, out),
+        }
+    }
+
+    /// Serves a command, where the domains are on that it needs.
+    fn serve(
+        &mut self,
+        history: &mut History,
+        side: &mut PageSide,
+        id: u64,
+        command: Command,
+        out: &mut Vec<u8>,
+    ) -> Result<(), AllocError>
+        requires command { fits_command command ≡ true }
+        requires met { missing self.old.is_on self.old.css command ≡ None }
         requires texts { HasServedTexts command }
         requires room { HasNumbersLeft self.old side.old }
         requires few { edits_in history.old < 2 ^ 30 }
@@ -167,7 +179,7 @@ impl Desk {
         Ok(())
     }
 
-    /// `DOM.disable`, which is refused while DOM is off.
+    /// `DOM.disable`
     fn disable(
         &mut self,
         history: &mut History,
@@ -175,14 +187,12 @@ impl Desk {
         id: u64,
         out: &mut Vec<u8>,
     ) -> Result<(), AllocError>
+        requires on { self.old.is_on ≡ true }
         ensures stands { (state : State) → BothStandFor self.old history.old side.old state
             → OnOk result (BothStandFor self.new history.new side.new (command_step id commands.DomDisable state).state) }
         ensures sent { (state : State) → DeskStandsFor self.old side.old state
             → OnOk result (out.new.items ≡ out.old.items ++ frames_of_moves (command_step id commands.DomDisable state).moves) }
     {
-        if !self.is_on {
-            return self.refuse(id, Why::DomOff, out);
-        }
         write_reply(self.alloc, id, &ReplyBody::Nothing, out)?;
         self.css.switch(false, side.book(), out)?;
         self.is_on = false;
@@ -192,18 +202,12 @@ impl Desk {
         Ok(())
     }
 
-    /// Whether the ask is refused since DOM is off.
-    fn is_refused(&self, ask: &DomAsk) -> bool
-        ensures { result ≡ (ask_needs_on ask.now && not self.now.is_on) }
-    {
-        needs_on(ask) && !self.is_on
-    }
-
     /// Whether DOM is on after an ask that was carried out.
     fn is_on_after(&self, ask: &DomAsk) -> bool
         ensures { result ≡ (self.now.is_on || steps.turns_on ask.now) }
     {
-        self.is_on || turns_on(ask)
+        let turns_on = ask.method().domains().turns_dom_on();
+        self.is_on || turns_on
     }
 
     fn ask_agent(
@@ -214,6 +218,7 @@ impl Desk {
         out: &mut Vec<u8>,
     ) -> Result<(), AllocError>
         requires ask { fits_ask ask.now ≡ true }
+        requires on { (ask_needs_on ask.now && not self.old.is_on) ≡ false }
         requires room { HasNumbersLeft self.old side.old }
         requires standing { ∥ ((state : State) × DeskStandsFor self.old side.old state) ∥₁ }
         ensures stands { (state : State) → DeskStandsFor self.old side.old state
@@ -221,9 +226,6 @@ impl Desk {
         ensures sent { (state : State) → DeskStandsFor self.old side.old state
             → OnOk result (out.new.items ≡ out.old.items ++ frames_of_moves (command_step id (commands.AskDom ask.now) state).moves) }
     {
-        if self.is_refused(ask) {
-            return self.refuse(id, Why::DomOff, out);
-        }
         self.agent.ask(side.page(), id, ask, out)?;
         self.is_on = self.is_on_after(ask);
         Ok(())

@@ -1,4 +1,15 @@
 //! The back end: the page's side, and a client's seat at it, which answers the client's frames and tells it what a script does.
+//!
+//! Promise: for every state that a seat and its side stand for, they stand after a call for the state that the step gives, and
+//! the frames appended are the step's. A refused frame or act changes nothing; after want of memory the seat is dead.
+//!
+//! Way in: `PageSide` for the page, its sheets and the numbers that are drawn; `Seat::take_message` for a client's frame,
+//! `Seat::script` for an act, `Seat::load` for another page.
+//!
+//! Laws, in src/laws.rt: `step_law` (after each step the state is valid, its moves lead from what the client saw to what it
+//! sees, a frame is answered once under its id) and `undo_law` (an undo leads to the very tree and texts that were saved, a redo
+//! to those after). A state stands in specs/States, each step in specs/Steps, when a seat stands for a state in specs/Seats,
+//! room in specs/Laws.
 #![tactic(auto)]
 
 mod breakpoints;

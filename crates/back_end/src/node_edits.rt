@@ -14,7 +14,7 @@ use std::alloc::{AllocError, Global};
 
 /// What a client wants changed in the page's tree, with nodes by their serials; `before` is 0 for the last place.
 #[derive(Drop)]
-pub(crate) enum NodeEdit {
+pub(crate) enum TreeWish {
     /// One edit of the tree.
     One { edit: TreeEdit },
     /// A node, with all below it, moves to another place.
@@ -57,9 +57,9 @@ pub(crate) fn lowered(alloc: Global, edit: DomEdit) -> Result<DomEdit, AllocErro
     }
 }
 
-impl NodeEdit {
+impl TreeWish {
     /// The edit with nodes by their serials, where each is known.
-    pub(crate) fn named(edit: DomEdit, agent: &DomAgent) -> Result<NodeEdit, Why>
+    pub(crate) fn named(edit: DomEdit, agent: &DomAgent) -> Result<TreeWish, Why>
         ensures { result ≡ edit_named (map.get agent.now.serials) edit }
     {
         match edit {
@@ -68,44 +68,44 @@ impl NodeEdit {
                     return Err(Why::UnknownNode);
                 };
                 let edit = TreeEdit::SetAttr { node, name, value };
-                Ok(NodeEdit::One { edit })
+                Ok(TreeWish::One { edit })
             }
             DomEdit::RemoveAttribute { node, name } => {
                 let Some(node) = agent.serial_of(node) else {
                     return Err(Why::UnknownNode);
                 };
                 let edit = TreeEdit::DropAttr { node, name };
-                Ok(NodeEdit::One { edit })
+                Ok(TreeWish::One { edit })
             }
             DomEdit::SetNodeValue { node, value } => {
                 let Some(node) = agent.serial_of(node) else {
                     return Err(Why::UnknownNode);
                 };
                 let edit = TreeEdit::SetText { node, value };
-                Ok(NodeEdit::One { edit })
+                Ok(TreeWish::One { edit })
             }
             DomEdit::RemoveNode { node } => {
                 let Some(node) = agent.serial_of(node) else {
                     return Err(Why::UnknownNode);
                 };
                 let edit = TreeEdit::Detach { node };
-                Ok(NodeEdit::One { edit })
+                Ok(TreeWish::One { edit })
             }
             DomEdit::MoveTo {
                 node,
                 target,
                 before,
-            } => NodeEdit::moved(agent, node, target, before),
+            } => TreeWish::moved(agent, node, target, before),
             DomEdit::CopyTo {
                 node,
                 target,
                 before,
-            } => NodeEdit::copied(agent, node, target, before),
+            } => TreeWish::copied(agent, node, target, before),
         }
     }
 
     /// A move of the node that has the id, where all its nodes are known.
-    fn moved(agent: &DomAgent, node: u64, target: u64, before: Option<u64>) -> Result<NodeEdit, Why>
+    fn moved(agent: &DomAgent, node: u64, target: u64, before: Option<u64>) -> Result<TreeWish, Why>
         ensures { result ≡ edit_named (map.get agent.now.serials) (MoveTo node target before) }
     {
         let Some(node) = agent.serial_of(node) else {
@@ -117,7 +117,7 @@ impl NodeEdit {
         let Some(before) = before_of(agent, before) else {
             return Err(Why::UnknownNode);
         };
-        Ok(NodeEdit::MoveNode {
+        Ok(TreeWish::MoveNode {
             node,
             parent,
             before,
@@ -130,7 +130,7 @@ impl NodeEdit {
         node: u64,
         target: u64,
         before: Option<u64>,
-    ) -> Result<NodeEdit, Why>
+    ) -> Result<TreeWish, Why>
         ensures { result ≡ edit_named (map.get agent.now.serials) (CopyTo node target before) }
     {
         let Some(node) = agent.serial_of(node) else {
@@ -142,7 +142,7 @@ impl NodeEdit {
         let Some(before) = before_of(agent, before) else {
             return Err(Why::UnknownNode);
         };
-        Ok(NodeEdit::CopyNode {
+        Ok(TreeWish::CopyNode {
             node,
             parent,
             before,
@@ -154,13 +154,13 @@ impl NodeEdit {
         ensures { result ≡ node_edit_fault self.now page.now }
     {
         match self {
-            NodeEdit::One { edit } => page.fault(edit),
-            NodeEdit::MoveNode {
+            TreeWish::One { edit } => page.fault(edit),
+            TreeWish::MoveNode {
                 node,
                 parent,
                 before,
             } => page.move_fault(*node, *parent, *before),
-            NodeEdit::CopyNode {
+            TreeWish::CopyNode {
                 node,
                 parent,
                 before,

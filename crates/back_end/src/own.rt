@@ -5,7 +5,7 @@ ghost use Rattle.cdp_json.specs.Plain.{HasUtf8};
 ghost use Rattle.page_forms.specs.Acts.{IsInsertable};
 ghost use Rattle.page_forms.specs.Pages.{loaded_page, CanLoadPage};
 ghost use Rattle.cdp_messages.specs.Answers.{Commands};
-ghost use Rattle.cdp_messages.specs.Moves.{frames_of_moves};
+ghost use Rattle.client_views.specs.Moves.{frames_of_moves};
 ghost use Rattle.back_end.specs.OwnMethods.{act_why, edit_why, sheet_why, load_why, load_asked, act_read, Finds};
 ghost use Rattle.cdp_messages.specs.declared.command.Command.TheVariants as commands;
 ghost use Rattle.back_end.specs.States.{State};

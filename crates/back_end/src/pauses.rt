@@ -2,7 +2,7 @@
 ghost use Rattle.std.specs.Prelude.{◌≡◌, ◌<◌, ◌+◌, ◌^◌, ◌++◌, ◌∷◌, [], ◌≤◌, Some, IfOk, OnOk};
 ghost use Rattle.page_tree.specs.EditFaults.{CanApply};
 ghost use Rattle.page_tree.specs.Edits.{after, back_tree};
-ghost use Rattle.cdp_messages.specs.Moves.{met, frames_of_moves};
+ghost use Rattle.client_views.specs.Moves.{met, frames_of_moves};
 ghost use Rattle.back_end.specs.States.{State, page_nodes};
 ghost use Rattle.back_end.specs.Steps.{id_now, pause_before, pause_step, push_step, script_step};
 ghost use Rattle.back_end.specs.Texts.{EditHasTexts};

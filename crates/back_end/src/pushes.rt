@@ -1,6 +1,6 @@
 // A node becomes known at a seat.
 ghost use Rattle.std.specs.Prelude.{◌≤◌, ◌+◌, ◌≡◌, ◌<◌, ◌^◌, ◌++◌, IfOk, OnOk};
-ghost use Rattle.cdp_messages.specs.Moves.{frames_of_moves};
+ghost use Rattle.client_views.specs.Moves.{frames_of_moves};
 ghost use Rattle.back_end.specs.States.{State};
 ghost use Rattle.back_end.specs.Steps.{id_now, push_step};
 ghost use Rattle.back_end.specs.Seats.{CanPush, DeskStandsFor};

@@ -4,7 +4,7 @@ ghost use Rattle.page_tree.specs.EditFaults.{CanApply, CanInsert, IsReady, first
 ghost use Rattle.page_tree.specs.Edits.{after, back_tree};
 ghost use Rattle.page_forms.specs.Acts.{IsInsertable};
 ghost use Rattle.page_forms.specs.Pages.{loaded_page, CanLoadPage};
-ghost use Rattle.cdp_messages.specs.Moves.{clear, frames_of_moves};
+ghost use Rattle.client_views.specs.Moves.{clear, frames_of_moves};
 ghost use Rattle.back_end.specs.States.{State};
 ghost use Rattle.back_end.specs.Plans.{edit_fault, act_fault};
 ghost use Rattle.back_end.specs.Steps.{act_step, edit_step, load_step, lone_step, watches_left};

@@ -4,7 +4,7 @@ ghost use Rattle.node_binding.specs.Bindings.{empty_from};
 ghost use Rattle.dom_breakpoints.specs.Watched.{unwatched};
 ghost use Rattle.page_forms.specs.Acts.{IsInsertable};
 ghost use Rattle.page_forms.specs.Pages.{loaded_page, CanLoadPage};
-ghost use Rattle.cdp_messages.specs.Moves.{frames_of_moves};
+ghost use Rattle.client_views.specs.Moves.{frames_of_moves};
 ghost use Rattle.back_end.specs.States.{State};
 ghost use Rattle.back_end.specs.Plans.{act_fault};
 ghost use Rattle.back_end.specs.Steps.{act_step, frame_step, load_step};

@@ -7,7 +7,7 @@ ghost use Rattle.style_edits.specs.Edits.{is_too_big};
 ghost use Rattle.css_agent.specs.Asks.{sheet_named};
 ghost use Rattle.css_agent.specs.Told.{told_header, event_messages, turn_messages, message_frames};
 ghost use Rattle.cdp_messages.specs.Events.{sheet_added};
-ghost use Rattle.cdp_messages.specs.Moves.{dropped, frames_of_moves};
+ghost use Rattle.client_views.specs.Moves.{dropped, frames_of_moves};
 ghost use Rattle.page_forms.specs.declared.acts.Act.TheVariants as Act;
 ghost use Rattle.back_end.specs.Sheets.{leaves, comes};
 ghost use Rattle.back_end.specs.States.{State};

@@ -1,6 +1,6 @@
 // A client's edits of sheets.
-ghost use Rattle.std.specs.Prelude.{◌≡◌, ◌+◌, ◌<◌, ◌^◌, ◌++◌, map, length, OnOk};
-ghost use Rattle.cdp_messages.specs.Moves.{frames_of_moves};
+ghost use Rattle.std.specs.Prelude.{◌≡◌, ◌+◌, ◌<◌, ◌^◌, ◌++◌, map, length, OnOk, true};
+ghost use Rattle.client_views.specs.Moves.{frames_of_moves};
 ghost use Rattle.css_agent.specs.EditLaws.{HasEditTexts};
 ghost use Rattle.undo_marks.specs.Marks.{entry_count, noted_singly};
 ghost use Rattle.undo_marks.specs.declared.inverse_lists.Inverse.TheVariants as kept;
@@ -12,7 +12,7 @@ ghost use Rattle.back_end.specs.Seats.{BothStandFor, DeskStandsFor, HasNumbersLe
 use crate::desk::Desk;
 use crate::own::sheet_why;
 use crate::side::PageSide;
-use cdp_messages::{CssEdit, Why};
+use cdp_messages::CssEdit;
 use std::alloc::AllocError;
 use style_edits::{SheetErr, Splice};
 use undo_marks::{History, Inverse};
@@ -29,7 +29,7 @@ fn note_splices(history: &mut History, backs: Vec<Splice>) -> Result<(), AllocEr
 }
 
 impl Desk {
-    /// A client's edit of sheets, which is refused while DOM or CSS is off.
+    /// A client's edit of sheets.
     pub(crate) fn answer_sheet_edit(
         &mut self,
         history: &mut History,
@@ -38,6 +38,8 @@ impl Desk {
         edit: &CssEdit,
         out: &mut Vec<u8>,
     ) -> Result<(), AllocError>
+        requires on { self.old.is_on ≡ true }
+        requires css { self.old.css ≡ true }
         requires texts { HasEditTexts edit.now }
         requires room { HasNumbersLeft self.old side.old }
         requires few { edits_in history.old < 2 ^ 30 }
@@ -46,12 +48,6 @@ impl Desk {
         ensures sent { (state : State) → DeskStandsFor self.old side.old state
             → OnOk result (out.new.items ≡ out.old.items ++ frames_of_moves (command_step id (commands.EditCss edit.now) state).moves) }
     {
-        if !self.is_on {
-            return self.refuse(id, Why::DomOff, out);
-        }
-        if !self.css.is_on() {
-            return self.refuse(id, Why::CssOff, out);
-        }
         match side.sheets.edit(&self.css, id, edit, out) {
             Ok(backs) => note_splices(history, backs),
             Err(SheetErr::Fault(fault)) => self.refuse(id, sheet_why(fault), out),

@@ -1,7 +1,7 @@
 // The page's sheets, each under a number of its own.
 ghost use Rattle.std.specs.Prelude.{◌≡◌, ◌<◌, ◌^◌, ◌+◌, ◌++◌, ◌∷◌, [], None, Ok, Err, false, true, OnOk, OnErr, IfOk, IfErr, IsSome};
 ghost use Rattle.std.specs.Prelude.{length, nat_lt};
-ghost use Rattle.cdp_messages.specs.Moves.{frames_of_moves};
+ghost use Rattle.client_views.specs.Moves.{frames_of_moves};
 ghost use Rattle.css_agent.specs.Edits.{css_edited, edit_moves, edit_splices};
 ghost use Rattle.sheet_reader.specs.Books.{entry_of, removed};
 ghost use Rattle.style_edits.specs.declared.faults.SheetFault.TheVariants.{NoSheet, TooBig};

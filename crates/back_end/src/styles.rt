@@ -1,10 +1,9 @@
 // The commands of the domain CSS.
-ghost use Rattle.std.specs.Prelude.{◌≡◌, ◌++◌, IfOk, IsSome, OnOk};
+ghost use Rattle.std.specs.Prelude.{◌≡◌, ◌++◌, IfOk, IsSome, OnOk, true};
 ghost use Rattle.std.specs.FinMap as map;
 ghost use Rattle.node_tree.specs.Nodes.{alone};
-ghost use Rattle.node_tree.specs.Labels.{is_element};
 ghost use Rattle.page_tree.specs.Pages.{find_in};
-ghost use Rattle.cdp_messages.specs.Moves.{frames_of_moves};
+ghost use Rattle.client_views.specs.Moves.{frames_of_moves};
 ghost use Rattle.cdp_messages.specs.declared.css_ask.CssAsk.TheVariants.{GetMatchedStyles};
 ghost use Rattle.dom_agent.specs.Keepers.{binding_keeper};
 ghost use Rattle.dom_agent.specs.Requests.{known_node};
@@ -16,18 +15,16 @@ ghost use Rattle.back_end.specs.Seats.{DeskStandsFor};
 use crate::desk::Desk;
 use crate::side::PageSide;
 use cdp_messages::{CssAsk, ReplyBody, Why, write_reply};
+use media_rules::{Medium, MediumKind};
 use node_binding::find_in;
-use page_tree::{Kind, Page};
+use page_tree::Page;
 use std::alloc::AllocError;
 
-fn is_element(kind: Kind) -> bool
-    ensures { result ≡ is_element kind }
-{
-    match kind {
-        Kind::Element => true,
-        Kind::Document | Kind::Text | Kind::Comment | Kind::Doctype => false,
-    }
-}
+/// The medium that every page is shown on.
+const FIRST_MEDIUM: Medium = Medium {
+    kind: MediumKind::Screen,
+    width: 1280,
+};
 
 impl Desk {
     /// `CSS.enable`: each sheet comes, where CSS was off.
@@ -37,36 +34,30 @@ impl Desk {
         id: u64,
         out: &mut Vec<u8>,
     ) -> Result<(), AllocError>
+        requires on { self.old.is_on ≡ true }
         ensures stands { (state : State) → DeskStandsFor self.old side.old state
             → OnOk result (DeskStandsFor self.new side.new (command_step id commands.CssEnable state).state) }
         ensures sent { (state : State) → DeskStandsFor self.old side.old state
             → OnOk result (out.new.items ≡ out.old.items ++ frames_of_moves (command_step id commands.CssEnable state).moves) }
     {
-        if !self.is_on {
-            return self.refuse(id, Why::DomOff, out);
-        }
         self.css.switch(true, side.book(), out)?;
         write_reply(self.alloc, id, &ReplyBody::Nothing, out)
     }
 
-    /// `CSS.disable`, which is refused while CSS is off.
+    /// `CSS.disable`
     pub(crate) fn disable_css(
         &mut self,
         side: &mut PageSide,
         id: u64,
         out: &mut Vec<u8>,
     ) -> Result<(), AllocError>
+        requires on { self.old.is_on ≡ true }
+        requires css { self.old.css ≡ true }
         ensures stands { (state : State) → DeskStandsFor self.old side.old state
             → OnOk result (DeskStandsFor self.new side.new (command_step id commands.CssDisable state).state) }
         ensures sent { (state : State) → DeskStandsFor self.old side.old state
             → OnOk result (out.new.items ≡ out.old.items ++ frames_of_moves (command_step id commands.CssDisable state).moves) }
     {
-        if !self.is_on {
-            return self.refuse(id, Why::DomOff, out);
-        }
-        if !self.css.is_on() {
-            return self.refuse(id, Why::CssOff, out);
-        }
         write_reply(self.alloc, id, &ReplyBody::Nothing, out)?;
         self.css.switch(false, side.book(), out)
     }
@@ -83,7 +74,7 @@ impl Desk {
         let Some(found) = find_in(page, serial) else {
             return Err(Why::UnknownNode);
         };
-        if !is_element(found.kind()) {
+        if !found.kind().is_element() {
             return Err(Why::NotElement);
         }
         Ok(serial)
@@ -102,9 +93,15 @@ impl Desk {
     {
         let ask = CssAsk::GetMatchedStyles { node };
         match self.element_named(side.page(), node) {
-            Ok(serial) => self
-                .css
-                .ask(side.page(), side.book(), serial, id, &ask, out),
+            Ok(serial) => self.css.ask(
+                side.page(),
+                side.book(),
+                serial,
+                id,
+                &ask,
+                out,
+                &FIRST_MEDIUM,
+            ),
             Err(why) => self.refuse(id, why, out),
         }
     }
@@ -123,12 +120,13 @@ impl Desk {
         match ask {
             CssAsk::GetMatchedStyles { node } => self.answer_matched(side, id, *node, out),
             CssAsk::GetStyleSheetText { .. } | CssAsk::CollectClassNames { .. } => {
-                self.css.ask(side.page(), side.book(), 0, id, ask, out)
+                self.css
+                    .ask(side.page(), side.book(), 0, id, ask, out, &FIRST_MEDIUM)
             }
         }
     }
 
-    /// What the CSS agent is asked, which is refused while CSS is off.
+    /// What the CSS agent is asked.
     pub(crate) fn answer_styles(
         &mut self,
         side: &mut PageSide,
@@ -136,17 +134,13 @@ impl Desk {
         ask: &CssAsk,
         out: &mut Vec<u8>,
     ) -> Result<(), AllocError>
+        requires on { self.old.is_on ≡ true }
+        requires css { self.old.css ≡ true }
         ensures stands { (state : State) → DeskStandsFor self.old side.old state
             → OnOk result (DeskStandsFor self.new side.new (command_step id (commands.AskCss ask.now) state).state) }
         ensures sent { (state : State) → DeskStandsFor self.old side.old state
             → OnOk result (out.new.items ≡ out.old.items ++ frames_of_moves (command_step id (commands.AskCss ask.now) state).moves) }
     {
-        if !self.is_on {
-            return self.refuse(id, Why::DomOff, out);
-        }
-        if !self.css.is_on() {
-            return self.refuse(id, Why::CssOff, out);
-        }
         self.ask_styles(side, id, ask, out)
     }
 }

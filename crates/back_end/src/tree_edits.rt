@@ -6,8 +6,8 @@ ghost use Rattle.undo_marks.specs.Changes.{back_all};
 ghost use Rattle.undo_marks.specs.Marks.{entry_count, noted, noted_singly};
 ghost use Rattle.undo_marks.specs.SavedEdits.{saved_of, page_after, way_back};
 ghost use Rattle.undo_marks.specs.declared.inverse_lists.Inverse.TheVariants as kept;
-ghost use Rattle.cdp_messages.specs.Moves.{frames_of_moves};
-ghost use Rattle.back_end.specs.declared.node_edits.NodeEdit.TheVariants.{MoveNode, CopyNode};
+ghost use Rattle.client_views.specs.Moves.{frames_of_moves};
+ghost use Rattle.back_end.specs.declared.node_edits.TreeWish.TheVariants.{MoveNode, CopyNode};
 ghost use Rattle.back_end.specs.States.{State};
 ghost use Rattle.back_end.specs.Plans.{node_edit_fault, node_edit_plan, node_put};
 ghost use Rattle.cdp_messages.specs.declared.command.Command.TheVariants as commands;
@@ -16,11 +16,11 @@ ghost use Rattle.back_end.specs.Steps.{command_step, edit_step, idle, node_edit_
 ghost use Rattle.back_end.specs.Seats.{BothStandFor, CanPushAny, DeskStandsFor, HasNumbersLeft, edits_in};
 
 use crate::desk::Desk;
-use crate::node_edits::{NodeEdit, lowered};
+use crate::node_edits::{TreeWish, lowered};
 use crate::own::edit_why;
 use crate::side::PageSide;
 use crate::trees::copied_tree;
-use cdp_messages::{DomEdit, ReplyBody, Why, write_reply};
+use cdp_messages::{DomEdit, ReplyBody, write_reply};
 use page_tree::TreeEdit;
 use std::alloc::AllocError;
 use undo_marks::{History, Inverse};
@@ -127,7 +127,7 @@ impl Desk {
         &mut self,
         history: &mut History,
         side: &mut PageSide,
-        edit: NodeEdit,
+        edit: TreeWish,
         out: &mut Vec<u8>,
     ) -> Result<Option<u64>, AllocError>
         requires fits { node_edit_fault edit side.old.page ≡ None }
@@ -145,11 +145,11 @@ impl Desk {
             → OnOk result (out.new.items ≡ out.old.items ++ frames_of_moves (plan_step (node_edit_plan edit state.side.page) state).moves) }
     {
         match edit {
-            NodeEdit::One { edit } => {
+            TreeWish::One { edit } => {
                 self.apply_by_client(history, side, edit, out)?;
                 Ok(None)
             }
-            NodeEdit::MoveNode {
+            TreeWish::MoveNode {
                 node,
                 parent,
                 before,
@@ -157,7 +157,7 @@ impl Desk {
                 self.put_moved(history, side, node, parent, before, out)?;
                 Ok(Some(node))
             }
-            NodeEdit::CopyNode {
+            TreeWish::CopyNode {
                 node,
                 parent,
                 before,
@@ -198,7 +198,7 @@ impl Desk {
         history: &mut History,
         side: &mut PageSide,
         id: u64,
-        edit: NodeEdit,
+        edit: TreeWish,
         out: &mut Vec<u8>,
     ) -> Result<(), AllocError>
         requires plain { IsPlainEdit edit }
@@ -216,7 +216,7 @@ impl Desk {
         self.answer_put(side, id, put, out)
     }
 
-    /// A client's edit of the tree, which is refused while DOM is off.
+    /// A client's edit of the tree.
     pub(crate) fn answer_tree_edit(
         &mut self,
         history: &mut History,
@@ -225,6 +225,7 @@ impl Desk {
         edit: DomEdit,
         out: &mut Vec<u8>,
     ) -> Result<(), AllocError>
+        requires on { self.old.is_on ≡ true }
         requires texts { HasTreeTexts edit }
         requires room { HasNumbersLeft self.old side.old }
         requires notes { edits_in history.old < 2 ^ 30 }
@@ -233,11 +234,8 @@ impl Desk {
         ensures sent { (state : State) → DeskStandsFor self.old side.old state
             → OnOk result (out.new.items ≡ out.old.items ++ frames_of_moves (command_step id (commands.EditDom edit) state).moves) }
     {
-        if !self.is_on {
-            return self.refuse(id, Why::DomOff, out);
-        }
         let edit = lowered(self.alloc, edit)?;
-        match NodeEdit::named(edit, &self.agent) {
+        match TreeWish::named(edit, &self.agent) {
             Ok(edit) => self.answer_node_edit(history, side, id, edit, out),
             Err(why) => self.refuse(id, why, out),
         }

@@ -1,9 +1,9 @@
 // A client takes its edits back, and does them again.
-ghost use Rattle.std.specs.Prelude.{◌≡◌, ◌+◌, ◌<◌, ◌^◌, ◌++◌, map, length, IfOk, OnOk};
+ghost use Rattle.std.specs.Prelude.{◌≡◌, ◌+◌, ◌<◌, ◌^◌, ◌++◌, map, length, IfOk, OnOk, true};
 ghost use Rattle.style_edits.specs.Splices.{FitsSplice, after_splice, back_splice};
 ghost use Rattle.undo_marks.specs.Changes.{AllTaken, after_all, back_all};
 ghost use Rattle.undo_marks.specs.SavedEdits.{saved_of, saved_sheet, page_after, way_back, TakesSheet};
-ghost use Rattle.cdp_messages.specs.Moves.{frames_of_moves};
+ghost use Rattle.client_views.specs.Moves.{frames_of_moves};
 ghost use Rattle.back_end.specs.States.{State, TakesWell};
 ghost use Rattle.cdp_messages.specs.declared.command.Command.TheVariants as commands;
 ghost use Rattle.back_end.specs.Steps.{command_step, kept_step, kept_steps, splice_step};
@@ -17,7 +17,7 @@ use style_edits::Splice;
 use undo_marks::{History, Inverse, Popped};
 
 impl Desk {
-    /// `DOM.markUndoableState`, which is refused while DOM is off.
+    /// `DOM.markUndoableState`
     pub(crate) fn end_group(
         &mut self,
         history: &mut History,
@@ -25,6 +25,7 @@ impl Desk {
         id: u64,
         out: &mut Vec<u8>,
     ) -> Result<(), AllocError>
+        requires on { self.old.is_on ≡ true }
         ensures stands { (state : State) → BothStandFor self.old history.old side.old state
             → OnOk result (BothStandFor self.new history.new side.new (command_step id commands.MarkUndoableState state).state) }
         ensures sent { (state : State) → DeskStandsFor self.old side.old state
@@ -32,9 +33,6 @@ impl Desk {
     {
         // The clauses alone speak of the page.
         let _ = side;
-        if !self.is_on {
-            return self.refuse(id, Why::DomOff, out);
-        }
         history.mark();
         write_reply(self.alloc, id, &ReplyBody::Nothing, out)
     }
@@ -130,7 +128,7 @@ impl Desk {
         Ok(backs)
     }
 
-    /// `DOM.undo`, which is refused while DOM is off, and where a change that is not the client's emptied the history.
+    /// `DOM.undo`, which is refused where a change that is not the client's emptied the history.
     pub(crate) fn undo(
         &mut self,
         history: &mut History,
@@ -138,6 +136,7 @@ impl Desk {
         id: u64,
         out: &mut Vec<u8>,
     ) -> Result<(), AllocError>
+        requires on { self.old.is_on ≡ true }
         requires room { HasNumbersLeft self.old side.old }
         requires few { edits_in history.old < 2 ^ 30 }
         requires standing { ∥ ((state : State) × BothStandFor self.old history.old side.old state) ∥₁ }
@@ -146,9 +145,6 @@ impl Desk {
         ensures sent { (state : State) → BothStandFor self.old history.old side.old state
             → OnOk result (out.new.items ≡ out.old.items ++ frames_of_moves (command_step id commands.Undo state).moves) }
     {
-        if !self.is_on {
-            return self.refuse(id, Why::DomOff, out);
-        }
         match history.pop_undo() {
             Popped::Group(edits) => {
                 let backs = self.apply_all(side, edits.into_vec(), out)?;
@@ -168,6 +164,7 @@ impl Desk {
         id: u64,
         out: &mut Vec<u8>,
     ) -> Result<(), AllocError>
+        requires on { self.old.is_on ≡ true }
         requires room { HasNumbersLeft self.old side.old }
         requires few { edits_in history.old < 2 ^ 30 }
         requires standing { ∥ ((state : State) × BothStandFor self.old history.old side.old state) ∥₁ }
@@ -176,9 +173,6 @@ impl Desk {
         ensures sent { (state : State) → BothStandFor self.old history.old side.old state
             → OnOk result (out.new.items ≡ out.old.items ++ frames_of_moves (command_step id commands.Redo state).moves) }
     {
-        if !self.is_on {
-            return self.refuse(id, Why::DomOff, out);
-        }
         match history.pop_redo() {
             Popped::Group(edits) => {
                 let backs = self.apply_all(side, edits.into_vec(), out)?;

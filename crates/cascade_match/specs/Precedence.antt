@@ -16,7 +16,8 @@ origin_rank Regular = 1
 abbrev pub key_of : Origin → Spec → ℕ → ℕ → Key
 key_of origin spec sheet rule = record { origin = origin_rank origin; a = spec.a; b = spec.b; c = spec.c; sheet = sheet; rule = rule }
 
--- by origin; then by specificity, ids before classes before types; then by the sheet's place; then by the rule's place in it
+-- keys in their order: by origin; then by specificity, ids before classes before types; then by the sheet's place; then by the rule's
+-- place in it
 abbrev pub key_cmp : Key → Key → Ordering
 key_cmp x y =
     ordering_then (nat_cmp x.origin y.origin)

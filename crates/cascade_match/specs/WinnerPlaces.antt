@@ -12,7 +12,8 @@ pub record PlacedDecl : Type 0 where
   pub name : List ℕ
   pub rank : ℕ
 
--- it is declared: the blocks have a block at that place, which has a declaration of that name and rank at its place
+-- a declaration by its place is one of the blocks: they have a block at that place, which has a declaration of that name and rank at its
+-- place
 pub record IsDeclared (blocks : List Block) (d : PlacedDecl) : Type 0 where
   pub among : Block
   pub decl : Decl
@@ -21,7 +22,7 @@ pub record IsDeclared (blocks : List Block) (d : PlacedDecl) : Type 0 where
   pub name : d.name ≡ decl.name
   pub rank : d.rank ≡ rank_of among.origin decl.important
 
--- by rank, then by block, then by the place in the block
+-- one declaration is below another: by rank, then by block, then by the place in the block
 abbrev pub IsBelow : PlacedDecl → PlacedDecl → Type 0
 IsBelow d e = (d.rank < e.rank) ⊎ ((d.rank ≡ e.rank) × ((d.block < e.block) ⊎ ((d.block ≡ e.block) × (d.place < e.place))))
 
@@ -29,11 +30,11 @@ IsBelow d e = (d.rank < e.rank) ⊎ ((d.rank ≡ e.rank) × ((d.block < e.block)
 abbrev pub IsGreatest : List Block → PlacedDecl → Type 0
 IsGreatest blocks d = (e : PlacedDecl) → IsDeclared blocks e → e.name ≡ d.name → (e ≡ d) ⊎ IsBelow e d
 
--- its number, counted from 0, among all declarations, one block behind the other
+-- a declaration's number, counted from 0, among all declarations, one block behind the other
 abbrev pub number_of : List Block → PlacedDecl → ℕ
 number_of blocks d = length (flat_map (λ b. b.declarations) (take d.block blocks)) + d.place
 
--- it is declared and was told to win
+-- a declaration of the blocks that was told to win
 pub record IsWinner (blocks : List Block) (d : PlacedDecl) : Type 0 where
   pub declared : IsDeclared blocks d
   pub told : slice_get (wins blocks) (number_of blocks d) ≡ Some true

@@ -1,5 +1,15 @@
 //! The cascade (CSS Cascade 4, section 6, in a profile): which style rules match an element, in the order in which they count,
 //! and which declaration of a name wins.
+//!
+//! Promise: `matched` is all pairs of a sheet and a style rule of which some selector matches, in the order of the key (origin,
+//! specificity, the sheet's place, the rule's place), each with the places of its matching selectors; `winners` marks for each
+//! declaration whether it wins.
+//!
+//! Way in: `matched` for an element of a page and a book of sheets, `winners` for the blocks of an element.
+//!
+//! Laws, in src/laws.rt: `order_law` (the keys ascend, so none stands twice), `standing_law` (what stands in the list is what
+//! stands for the rules that apply), `places_law` (the same of matching selectors) and `winner_law` (a winner is above each
+//! other declaration of its name). The key stands in specs/Precedence, what a winner is in specs/Winning.
 #![tactic(auto)]
 
 mod blocks;
@@ -7,6 +17,7 @@ mod hits;
 mod keys;
 mod laws;
 mod matching;
+mod media_held;
 mod winning;
 
 pub use blocks::{Block, Decl, Declarations};

@@ -19,7 +19,7 @@ field_from reads (Some d) = field_if (reads d)
 abbrev pub field_of : {T : Type 0} → (Data → Option T) → List ℕ → Members → Field T
 field_of reads name ms = field_from reads (get_member name ms)
 
--- the same field with f applied to its value, where it has one
+-- a field with f applied to its value, where it has one
 abbrev pub field_map : {S T : Type 0} → (S → T) → Field S → Field T
 field_map f Missing = Missing
 field_map f WrongKind = WrongKind

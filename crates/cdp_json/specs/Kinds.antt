@@ -116,7 +116,7 @@ any_object = record { spell = object; reads = as_object; fits = λ _. true; loos
 
 -- ---- kinds made of a kind
 
--- those of k that pass a test, as a rule across the fields of an object
+-- the values of k that pass a test, as a rule across the fields of an object
 abbrev pub refined : {T : Type 0} → Kind T → (T → Bool) → Kind T
 refined k test = record {
   spell = k.spell;

@@ -20,7 +20,7 @@ number_is_plain (float x) = false
 
 -- each number is a whole one of 64 bits, and the names of each object ascend by bytes
 abbrev mutual
-  -- it is so of a value
+  -- each number of a value is a whole one of 64 bits, and the names of each object in it ascend by bytes
   pub is_plain : Data → Bool
   is_plain null = true
   is_plain (boolean b) = true
@@ -34,14 +34,14 @@ abbrev mutual
   items_are_plain no_items = true
   items_are_plain (item d ds) = is_plain d && items_are_plain ds
 
-  -- and of the members of an object
+  -- the values of an object's members are plain, and their names ascend by bytes
   pub members_are_plain : Members → Bool
   members_are_plain no_members = true
   members_are_plain (member k d ms) = is_plain d && (starts_after k ms && members_are_plain ms)
 
 -- each text and each name is UTF-8
 abbrev mutual
-  -- it is so of a value
+  -- each text and each name of a value is UTF-8
   pub HasUtf8 : Data → Type 0
   HasUtf8 null = ⊤
   HasUtf8 (boolean b) = ⊤
@@ -55,7 +55,7 @@ abbrev mutual
   ItemsHaveUtf8 no_items = ⊤
   ItemsHaveUtf8 (item d ds) = HasUtf8 d × ItemsHaveUtf8 ds
 
-  -- and of the members of an object
+  -- each text and each name of an object's members is UTF-8
   pub MembersHaveUtf8 : Members → Type 0
   MembersHaveUtf8 no_members = ⊤
   MembersHaveUtf8 (member k d ms) = IsUtf8 k × HasUtf8 d × MembersHaveUtf8 ms

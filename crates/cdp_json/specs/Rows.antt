@@ -79,7 +79,7 @@ unit_if b = if b then Some tt else None
 abbrev pub ends : Row ⊤
 ends = record { names = []; writes = λ _. []; gets = λ ms. unit_if (is_done ms); fits = λ _. true; loose = None }
 
--- then the later fields
+-- a field's value, and then the later fields
 abbrev pub and_then : {A B : Type 0} → (Members → Option B) → Option (A × Members) → Option (A × B)
 and_then gets found = option_and_then (λ p. option_map (λ b. (p.0, b)) (gets p.1)) found
 

@@ -50,7 +50,7 @@ use Rattle.cdp_messages.specs.Answers.{ReadsAsked}
 use Rattle.cdp_messages.specs.Events.{is_object, watch}
 use Rattle.cdp_messages.specs.Refusals.{param_name}
 use Rattle.cdp_messages.specs.declared.command.ReadErr.{ReadErr}
-use Rattle.cdp_messages.proofs.Options.{both, both_parts, and_then_some}
+use Rattle.cdp_json.proofs.Options.{both, both_parts, and_then_some}
 use Rattle.cdp_messages.proofs.Messages.{json_of-compact_text}
 use Rattle.cdp_messages.proofs.NewsLaws.{watch_lawful}
 

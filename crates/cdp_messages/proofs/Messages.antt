@@ -37,8 +37,8 @@ use Rattle.cdp_messages.specs.declared.result_forms.ResultForm.{ResultForm}
 use Rattle.cdp_messages.specs.declared.result_forms.ResultForm.TheVariants as form
 use Rattle.cdp_messages.specs.Refusals.{code_of, refusal_words}
 use Rattle.node_tree.specs.Labels.{Pair}
-use Rattle.cdp_messages.specs.declared.node_rules.Manner.TheVariants.{Pushed, Described}
-use Rattle.cdp_messages.specs.NodeData.{fits_tree, fits_described_tree}
+use Rattle.dom_objects.specs.declared.node_rules.Manner.TheVariants.{Pushed, Described}
+use Rattle.dom_objects.specs.NodeData.{fits_tree, fits_described_tree}
 use Rattle.cdp_messages.specs.Asked.{json_of, request}
 use Rattle.cdp_messages.specs.Events.{is_object, news_in}
 use Rattle.cdp_messages.specs.Replies.{Message, reply, fault, event, reply_kind, error_kind, fault_kind, reply_from, fault_from}
@@ -46,16 +46,17 @@ use Rattle.cdp_messages.specs.Replies.{message_data, fits_message, message_in, b
 use Rattle.cdp_messages.specs.Replies.{result_of_method, result_of, refusal_message}
 use Rattle.node_tree.specs.Keys.{first_of}
 use Rattle.cdp_messages.specs.Methods.{method_named}
-use Rattle.cdp_messages.specs.Results.{nothing_kind, root_kind, node_kind, id_kind, ids_kind, are_attributes, attributes_kind, result_form}
+use Rattle.cdp_messages.specs.Results.{nothing_kind, root_kind, node_kind, id_kind, ids_kind, are_attributes, attributes_kind}
+use Rattle.cdp_messages.specs.Methods.{result_form}
 use Rattle.cdp_messages.specs.Results.{first_field, all_forms, is_form}
-use Rattle.cdp_messages.specs.NodeObject.{flat}
+use Rattle.dom_objects.specs.NodeObject.{flat}
 use Rattle.cdp_messages.specs.Laws.{RepliesAreRead, EventsAreRead, RefusalsAreRead, MessagesAreRead, FaultsAreRead, ObjectsAreEmpty}
 use Rattle.cdp_messages.specs.Laws.{has_result, answers, ResultsAreRead, MessagesAreSpelled, Spells, ResultsAreSpelled, OneMessage}
 use Rattle.cdp_messages.specs.Laws.{OneResult, ValuesAreRead, SpellingsAreRead}
-use Rattle.cdp_messages.proofs.Options.{both, both_parts, map_some}
+use Rattle.cdp_json.proofs.Options.{both, both_parts, map_some}
 use Rattle.cdp_messages.proofs.FrameBytes.{json_is}
-use Rattle.cdp_messages.proofs.NodeObjects.{attributes_lawful, flat_fits}
-use Rattle.cdp_messages.proofs.NodeTrees.{document_lawful, described_lawful, tree_plain}
+use Rattle.dom_objects.proofs.NodeObjects.{attributes_lawful, flat_fits}
+use Rattle.dom_objects.proofs.NodeTrees.{document_lawful, described_lawful, tree_plain}
 use Rattle.cdp_messages.proofs.NewsLaws.{news_again, news_take, news_plain}
 
 -- ---- the descriptions are lawful

@@ -1,5 +1,5 @@
 -- Events are read as they are written.
-use Rattle.std.proofs.Common.{◌≡◌, ℕ, Bool, true, Option, Some, None, option_map, option_and_then, refl, sym, ap, ◌∙◌, subst}
+use Rattle.std.proofs.Common.{◌≡◌, ℕ, Bool, true, Option, Some, None, option_map, option_and_then, refl, sym, ap, ◌∙◌, subst, lt-ltb}
 use Rattle.std.specs.Prelude.{nat_lt, ⊤}
 use Rattle.serde_json.specs.Data.{Data, Items, no_items, item}
 use Rattle.node_tree.specs.Names.{is_attribute_name}
@@ -11,22 +11,27 @@ use Rattle.cdp_json.proofs.KindLaws.{named_is, whole_lawful, text_lawful, flag_l
 use Rattle.cdp_json.proofs.KindLaws.{through_lawful, choice_lawful, only_text_lawful}
 use Rattle.cdp_json.proofs.RowLaws.{ends_lawful, and_need_lawful, and_may_lawful, object_lawful}
 use Rattle.css_objects.proofs.Objects.{sheet_sound, header_sound}
-use Rattle.cdp_messages.specs.declared.command.WatchWord.{WatchWord}
-use Rattle.cdp_messages.specs.declared.command.WatchWord.TheVariants.{Subtree, Attribute, Removed}
+use Rattle.node_tree.specs.declared.watches.WatchKind.{WatchKind}
+use Rattle.node_tree.specs.declared.watches.WatchKind.TheVariants.{Subtree, Attribute, Removed}
 use Rattle.cdp_messages.specs.declared.down.PauseData.{PauseData}
 use Rattle.cdp_messages.specs.declared.down.PauseData.TheVariants as pause
 use Rattle.cdp_messages.specs.declared.event_names.EventName.{EventName}
 use Rattle.cdp_messages.specs.declared.event_names.EventName.TheVariants as name
 use Rattle.cdp_messages.specs.Events.{News, attribute_modified, attribute_removed, text_modified, count_updated, inserted, removed}
 use Rattle.cdp_messages.specs.Events.{set_children, document_updated, sheet_added, sheet_changed, sheet_removed, paused, event_name}
-use Rattle.cdp_messages.specs.Events.{all_events, event_named, shows_no_children, node_id, attribute_name, modified_kind, dropped_kind}
+use Rattle.cdp_messages.specs.Events.{all_events, event_named, node_id, attribute_name, modified_kind, dropped_kind}
+use Rattle.dom_objects.specs.NodeKinds.{shows_no_children}
 use Rattle.cdp_messages.specs.Events.{data_kind, count_kind, inserted_kind, removed_kind, children_kind, added_kind, sheet_id_kind}
-use Rattle.cdp_messages.specs.Events.{empty_kind, watch_name, all_watches, watch, pause_fields, pause_by, pause_from, pause_kind}
+use Rattle.cdp_messages.specs.Events.{empty_kind, all_watches, watch, pause_fields, pause_by, pause_from, pause_kind}
+use Rattle.node_tree.specs.Watches.{watch_name}
 use Rattle.cdp_messages.specs.Events.{paused_kind, NewsForm, news_form_of, news_form, envelope, news_data, fits_news, news_by, news_of_name}
 use Rattle.cdp_messages.specs.Events.{news_inside, news_in, no_call_frames}
 use Rattle.css_objects.specs.Styles.{has_none}
-use Rattle.cdp_messages.proofs.Options.{and_then_some, map_some}
-use Rattle.cdp_messages.proofs.NodeTrees.{nodes_lawful, tree_lawful}
+use Rattle.cdp_json.proofs.Options.{and_then_some, map_some, both}
+use Rattle.dom_objects.proofs.NodeTrees.{nodes_lawful, tree_lawful}
+use Rattle.dom_objects.specs.Told.{told_nodes}
+use Rattle.cdp_messages.specs.Laws.{ShownChildrenFit}
+use Rattle.dom_objects.proofs.TellableLaws.{fits-told_nodes}
 
 -- ---- the parameters
 
@@ -72,7 +77,7 @@ added_lawful = object_lawful (and_need_lawful _ header_sound.lawful ends_lawful 
 sheet_id_lawful : LawfulKind sheet_id_kind
 sheet_id_lawful = object_lawful (and_need_lawful _ sheet_sound.lawful ends_lawful refl)
 
-pub first_watch : (w : WatchWord) → named watch_name all_watches (watch_name w) ≡ Some w
+pub first_watch : (w : WatchKind) → named watch_name all_watches (watch_name w) ≡ Some w
 first_watch Subtree = refl
 first_watch Attribute = refl
 first_watch Removed = refl
@@ -80,7 +85,7 @@ first_watch Removed = refl
 pub watch_lawful : LawfulKind watch
 watch_lawful = choice_lawful watch_name all_watches first_watch
 
-pause_only : (w : WatchWord) (insertion : Option Bool) (target : Option ℕ) (node : ℕ) (x : PauseData)
+pause_only : (w : WatchKind) (insertion : Option Bool) (target : Option ℕ) (node : ℕ) (x : PauseData)
     → pause_by w insertion target node ≡ Some x → pause_fields x ≡ (insertion, (node, (target, (w, tt))))
 pause_only Subtree (Some b) (Some t) node x e = ap pause_fields (sym (same_some (pause.Subtree node t b) x e))
 pause_only Subtree (Some b) None node x e = absurd cc
@@ -218,3 +223,8 @@ news_take d n e =
 
 pub news_plain : (n : News) → fits_news n ≡ true → is_plain (news_data n) ≡ true
 news_plain n f = envelope_lawful.plain (event_name (news_form n).name, ((news_form n).params, tt)) refl (news_params_plain n f)
+
+pub shown_children_fit : ShownChildrenFit
+shown_children_fit p n c z s =
+    let positive : nat_lt 0 p ≡ true = lt-ltb 0 p z in
+    both (fits-told_nodes p n c positive s) (both (both c positive) refl)

@@ -13,7 +13,7 @@ use Rattle.serde_json.specs.Data.{Members, no_members, member}
 use Rattle.serde_json.specs.Written.{number_text, comma_if, compact_text, items_text, members_text}
 use Rattle.cdp_json.specs.Plain.{number_is_plain, is_plain, items_are_plain, starts_after, members_are_plain}
 use Rattle.cdp_messages.specs.Laws.{TextsHaveNoZero}
-use Rattle.cdp_messages.proofs.Options.{both_parts}
+use Rattle.cdp_json.proofs.Options.{both_parts}
 
 abbrev Above : List ℕ → Type 0
 Above = AllByRecursion (λ b. 0 < b)

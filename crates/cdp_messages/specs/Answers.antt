@@ -1,5 +1,5 @@
 -- What the readers answer, beside the definitions; want of memory may come at any time.
-use Rattle.std.specs.Prelude.{◌≡◌, Option, Some, None, Result, Ok, Err, ⊤}
+use Rattle.std.specs.Prelude.{◌≡◌, Result, Ok, Err, ⊤}
 use Rattle.cdp_messages.specs.declared.command.Asked.{Asked}
 use Rattle.cdp_messages.specs.declared.command.ReadErr.{ReadErr}
 use Rattle.cdp_messages.specs.declared.command.ReadErr.TheVariants as read_err
@@ -7,8 +7,7 @@ use Rattle.cdp_messages.specs.declared.command.CommandErr.{CommandErr}
 use Rattle.cdp_messages.specs.declared.command.CommandErr.TheVariants as command_err
 use Rattle.cdp_messages.specs.declared.command.Why.{Why}
 use Rattle.cdp_messages.specs.declared.command.Refused.{Refused}
-use Rattle.cdp_messages.specs.declared.down.DownErr.{DownErr}
-use Rattle.cdp_messages.specs.declared.down.DownErr.TheVariants.{NotMessage, Memory}
+use Rattle.dom_objects.specs.declared.down_err.DownErr.TheVariants.{Memory}
 
 -- a command is answered as what was asked, a refusal as what is refused
 abbrev pub ReadsAsked : Result Asked ReadErr → Result Asked Refused → Type 0
@@ -21,9 +20,3 @@ abbrev pub Commands : {T : Type 0} → Result T CommandErr → Result T Why → 
 Commands (Ok c) r = r ≡ Ok c
 Commands (Err (command_err.Refused why)) r = r ≡ Err why
 Commands (Err command_err.Memory) r = ⊤
-
--- Ok tells, as f sees it, what was read; NotMessage comes exactly where nothing is
-abbrev pub GivesMessage : {T X : Type 0} → (T → X) → Result T DownErr → Option X → Type 0
-GivesMessage f (Ok t) r = r ≡ Some (f t)
-GivesMessage f (Err NotMessage) r = r ≡ None
-GivesMessage f (Err Memory) r = ⊤

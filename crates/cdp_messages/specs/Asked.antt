@@ -122,7 +122,7 @@ command_text id method params session = compact_text (command_value id method pa
 abbrev pub method_of : Command → Method
 method_of c = (parameters_form c).method
 
--- and its name
+-- the name of a command's method
 abbrev pub method_name : Command → List ℕ
 method_name c = name_of (method_of c)
 

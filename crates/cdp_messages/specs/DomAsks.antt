@@ -4,7 +4,7 @@ use Rattle.cdp_messages.specs.declared.command.Command.TheVariants.{AskDom}
 use Rattle.cdp_messages.specs.declared.dom_ask.DomAsk.{DomAsk}
 use Rattle.cdp_messages.specs.Asked.{method_name, fits_command}
 
--- its method's name
+-- the name of the method of an ask
 abbrev pub ask_name : DomAsk → List ℕ
 ask_name a = method_name (AskDom a)
 

@@ -1,5 +1,5 @@
 -- Events: what the back end tells unasked.
-use Rattle.std.specs.Prelude.{ℕ, List, [], ◌∷◌, codes, Bool, true, false, not, nat_lt, Option, Some, None, option_map, option_and_then, ⊤}
+use Rattle.std.specs.Prelude.{ℕ, List, [], ◌∷◌, codes, Bool, true, false, nat_lt, Option, Some, None, option_map, option_and_then, ⊤}
 use Rattle.std.specs.Borrow.{Bor}
 use Rattle.serde_json.specs.Data.{Data, null, boolean, number, string, array, object, Items, no_items}
 use Rattle.serde_json.specs.View.{view, items_view}
@@ -8,9 +8,8 @@ use Rattle.cdp_json.specs.Kinds.{Kind, whole, text, flag, anything, any_items, o
 use Rattle.cdp_json.specs.Rows.{ends, and_need, and_may, object_of, unit_if}
 use Rattle.node_tree.specs.Names.{is_attribute_name}
 use Rattle.node_tree.specs.Nodes.{Nodes, Branch, nodes_of}
-use Rattle.node_tree.specs.Seen.{is_opened}
-use Rattle.cdp_messages.specs.declared.command.WatchWord.{WatchWord}
-use Rattle.cdp_messages.specs.declared.command.WatchWord.TheVariants.{Subtree, Attribute, Removed}
+use Rattle.node_tree.specs.declared.watches.WatchKind.{WatchKind}
+use Rattle.node_tree.specs.declared.watches.WatchKind.TheVariants.{Subtree, Attribute, Removed}
 use Rattle.cdp_messages.specs.declared.down.Event.{Event}
 use Rattle.css_objects.specs.declared.sheets.Header.{Header}
 use Rattle.css_objects.specs.Sheets.{sheet_kind, header_kind}
@@ -22,10 +21,10 @@ use Rattle.cdp_messages.specs.declared.down.PauseData.{PauseData}
 use Rattle.cdp_messages.specs.declared.down.PauseData.TheVariants as pause
 use Rattle.cdp_messages.specs.declared.event_names.EventName.{EventName}
 use Rattle.cdp_messages.specs.declared.event_names.EventName.TheVariants as name
-use Rattle.cdp_messages.specs.declared.node_rules.Manner.TheVariants.{Pushed}
-use Rattle.cdp_messages.specs.Told.{Told}
-use Rattle.cdp_messages.specs.NodeData.{tree_data, tree_told, tree_items, trees_told, fits_tree, fits_nodes}
+use Rattle.dom_objects.specs.Told.{Told}
 use Rattle.css_objects.specs.Styles.{has_none}
+use Rattle.dom_objects.specs.NodeKinds.{nodes_kind, bare_kind}
+use Rattle.node_tree.specs.Watches.{watch_name}
 
 -- what an event tells
 pub data News : Type 0 where
@@ -108,22 +107,6 @@ event_named = named event_name all_events
 
 -- ---- the parameters
 
--- nodes that are no document, each with all that is shown of it
-abbrev pub nodes_kind : Kind (Nodes Told)
-nodes_kind = record { spell = λ n. array (tree_items n); reads = trees_told Pushed; fits = fits_nodes; loose = None }
-
--- one such node
-abbrev pub tree_kind : Kind (Branch Told)
-tree_kind = record { spell = tree_data; reads = tree_told Pushed false; fits = fits_tree false; loose = None }
-
--- no children are shown
-abbrev pub shows_no_children : Branch Told → Bool
-shows_no_children b = not (is_opened b.row.seen.hold)
-
--- one such node, none of whose children are shown
-abbrev pub bare_kind : Kind (Branch Told)
-bare_kind = refined tree_kind shows_no_children
-
 -- an id of a node: from 1
 abbrev pub node_id : Kind ℕ
 node_id = refined whole (nat_lt 0)
@@ -173,23 +156,17 @@ added_kind = object_of (and_need (codes "header") header_kind ends)
 abbrev pub sheet_id_kind : Kind (ℕ × ⊤)
 sheet_id_kind = object_of (and_need (codes "styleSheetId") sheet_kind ends)
 
--- what is watched of a node, by its word
-abbrev pub watch_name : WatchWord → List ℕ
-watch_name Subtree = codes "subtree-modified"
-watch_name Attribute = codes "attribute-modified"
-watch_name Removed = codes "node-removed"
-
 -- each of the words
-abbrev pub all_watches : List WatchWord
+abbrev pub all_watches : List WatchKind
 all_watches = Subtree ∷ Attribute ∷ Removed ∷ []
 
 -- what is watched, as JSON
-abbrev pub watch : Kind WatchWord
+abbrev pub watch : Kind WatchKind
 watch = choice watch_name all_watches
 
 -- the fields of a pause: whether the target was put in, the node that is watched, the target, and what is watched
 abbrev pub PauseFields : Type 0
-PauseFields = Option Bool × (ℕ × (Option ℕ × (WatchWord × ⊤)))
+PauseFields = Option Bool × (ℕ × (Option ℕ × (WatchKind × ⊤)))
 
 -- a pause as its fields
 abbrev pub pause_fields : PauseData → PauseFields
@@ -198,7 +175,7 @@ pause_fields (pause.Attribute node) = (None, (node, (None, (Attribute, tt))))
 pause_fields (pause.Removed node) = (None, (node, (None, (Removed, tt))))
 
 -- the pause of these fields: a target is there for a subtree alone, and so is whether it was put in
-abbrev pub pause_by : WatchWord → Option Bool → Option ℕ → ℕ → Option PauseData
+abbrev pub pause_by : WatchKind → Option Bool → Option ℕ → ℕ → Option PauseData
 pause_by Subtree (Some insertion) (Some target) node = Some (pause.Subtree node target insertion)
 pause_by Subtree (Some insertion) None node = None
 pause_by Subtree None target node = None
@@ -314,7 +291,7 @@ envelope_seen e = (e.0.now, (view e.1.now, tt))
 abbrev pub children_fields : Kind (Items × (ℕ × ⊤))
 children_fields = object_of (and_need (codes "nodes") any_items (and_need (codes "parentId") node_id ends))
 
--- these parameters as code holds them
+-- the parameters that show children, as code holds them
 abbrev pub children_seen : Bor (List Value) × ℕ → Items × (ℕ × ⊤)
 children_seen p = (items_view p.0.now, (p.1, tt))
 
@@ -323,6 +300,6 @@ abbrev pub inserted_fields : Kind (Data × (ℕ × (ℕ × ⊤)))
 inserted_fields = object_of (and_need (codes "node") anything
     (and_need (codes "parentNodeId") node_id (and_need (codes "previousNodeId") whole ends)))
 
--- these parameters as code holds them
+-- the parameters that tell a new child, as code holds them
 abbrev pub inserted_seen : Bor Value × (ℕ × ℕ) → Data × (ℕ × (ℕ × ⊤))
 inserted_seen p = (view p.0.now, (p.1.0, (p.1.1, tt)))

@@ -7,7 +7,7 @@ use Rattle.cdp_messages.specs.declared.reply_write.BodyForm.{BodyForm}
 use Rattle.cdp_messages.specs.declared.reply_write.BodyForm.TheVariants as body
 use Rattle.cdp_messages.specs.declared.event_write.EventForm.{EventForm}
 use Rattle.cdp_messages.specs.declared.event_write.EventForm.TheVariants as told
-use Rattle.cdp_messages.specs.NodeData.{tree_data}
+use Rattle.dom_objects.specs.NodeData.{tree_data}
 use Rattle.cdp_messages.specs.Events.{inserted, set_children, news_data}
 
 -- the JSON of a result

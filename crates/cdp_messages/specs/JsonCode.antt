@@ -62,7 +62,7 @@ abbrev mutual
   item_rows no_items = none
   item_rows (item d ds) = node ([], symbol d) (inside d) (item_rows ds)
 
-  -- and of the members of an object
+  -- the symbols of the members of an object
   member_rows : Members → Nodes SymbolRow
   member_rows no_members = none
   member_rows (member k d ms) = node (k, symbol d) (inside d) (member_rows ms)
@@ -97,12 +97,12 @@ mutual
   data_back (array ds) = ap array (items_back ds)
   data_back (object ms) = ap object (members_back ms)
 
-  -- so are the items of an array
+  -- the items of an array are had back from their symbols
   pub items_back : (ds : Items) → items_from (item_rows ds) ≡ ds
   items_back no_items = refl
   items_back (item d ds) = ap₂ item (data_back d) (items_back ds)
 
-  -- and the members of an object
+  -- the members of an object are had back from their symbols
   pub members_back : (ms : Members) → members_from (member_rows ms) ≡ ms
   members_back no_members = refl
   members_back (member k d ms) = ap₂ (member k) (data_back d) (members_back ms)

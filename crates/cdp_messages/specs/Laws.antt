@@ -1,5 +1,5 @@
 -- The laws of the messages: what is written is read as what was written, and nothing else is read.
-use Rattle.std.specs.Prelude.{◌≡◌, ◌≢◌, All, ℕ, ℤ, ◌≤◌, ◌<◌, List, [], ◌∷◌, ⊤, Bool, true, false, not, ◌&&◌, Option, Some, None, Ok, IsUtf8}
+use Rattle.std.specs.Prelude.{◌≡◌, ◌≢◌, All, ℕ, ℤ, ◌≤◌, ◌<◌, List, ⊤, Bool, true, false, not, ◌&&◌, Option, Some, None, Ok, IsUtf8}
 use Rattle.std.specs.List.{AllByRecursion}
 use Rattle.serde_json.specs.Data.{Data, object, Members, depth}
 use Rattle.serde_json.specs.Read.{max_depth}
@@ -7,17 +7,15 @@ use Rattle.serde_json.specs.Written.{compact_text}
 use Rattle.cdp_json.specs.Plain.{is_plain}
 use Rattle.cdp_json.specs.Kinds.{is_counted, is_signed, holds_of_some}
 use Rattle.css_objects.specs.Laws.{SelectorsHaveUtf8, StyleHasUtf8, RuleHasUtf8, MatchedHaveUtf8}
-use Rattle.node_tree.specs.Labels.{Pair, Label}
-use Rattle.node_tree.specs.Nodes.{Nodes, none, node, Branch, alone, height}
+use Rattle.node_tree.specs.Nodes.{Nodes, alone, height}
 use Rattle.node_tree.specs.Levels.{max_level, most_levels}
 use Rattle.node_tree.specs.Seen.{Seen}
-use Rattle.cdp_messages.specs.Told.{Told, told_nodes, told_branch}
-use Rattle.cdp_messages.specs.NodeData.{fits_tree}
-use Rattle.cdp_messages.specs.Tellable.{suits_nodes, suits_tree}
+use Rattle.dom_objects.specs.Told.{told_nodes}
+use Rattle.dom_objects.specs.Tellable.{suits_nodes}
 use Rattle.cdp_messages.specs.declared.command.Command.{Command}
 use Rattle.cdp_messages.specs.declared.command.Asked.{Asked}
 use Rattle.cdp_messages.specs.declared.command.Refused.{Refused}
-use Rattle.cdp_messages.specs.Methods.{is_own}
+use Rattle.cdp_messages.specs.Methods.{is_own, method_named}
 use Rattle.cdp_messages.specs.declared.down.ReplyBody.{ReplyBody}
 use Rattle.cdp_messages.specs.declared.down.ReplyBody.TheVariants.{Nothing, Root, Node, NodeId, NodeIds, Attributes, ClassNames, SheetText}
 use Rattle.cdp_messages.specs.declared.down.ReplyBody.TheVariants.{Styles, Selectors, Rule, Matched}
@@ -26,11 +24,13 @@ use Rattle.cdp_messages.specs.Asked.{command_text, json_of}
 use Rattle.cdp_messages.specs.Events.{News, attribute_modified, attribute_removed, text_modified, count_updated, inserted, removed}
 use Rattle.cdp_messages.specs.Events.{set_children, document_updated, sheet_added, sheet_changed, sheet_removed, paused, is_object}
 use Rattle.cdp_messages.specs.Events.{news_data, fits_news}
-use Rattle.cdp_messages.specs.Methods.{method_named}
 use Rattle.cdp_messages.specs.declared.method.Method.{Method}
-use Rattle.cdp_messages.specs.Results.{result_form, is_form}
+use Rattle.cdp_messages.specs.Methods.{result_form}
+use Rattle.cdp_messages.specs.Results.{is_form}
 use Rattle.cdp_messages.specs.Replies.{Message, reply, fault, event, event_text, message_data, fits_message, message_in, down_of, body_data}
 use Rattle.cdp_messages.specs.Replies.{fits_body, form_of_body, result_of, reply_text, refusal_message, refused_text}
+use Rattle.node_tree.specs.Labels.{PairsHaveUtf8}
+use Rattle.dom_objects.specs.NodeTexts.{NodesHaveUtf8}
 
 -- JSON nests as deep as it is read
 abbrev pub Shallow : Data → Type 0
@@ -81,20 +81,6 @@ RepliesAreRead = (id : ℕ) (body : ReplyBody) → is_counted id ≡ true → fi
 
 -- ---- UTF-8
 
--- each name and each value is UTF-8
-abbrev pub PairsHaveUtf8 : List Pair → Type 0
-PairsHaveUtf8 [] = ⊤
-PairsHaveUtf8 (p ∷ ps) = IsUtf8 p.0 × IsUtf8 p.1 × PairsHaveUtf8 ps
-
--- the texts of one node are UTF-8
-abbrev pub LabelHasUtf8 : Label → Type 0
-LabelHasUtf8 l = IsUtf8 l.name × IsUtf8 l.value × PairsHaveUtf8 l.attributes
-
--- the texts of all nodes are UTF-8
-abbrev pub NodesHaveUtf8 : Nodes Told → Type 0
-NodesHaveUtf8 none = ⊤
-NodesHaveUtf8 (node r c t) = LabelHasUtf8 r.seen.label × NodesHaveUtf8 c × NodesHaveUtf8 t
-
 -- what a result tells has UTF-8 texts
 abbrev pub BodyHasUtf8 : ReplyBody → Type 0
 BodyHasUtf8 Nothing = ⊤
@@ -110,7 +96,7 @@ BodyHasUtf8 (Selectors selectors) = SelectorsHaveUtf8 selectors
 BodyHasUtf8 (Rule rule) = RuleHasUtf8 rule
 BodyHasUtf8 (Matched matched) = MatchedHaveUtf8 matched
 
--- those that an event tells
+-- the texts that an event tells are UTF-8
 abbrev pub NewsHaveUtf8 : News → Type 0
 NewsHaveUtf8 (attribute_modified id name value) = IsUtf8 name × IsUtf8 value
 NewsHaveUtf8 (attribute_removed id name) = IsUtf8 name
@@ -129,17 +115,13 @@ NewsHaveUtf8 (paused why) = ⊤
 abbrev pub RepliesAreUtf8 : Type 0
 RepliesAreUtf8 = (id : ℕ) (body : ReplyBody) → is_counted id ≡ true → fits_body body ≡ true → BodyHasUtf8 body → IsUtf8 (reply_text id body)
 
--- and so is that of an event
+-- the text of an event is UTF-8 where the texts in it are
 abbrev pub EventsAreUtf8 : Type 0
 EventsAreUtf8 = (n : News) → fits_news n ≡ true → NewsHaveUtf8 n → IsUtf8 (event_text n)
 
 -- ---- further laws
 
--- a shown document that suits a message is told in a form that fits
-abbrev pub ShownTreesFit : Type 0
-ShownTreesFit = (b : Branch Seen) → suits_tree true b ≡ true → fits_tree true (told_branch 0 b) ≡ true
-
--- and so are shown children of a node with this id
+-- shown children of a node with this id that suit a message are told in a form that fits
 abbrev pub ShownChildrenFit : Type 0
 ShownChildrenFit = (parent : ℕ) (n : Nodes Seen) → is_counted parent ≡ true → 0 < parent → suits_nodes n ≡ true
     → fits_news (set_children parent (told_nodes parent n)) ≡ true
@@ -178,7 +160,7 @@ news_height (sheet_changed sheet) = 0
 news_height (sheet_removed sheet) = 0
 news_height (paused why) = 0
 
--- and so does an event with nodes of one level less
+-- an event nests less deep than JSON may where its nodes have one level less
 abbrev pub EventsAreShallow : Type 0
 EventsAreShallow = (n : News) → news_height n ≤ max_level → Shallow (news_data n)
 

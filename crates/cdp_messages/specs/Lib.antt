@@ -1,10 +1,5 @@
-pub mod Told
-pub mod NodeObject
-pub mod NodeData
-pub mod Tokens
 pub mod Forms
 pub mod NodeWrites
-pub mod Raw
 pub mod JsonCode
 pub mod Methods
 pub mod Refusals
@@ -14,10 +9,5 @@ pub mod Asked
 pub mod DomAsks
 pub mod Results
 pub mod Replies
-pub mod Effects
 pub mod Answers
-pub mod LabelChanges
-pub mod Tellable
 pub mod Laws
-pub mod Views
-pub mod Moves

@@ -1,6 +1,13 @@
 -- The methods, and their names.
 use Rattle.std.specs.Prelude.{ℕ, List, [], ◌∷◌, codes, Bool, true, false, not, ◌&&◌, cond, Option, Some, None, option_and_then}
 use Rattle.cdp_json.specs.Kinds.{named}
+use Rattle.cdp_messages.specs.declared.method.Server.{Server}
+use Rattle.cdp_messages.specs.declared.method.Server.TheVariants as server
+use Rattle.cdp_messages.specs.declared.method.Domains.{Domains}
+use Rattle.cdp_messages.specs.declared.method.Domains.TheVariants as domains
+use Rattle.cdp_messages.specs.declared.method.MethodRow.{MethodRow}
+use Rattle.cdp_messages.specs.declared.result_forms.ResultForm.{ResultForm}
+use Rattle.cdp_messages.specs.declared.result_forms.ResultForm.TheVariants as form
 use Rattle.cdp_messages.specs.declared.method.Method.{Method}
 use Rattle.cdp_messages.specs.declared.method.Method.TheVariants.{DomEnable, DomDisable, GetDocument, RequestChildNodes, PushByPath}
 use Rattle.cdp_messages.specs.declared.method.Method.TheVariants.{PushBySerials, QuerySelector, QuerySelectorAll, GetAttributes}
@@ -10,40 +17,67 @@ use Rattle.cdp_messages.specs.declared.method.Method.TheVariants.{CssDisable, Ge
 use Rattle.cdp_messages.specs.declared.method.Method.TheVariants.{SetStyleTexts, SetRuleSelector, SetStyleSheetText, AddRule, SetBreakpoint}
 use Rattle.cdp_messages.specs.declared.method.Method.TheVariants.{RemoveBreakpoint, ReplayLoad, ReplayAct}
 
+-- what is said of a method, once
+pub record MethodSaid : Type 0 where
+  pub name : List ℕ
+  pub server : Server
+  pub domains : Domains
+  pub form : ResultForm
+
+-- a row of the table
+abbrev pub said : List ℕ → Server → Domains → ResultForm → MethodSaid
+said n s d f = record { name = n; server = s; domains = d; form = f }
+
+-- a row as code holds it
+abbrev pub row_seen : MethodRow → MethodSaid
+row_seen r = said r.name.now r.server r.domains r.form
+
+-- The table: the name of each method, whose it is, the domains that it needs on or turns on, and the form of its result.
+abbrev pub row_of : Method → MethodSaid
+row_of DomEnable = said (codes "DOM.enable") server.Seat domains.TurnsDomOn form.Nothing
+row_of DomDisable = said (codes "DOM.disable") server.Seat domains.Dom form.Nothing
+row_of GetDocument = said (codes "DOM.getDocument") server.DomAgent domains.TurnsDomOn form.Root
+row_of RequestChildNodes = said (codes "DOM.requestChildNodes") server.DomAgent domains.Dom form.Nothing
+row_of PushByPath = said (codes "DOM.pushNodeByPathToFrontend") server.DomAgent domains.Dom form.NodeId
+row_of PushBySerials = said (codes "DOM.pushNodesByBackendIdsToFrontend") server.DomAgent domains.Dom form.NodeIds
+row_of QuerySelector = said (codes "DOM.querySelector") server.DomAgent domains.Dom form.NodeId
+row_of QuerySelectorAll = said (codes "DOM.querySelectorAll") server.DomAgent domains.Dom form.NodeIds
+row_of GetAttributes = said (codes "DOM.getAttributes") server.DomAgent domains.Dom form.Attributes
+row_of DescribeNode = said (codes "DOM.describeNode") server.DomAgent domains.Any form.Node
+row_of SetAttributeValue = said (codes "DOM.setAttributeValue") server.Seat domains.Dom form.Nothing
+row_of RemoveAttribute = said (codes "DOM.removeAttribute") server.Seat domains.Dom form.Nothing
+row_of SetNodeValue = said (codes "DOM.setNodeValue") server.Seat domains.Dom form.Nothing
+row_of RemoveNode = said (codes "DOM.removeNode") server.Seat domains.Dom form.Nothing
+row_of MoveTo = said (codes "DOM.moveTo") server.Seat domains.Dom form.NodeId
+row_of CopyTo = said (codes "DOM.copyTo") server.Seat domains.Dom form.NodeId
+row_of MarkUndoableState = said (codes "DOM.markUndoableState") server.Seat domains.Dom form.Nothing
+row_of Undo = said (codes "DOM.undo") server.Seat domains.Dom form.Nothing
+row_of Redo = said (codes "DOM.redo") server.Seat domains.Dom form.Nothing
+row_of CssEnable = said (codes "CSS.enable") server.Seat domains.Dom form.Nothing
+row_of CssDisable = said (codes "CSS.disable") server.Seat domains.DomAndCss form.Nothing
+row_of GetMatchedStyles = said (codes "CSS.getMatchedStylesForNode") server.CssAgent domains.DomAndCss form.Matched
+row_of GetStyleSheetText = said (codes "CSS.getStyleSheetText") server.CssAgent domains.DomAndCss form.SheetText
+row_of CollectClassNames = said (codes "CSS.collectClassNames") server.CssAgent domains.DomAndCss form.ClassNames
+row_of SetStyleTexts = said (codes "CSS.setStyleTexts") server.CssAgent domains.DomAndCss form.Styles
+row_of SetRuleSelector = said (codes "CSS.setRuleSelector") server.CssAgent domains.DomAndCss form.Selectors
+row_of SetStyleSheetText = said (codes "CSS.setStyleSheetText") server.CssAgent domains.DomAndCss form.Nothing
+row_of AddRule = said (codes "CSS.addRule") server.CssAgent domains.DomAndCss form.Rule
+row_of SetBreakpoint = said (codes "DOMDebugger.setDOMBreakpoint") server.Seat domains.Dom form.Nothing
+row_of RemoveBreakpoint = said (codes "DOMDebugger.removeDOMBreakpoint") server.Seat domains.Dom form.Nothing
+row_of ReplayLoad = said (codes "Replay.load") server.Replay domains.Any form.Nothing
+row_of ReplayAct = said (codes "Replay.act") server.Replay domains.Any form.Nothing
+
 -- a method's name
 abbrev pub name_of : Method → List ℕ
-name_of DomEnable = codes "DOM.enable"
-name_of DomDisable = codes "DOM.disable"
-name_of GetDocument = codes "DOM.getDocument"
-name_of RequestChildNodes = codes "DOM.requestChildNodes"
-name_of PushByPath = codes "DOM.pushNodeByPathToFrontend"
-name_of PushBySerials = codes "DOM.pushNodesByBackendIdsToFrontend"
-name_of QuerySelector = codes "DOM.querySelector"
-name_of QuerySelectorAll = codes "DOM.querySelectorAll"
-name_of GetAttributes = codes "DOM.getAttributes"
-name_of DescribeNode = codes "DOM.describeNode"
-name_of SetAttributeValue = codes "DOM.setAttributeValue"
-name_of RemoveAttribute = codes "DOM.removeAttribute"
-name_of SetNodeValue = codes "DOM.setNodeValue"
-name_of RemoveNode = codes "DOM.removeNode"
-name_of MoveTo = codes "DOM.moveTo"
-name_of CopyTo = codes "DOM.copyTo"
-name_of MarkUndoableState = codes "DOM.markUndoableState"
-name_of Undo = codes "DOM.undo"
-name_of Redo = codes "DOM.redo"
-name_of CssEnable = codes "CSS.enable"
-name_of CssDisable = codes "CSS.disable"
-name_of GetMatchedStyles = codes "CSS.getMatchedStylesForNode"
-name_of GetStyleSheetText = codes "CSS.getStyleSheetText"
-name_of CollectClassNames = codes "CSS.collectClassNames"
-name_of SetStyleTexts = codes "CSS.setStyleTexts"
-name_of SetRuleSelector = codes "CSS.setRuleSelector"
-name_of SetStyleSheetText = codes "CSS.setStyleSheetText"
-name_of AddRule = codes "CSS.addRule"
-name_of SetBreakpoint = codes "DOMDebugger.setDOMBreakpoint"
-name_of RemoveBreakpoint = codes "DOMDebugger.removeDOMBreakpoint"
-name_of ReplayLoad = codes "Replay.load"
-name_of ReplayAct = codes "Replay.act"
+name_of m = (row_of m).name
+
+-- the form of its result
+abbrev pub result_form : Method → ResultForm
+result_form m = (row_of m).form
+
+-- the domains that it needs on
+abbrev pub domains_of : Method → Domains
+domains_of m = (row_of m).domains
 
 -- each method once
 abbrev pub all_methods : List Method
@@ -59,40 +93,37 @@ all_methods =
 abbrev pub method_named : List ℕ → Option Method
 method_named = named name_of all_methods
 
+-- our own two methods are served for `Replay`
+abbrev pub is_replay : Server → Bool
+is_replay server.DomAgent = false
+is_replay server.CssAgent = false
+is_replay server.Seat = false
+is_replay server.Replay = true
+
 -- the methods that are no part of the protocol
 abbrev pub is_own : Method → Bool
-is_own DomEnable = false
-is_own DomDisable = false
-is_own GetDocument = false
-is_own RequestChildNodes = false
-is_own PushByPath = false
-is_own PushBySerials = false
-is_own QuerySelector = false
-is_own QuerySelectorAll = false
-is_own GetAttributes = false
-is_own DescribeNode = false
-is_own SetAttributeValue = false
-is_own RemoveAttribute = false
-is_own SetNodeValue = false
-is_own RemoveNode = false
-is_own MoveTo = false
-is_own CopyTo = false
-is_own MarkUndoableState = false
-is_own Undo = false
-is_own Redo = false
-is_own CssEnable = false
-is_own CssDisable = false
-is_own GetMatchedStyles = false
-is_own GetStyleSheetText = false
-is_own CollectClassNames = false
-is_own SetStyleTexts = false
-is_own SetRuleSelector = false
-is_own SetStyleSheetText = false
-is_own AddRule = false
-is_own SetBreakpoint = false
-is_own RemoveBreakpoint = false
-is_own ReplayLoad = true
-is_own ReplayAct = true
+is_own m = is_replay (row_of m).server
+
+-- DOM has to be on
+abbrev pub needs_dom : Domains → Bool
+needs_dom domains.Any = false
+needs_dom domains.TurnsDomOn = false
+needs_dom domains.Dom = true
+needs_dom domains.DomAndCss = true
+
+-- CSS has to be on too
+abbrev pub needs_both : Domains → Bool
+needs_both domains.Any = false
+needs_both domains.TurnsDomOn = false
+needs_both domains.Dom = false
+needs_both domains.DomAndCss = true
+
+-- DOM is on afterwards
+abbrev pub turns_dom_on : Domains → Bool
+turns_dom_on domains.Any = false
+turns_dom_on domains.TurnsDomOn = true
+turns_dom_on domains.Dom = false
+turns_dom_on domains.DomAndCss = false
 
 -- one of the protocol, or of our own where these are known
 abbrev pub if_known : Bool → Method → Option Method

@@ -1,40 +1,14 @@
 -- Messages that tell nodes, by what is written before the nodes, of each node, and behind them.
-use Rattle.std.specs.Prelude.{ℕ, List, [], ◌∷◌, ◌++◌, codes, false, Some}
+use Rattle.std.specs.Prelude.{ℕ, List, [], ◌∷◌, ◌++◌, codes, Some}
 use Rattle.json.specs.Token.{Token, begin_object, end_object, key}
 use Rattle.serde_json.specs.Data.{Data, object, no_members, member}
 use Rattle.cdp_json.specs.Kinds.{whole, text}
-use Rattle.node_tree.specs.Labels.{holds}
-use Rattle.cdp_messages.specs.declared.node_row.NodeRow.{NodeRow}
-use Rattle.cdp_messages.specs.declared.node_writer.NodeMessage.{NodeMessage}
-use Rattle.cdp_messages.specs.declared.node_writer.NodeMessage.TheVariants.{Root, Node, Children, Inserted}
+use Rattle.cdp_messages.specs.declared.node_message.NodeMessage.{NodeMessage}
+use Rattle.cdp_messages.specs.declared.node_message.NodeMessage.TheVariants.{Root, Node, Children, Inserted}
 use Rattle.cdp_messages.specs.declared.event_names.EventName.TheVariants.{ChildNodeInserted, SetChildNodes}
-use Rattle.cdp_messages.specs.Told.{Told, hold_of}
-use Rattle.cdp_messages.specs.Tokens.{field_tokens}
+use Rattle.dom_objects.specs.Tokens.{field_tokens}
 use Rattle.cdp_messages.specs.Events.{event_name, envelope}
 use Rattle.cdp_messages.specs.Replies.{reply, message_data}
-
--- ---- a node
-
--- a row as it is where no children are shown
-abbrev pub unshown : Told → Told
-unshown r = record {
-  parent = r.parent;
-  count = r.count;
-  seen = record { id = r.seen.id; serial = r.seen.serial; label = r.seen.label; hold = hold_of false (holds r.seen.label.kind) r.count };
-}
-
--- what a row of references tells where no children are shown; head and tail of a node do not turn on its children
-abbrev pub told_by : NodeRow → Told
-told_by r = record {
-  parent = r.parent;
-  count = r.count;
-  seen = record {
-    id = r.id;
-    serial = r.serial;
-    label = record { kind = r.kind; name = r.name.now; value = r.value.now; attributes = r.attributes.now };
-    hold = hold_of false (holds r.kind) r.count;
-  };
-}
 
 -- ---- a message
 

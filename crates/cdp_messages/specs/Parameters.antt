@@ -21,7 +21,7 @@ use Rattle.cdp_messages.specs.declared.command.Param.{Param}
 use Rattle.cdp_messages.specs.declared.command.Param.TheVariants as param
 use Rattle.cdp_messages.specs.declared.command.Why.{Why}
 use Rattle.cdp_messages.specs.declared.command.Why.TheVariants.{BadParam}
-use Rattle.cdp_messages.specs.declared.command.WatchWord.{WatchWord}
+use Rattle.node_tree.specs.declared.watches.WatchKind.{WatchKind}
 use Rattle.cdp_messages.specs.declared.edits.TextEdit.{TextEdit}
 use Rattle.cdp_messages.specs.declared.method.Method.{Method}
 use Rattle.cdp_messages.specs.declared.method.Method.TheVariants as method
@@ -166,7 +166,7 @@ abbrev pub add_rule_fields : Lookups Why (List ℕ × (List ℕ × (SourceRange 
 add_rule_fields = needed param.StyleSheetId text (needed param.RuleText text (needed param.Location range_parameter no_lookups))
 
 -- of `DOMDebugger.setDOMBreakpoint` and `DOMDebugger.removeDOMBreakpoint`
-abbrev pub watch_fields : Lookups Why (ℕ × (WatchWord × ⊤))
+abbrev pub watch_fields : Lookups Why (ℕ × (WatchKind × ⊤))
 watch_fields = needed param.NodeId whole (needed param.Type watch no_lookups)
 
 -- ---- read

@@ -17,12 +17,13 @@ use Rattle.cdp_messages.specs.declared.down.ReplyBody.TheVariants.{Styles, Selec
 use Rattle.cdp_messages.specs.declared.method.Method.{Method}
 use Rattle.cdp_messages.specs.declared.result_forms.ResultForm.{ResultForm}
 use Rattle.cdp_messages.specs.declared.result_forms.ResultForm.TheVariants as form
-use Rattle.cdp_messages.specs.NodeData.{fits_tree, fits_described_tree}
+use Rattle.dom_objects.specs.NodeData.{fits_tree, fits_described_tree}
 use Rattle.cdp_messages.specs.Methods.{method_named}
 use Rattle.cdp_messages.specs.Refusals.{code_of, refusal_words}
 use Rattle.cdp_messages.specs.Asked.{json_of}
 use Rattle.cdp_messages.specs.Events.{is_object, News, news_of, news_data, fits_news, news_in}
-use Rattle.cdp_messages.specs.Results.{nothing_kind, root_kind, node_kind, id_kind, ids_kind, are_attributes, attributes_kind, result_form}
+use Rattle.cdp_messages.specs.Results.{nothing_kind, root_kind, node_kind, id_kind, ids_kind, are_attributes, attributes_kind}
+use Rattle.cdp_messages.specs.Methods.{result_form}
 use Rattle.node_tree.specs.Keys.{first_of}
 
 -- ---- messages

@@ -7,21 +7,12 @@ use Rattle.cdp_json.specs.Rows.{ends, and_need, object_of, unit_if}
 use Rattle.node_tree.specs.Labels.{Pair, is_ascending}
 use Rattle.node_tree.specs.Names.{is_attribute_name}
 use Rattle.node_tree.specs.Nodes.{Branch}
-use Rattle.cdp_messages.specs.declared.method.Method.{Method}
-use Rattle.cdp_messages.specs.declared.method.Method.TheVariants.{DomEnable, DomDisable, GetDocument, RequestChildNodes, PushByPath}
-use Rattle.cdp_messages.specs.declared.method.Method.TheVariants.{PushBySerials, QuerySelector, QuerySelectorAll, GetAttributes}
-use Rattle.cdp_messages.specs.declared.method.Method.TheVariants.{DescribeNode, SetAttributeValue, RemoveAttribute, SetNodeValue}
-use Rattle.cdp_messages.specs.declared.method.Method.TheVariants.{RemoveNode, MoveTo, CopyTo, MarkUndoableState, Undo, Redo, CssEnable}
-use Rattle.cdp_messages.specs.declared.method.Method.TheVariants.{CssDisable, GetMatchedStyles, GetStyleSheetText, CollectClassNames}
-use Rattle.cdp_messages.specs.declared.method.Method.TheVariants.{SetStyleTexts, SetRuleSelector, SetStyleSheetText, AddRule, SetBreakpoint}
-use Rattle.cdp_messages.specs.declared.method.Method.TheVariants.{RemoveBreakpoint, ReplayLoad, ReplayAct}
-use Rattle.cdp_messages.specs.declared.node_rules.Manner.TheVariants.{Pushed, Described}
 use Rattle.cdp_messages.specs.declared.result_forms.ResultForm.{ResultForm}
 use Rattle.cdp_messages.specs.declared.result_forms.ResultForm.TheVariants as form
-use Rattle.cdp_messages.specs.Told.{Told}
-use Rattle.cdp_messages.specs.NodeObject.{attribute_list}
-use Rattle.cdp_messages.specs.NodeData.{tree_data, tree_told, fits_tree, fits_described_tree}
+use Rattle.dom_objects.specs.Told.{Told}
+use Rattle.dom_objects.specs.NodeObject.{attribute_list}
 use Rattle.cdp_messages.specs.Events.{is_object}
+use Rattle.dom_objects.specs.NodeKinds.{document_kind, described_kind}
 
 -- ---- kinds
 
@@ -29,17 +20,9 @@ use Rattle.cdp_messages.specs.Events.{is_object}
 abbrev pub nothing_kind : Kind ⊤
 nothing_kind = record { spell = λ _. object no_members; reads = λ d. unit_if (is_object d); fits = λ _. true; loose = None }
 
--- a document with all that is shown of it
-abbrev pub document_kind : Kind (Branch Told)
-document_kind = record { spell = tree_data; reads = tree_told Pushed true; fits = fits_tree true; loose = None }
-
 -- of `DOM.getDocument`: the document
 abbrev pub root_kind : Kind (Branch Told × ⊤)
 root_kind = object_of (and_need (codes "root") document_kind ends)
-
--- a node that is described alone, with all that is shown of it
-abbrev pub described_kind : Kind (Branch Told)
-described_kind = record { spell = tree_data; reads = tree_told Described true; fits = fits_described_tree; loose = None }
 
 -- of `DOM.describeNode`: the node
 abbrev pub node_kind : Kind (Branch Told × ⊤)
@@ -60,43 +43,6 @@ are_attributes ps = is_ascending ps && list_all (λ p. is_attribute_name p.0) ps
 -- of `DOM.getAttributes`: names and values in turn
 abbrev pub attributes_kind : Kind (List Pair × ⊤)
 attributes_kind = object_of (and_need (codes "attributes") (refined attribute_list are_attributes) ends)
-
--- ---- which method has which
-
--- the form of a method's result
-abbrev pub result_form : Method → ResultForm
-result_form DomEnable = form.Nothing
-result_form DomDisable = form.Nothing
-result_form GetDocument = form.Root
-result_form RequestChildNodes = form.Nothing
-result_form PushByPath = form.NodeId
-result_form PushBySerials = form.NodeIds
-result_form QuerySelector = form.NodeId
-result_form QuerySelectorAll = form.NodeIds
-result_form GetAttributes = form.Attributes
-result_form DescribeNode = form.Node
-result_form SetAttributeValue = form.Nothing
-result_form RemoveAttribute = form.Nothing
-result_form SetNodeValue = form.Nothing
-result_form RemoveNode = form.Nothing
-result_form MoveTo = form.NodeId
-result_form CopyTo = form.NodeId
-result_form MarkUndoableState = form.Nothing
-result_form Undo = form.Nothing
-result_form Redo = form.Nothing
-result_form CssEnable = form.Nothing
-result_form CssDisable = form.Nothing
-result_form GetMatchedStyles = form.Matched
-result_form GetStyleSheetText = form.SheetText
-result_form CollectClassNames = form.ClassNames
-result_form SetStyleTexts = form.Styles
-result_form SetRuleSelector = form.Selectors
-result_form SetStyleSheetText = form.Nothing
-result_form AddRule = form.Rule
-result_form SetBreakpoint = form.Nothing
-result_form RemoveBreakpoint = form.Nothing
-result_form ReplayLoad = form.Nothing
-result_form ReplayAct = form.Nothing
 
 -- the first field of a result of that form; the empty result has none
 abbrev pub first_field : ResultForm → List ℕ

@@ -1,5 +1,8 @@
 // Commands, and why one is refused.
 ghost use Rattle.std.specs.Prelude.{◌≡◌};
+ghost use Rattle.cdp_json.specs.Kinds.{named};
+ghost use Rattle.node_tree.specs.Watches.{watch_name};
+ghost use Rattle.cdp_messages.specs.Events.{all_watches};
 ghost use Rattle.cdp_messages.specs.declared.command.CommandErr.TheVariants as command_err;
 
 use crate::css_ask::CssAsk;
@@ -7,6 +10,8 @@ use crate::css_edit::CssEdit;
 use crate::dom_ask::DomAsk;
 use crate::dom_edit::DomEdit;
 use crate::kept::Json;
+use crate::method::Method;
+use node_tree::WatchKind;
 use std::alloc::{AllocError, AllocFailed};
 
 /// A command with its parameters; `None` stands for one that is absent.
@@ -35,51 +40,51 @@ pub enum Command {
     /// A client's edit of sheets.
     EditCss(CssEdit),
     /// `DOMDebugger.setDOMBreakpoint`
-    SetBreakpoint { node: u64, kind: WatchWord },
+    SetBreakpoint { node: u64, kind: WatchKind },
     /// `DOMDebugger.removeDOMBreakpoint`
-    RemoveBreakpoint { node: u64, kind: WatchWord },
+    RemoveBreakpoint { node: u64, kind: WatchKind },
     /// `Replay.load`, one of our own two methods: the page.
     ReplayLoad { params: Json },
     /// `Replay.act`, one of our own two methods: the change.
     ReplayAct { params: Json },
 }
 
-/// What a breakpoint watches of a node.
-#[derive(Clone, Copy)]
-pub enum WatchWord {
-    /// `subtree-modified`
-    Subtree,
-    /// `attribute-modified`
-    Attribute,
-    /// `node-removed`
-    Removed,
-}
+impl Command {
+    ghost use Rattle.cdp_messages.specs.Asked.{method_of};
 
-impl WatchWord {
-    ghost use Rattle.cdp_json.specs.Kinds.{named};
-    ghost use Rattle.cdp_messages.specs.Events.{watch_name, all_watches};
-
-    /// As it stands in messages.
-    pub fn as_str(self) -> &'static str
-        ensures { result.now ≡ watch_name self }
+    /// Its method.
+    pub fn method(&self) -> Method
+        ensures { result ≡ method_of self.now }
     {
         match self {
-            WatchWord::Subtree => "subtree-modified",
-            WatchWord::Attribute => "attribute-modified",
-            WatchWord::Removed => "node-removed",
+            Command::DomEnable => Method::DomEnable,
+            Command::DomDisable => Method::DomDisable,
+            Command::AskDom(ask) => ask.method(),
+            Command::EditDom(edit) => edit.method(),
+            Command::MarkUndoableState => Method::MarkUndoableState,
+            Command::Undo => Method::Undo,
+            Command::Redo => Method::Redo,
+            Command::CssEnable => Method::CssEnable,
+            Command::CssDisable => Method::CssDisable,
+            Command::AskCss(ask) => ask.method(),
+            Command::EditCss(edit) => edit.method(),
+            Command::SetBreakpoint { .. } => Method::SetBreakpoint,
+            Command::RemoveBreakpoint { .. } => Method::RemoveBreakpoint,
+            Command::ReplayLoad { .. } => Method::ReplayLoad,
+            Command::ReplayAct { .. } => Method::ReplayAct,
         }
     }
+}
 
-    // What is watched, by its word.
-    pub(crate) fn named(word: &str) -> Option<WatchWord>
-        ensures { result ≡ named watch_name all_watches word.now }
-    {
-        match word {
-            "subtree-modified" => Some(WatchWord::Subtree),
-            "attribute-modified" => Some(WatchWord::Attribute),
-            "node-removed" => Some(WatchWord::Removed),
-            _ => None,
-        }
+// What is watched, by its word.
+pub(crate) fn watch_named(word: &str) -> Option<WatchKind>
+    ensures { result ≡ named watch_name all_watches word.now }
+{
+    match word {
+        "subtree-modified" => Some(WatchKind::Subtree),
+        "attribute-modified" => Some(WatchKind::Attribute),
+        "node-removed" => Some(WatchKind::Removed),
+        _ => None,
     }
 }
 

@@ -1,5 +1,9 @@
 // What a client edits of sheets.
+ghost use Rattle.std.specs.Prelude.{◌≡◌};
+ghost use Rattle.cdp_messages.specs.Parameters.{css_edit_form};
+
 use crate::edits::TextEdits;
+use crate::method::Method;
 use css_objects::SourceRange;
 use node_tree::Text;
 
@@ -27,4 +31,18 @@ pub enum CssEdit {
         rule_text: Text,
         location: SourceRange,
     },
+}
+
+impl CssEdit {
+    /// The method that asks it.
+    pub fn method(&self) -> Method
+        ensures { result ≡ (css_edit_form self.now).method }
+    {
+        match self {
+            CssEdit::SetStyleTexts { .. } => Method::SetStyleTexts,
+            CssEdit::SetRuleSelector { .. } => Method::SetRuleSelector,
+            CssEdit::SetStyleSheetText { .. } => Method::SetStyleSheetText,
+            CssEdit::AddRule { .. } => Method::AddRule,
+        }
+    }
 }

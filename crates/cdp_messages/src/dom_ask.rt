@@ -1,4 +1,8 @@
 // What the DOM agent serves.
+ghost use Rattle.std.specs.Prelude.{◌≡◌};
+ghost use Rattle.cdp_messages.specs.Parameters.{dom_ask_form};
+
+use crate::method::Method;
 use crate::numbers::Numbers;
 use node_tree::Text;
 
@@ -47,4 +51,22 @@ pub enum DomAsk {
         depth: Option<i64>,
         pierce: Option<bool>,
     },
+}
+
+impl DomAsk {
+    /// The method that asks it.
+    pub fn method(&self) -> Method
+        ensures { result ≡ (dom_ask_form self.now).method }
+    {
+        match self {
+            DomAsk::GetDocument { .. } => Method::GetDocument,
+            DomAsk::RequestChildNodes { .. } => Method::RequestChildNodes,
+            DomAsk::PushByPath { .. } => Method::PushByPath,
+            DomAsk::PushBySerials { .. } => Method::PushBySerials,
+            DomAsk::QuerySelector { .. } => Method::QuerySelector,
+            DomAsk::QuerySelectorAll { .. } => Method::QuerySelectorAll,
+            DomAsk::GetAttributes { .. } => Method::GetAttributes,
+            DomAsk::DescribeNode { .. } => Method::DescribeNode,
+        }
+    }
 }

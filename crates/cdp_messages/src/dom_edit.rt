@@ -1,4 +1,8 @@
 // What a client edits of the tree.
+ghost use Rattle.std.specs.Prelude.{◌≡◌};
+ghost use Rattle.cdp_messages.specs.Parameters.{dom_edit_form};
+
+use crate::method::Method;
 use node_tree::Text;
 
 /// What a client wants changed in the page's tree. Nodes are named by their ids.
@@ -36,4 +40,20 @@ pub enum DomEdit {
         target: u64,
         before: Option<u64>,
     },
+}
+
+impl DomEdit {
+    /// The method that asks it.
+    pub fn method(&self) -> Method
+        ensures { result ≡ (dom_edit_form self.now).method }
+    {
+        match self {
+            DomEdit::SetAttributeValue { .. } => Method::SetAttributeValue,
+            DomEdit::RemoveAttribute { .. } => Method::RemoveAttribute,
+            DomEdit::SetNodeValue { .. } => Method::SetNodeValue,
+            DomEdit::RemoveNode { .. } => Method::RemoveNode,
+            DomEdit::MoveTo { .. } => Method::MoveTo,
+            DomEdit::CopyTo { .. } => Method::CopyTo,
+        }
+    }
 }

@@ -1,13 +1,9 @@
 // Messages on the way down.
-ghost use Rattle.std.specs.Prelude.{◌≡◌};
-ghost use Rattle.cdp_messages.specs.declared.down.DownErr.TheVariants.{Memory};
-
 use crate::numbers::Numbers;
-use crate::tree::NodeTree;
 use css_objects::{Header, Listed, Matched, Rule, RuleSelectors, Style};
+use dom_objects::NodeTree;
 use node_tree::{Attributes, Text};
 use serde_json::Value;
-use std::alloc::{AllocError, AllocFailed};
 
 /// A message from the back end.
 #[derive(Drop)]
@@ -132,27 +128,4 @@ pub enum ReplyBody {
     Rule(Rule),
     /// Of `CSS.getMatchedStylesForNode`
     Matched(Matched),
-}
-
-#[derive(Clone, Copy)]
-pub enum DownErr {
-    /// No message has this form.
-    NotMessage,
-    Memory,
-}
-
-impl From<AllocError> for DownErr {
-    ghost from_gives = { λ _ e. e ≡ Memory };
-
-    fn from(_error: AllocError) -> DownErr {
-        DownErr::Memory
-    }
-}
-
-impl<T: Drop> From<AllocFailed<T>> for DownErr {
-    ghost from_gives = { λ _ e. e ≡ Memory };
-
-    fn from(_error: AllocFailed<T>) -> DownErr {
-        DownErr::Memory
-    }
 }

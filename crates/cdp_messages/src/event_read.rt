@@ -6,22 +6,21 @@ ghost use Rattle.cdp_json.specs.Kinds.{only_text};
 ghost use Rattle.cdp_json.specs.Left.{left};
 ghost use Rattle.cdp_json.specs.Rows.{left_with, need, may};
 ghost use Rattle.css_objects.specs.Sheets.{header_kind, sheet_kind};
-ghost use Rattle.cdp_messages.specs.Answers.{GivesMessage};
+ghost use Rattle.dom_objects.specs.Answers.{GivesMessage};
 ghost use Rattle.cdp_messages.specs.declared.event_names.EventName.TheVariants as event_name;
-ghost use Rattle.cdp_messages.specs.Events.{news_of, node_id, attribute_name, bare_kind, watch, pause_by, pause_kind, sheet_id_kind};
+ghost use Rattle.cdp_messages.specs.Events.{news_of, node_id, attribute_name, watch, pause_by, pause_kind, sheet_id_kind};
+ghost use Rattle.dom_objects.specs.NodeKinds.{bare_kind};
 ghost use Rattle.cdp_messages.specs.Events.{envelope, envelope_seen, children_fields, children_seen, inserted_fields, inserted_seen};
 ghost use Rattle.cdp_messages.specs.Events.{news_by, news_from, news_in, no_call_frames};
 ghost use Rattle.css_objects.specs.Styles.{has_none};
 
-use crate::command::WatchWord;
-use crate::down::{DownErr, Event, PauseData};
+use crate::command::watch_named;
+use crate::down::{Event, PauseData};
 use crate::event_names::EventName;
-use crate::node_read::{tree_of, trees_of};
-use crate::node_rules::Manner;
-use crate::tree::NodeTree;
 use cdp_json::{Cursor, flag_of};
 use css_objects::{Header, header_of, sheet_of};
-use node_tree::{Text, is_attribute_name};
+use dom_objects::{DownErr, Manner, NodeTree, tree_of, trees_of};
+use node_tree::{Text, WatchKind, is_attribute_name};
 use serde_json::Value;
 use std::alloc::Global;
 
@@ -297,17 +296,17 @@ fn node_id_if_any(fields: &mut Cursor<'_>, name: &str) -> Option<Option<u64>>
     }
 }
 
-fn watch_field(fields: &mut Cursor<'_>) -> Option<WatchWord>
+fn watch_field(fields: &mut Cursor<'_>) -> Option<WatchKind>
     ensures { option_map (left_with (left fields.new)) result
         ≡ need watch.reads (codes "type") (left fields.old) }
 {
     let word = fields.need_text("type")?;
-    WatchWord::named(word)
+    watch_named(word)
 }
 
 // A target is there for a subtree alone, and so is whether it was put in.
 fn pause_by(
-    kind: WatchWord,
+    kind: WatchKind,
     insertion: Option<bool>,
     target: Option<u64>,
     node: u64,
@@ -315,13 +314,13 @@ fn pause_by(
     ensures { result ≡ pause_by kind insertion target node }
 {
     match (kind, insertion, target) {
-        (WatchWord::Subtree, Some(insertion), Some(target)) => Some(PauseData::Subtree {
+        (WatchKind::Subtree, Some(insertion), Some(target)) => Some(PauseData::Subtree {
             node,
             target,
             insertion,
         }),
-        (WatchWord::Attribute, None, None) => Some(PauseData::Attribute { node }),
-        (WatchWord::Removed, None, None) => Some(PauseData::Removed { node }),
+        (WatchKind::Attribute, None, None) => Some(PauseData::Attribute { node }),
+        (WatchKind::Removed, None, None) => Some(PauseData::Removed { node }),
         _ => None,
     }
 }

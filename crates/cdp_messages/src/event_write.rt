@@ -3,7 +3,7 @@ ghost use Rattle.std.specs.Prelude.{◌≡◌, ◌++◌, Some, None, IfOk, OnOk,
 ghost use Rattle.serde_json.specs.Data.{Data};
 ghost use Rattle.serde_json.specs.View.{view};
 ghost use Rattle.pipe_frames.specs.Frames.{framed};
-ghost use Rattle.cdp_messages.specs.declared.command.WatchWord.TheVariants.{Subtree};
+ghost use Rattle.node_tree.specs.declared.watches.WatchKind.TheVariants.{Subtree};
 ghost use Rattle.cdp_messages.specs.Events.{news_of, event_name, envelope};
 ghost use Rattle.cdp_messages.specs.Events.{modified_kind, dropped_kind, data_kind};
 ghost use Rattle.cdp_messages.specs.Events.{count_kind, removed_kind, added_kind, sheet_id_kind, news_data};
@@ -11,16 +11,15 @@ ghost use Rattle.cdp_messages.specs.Events.{pause_form, pause_kind, paused_kind}
 ghost use Rattle.cdp_messages.specs.Replies.{event_text};
 ghost use Rattle.cdp_messages.specs.Forms.{event_said};
 
-use crate::command::WatchWord;
 use crate::down::{Event, PauseData};
 use crate::event_names::EventName;
-use crate::node_writer::NodeMessage;
-use crate::tree::NodeTree;
-use crate::tree_write::{append_tree, append_trees};
+use crate::node_message::NodeMessage;
+use crate::tree_messages::{append_tree, append_trees};
 use crate::write::append;
 use cdp_json::ObjectBuilder;
 use css_objects::{Header, header_value, sheet_value};
-use node_tree::Text;
+use dom_objects::NodeTree;
+use node_tree::{Text, WatchKind};
 use serde_json::{Map, Value};
 use std::alloc::{AllocError, Global};
 
@@ -87,7 +86,7 @@ fn sheet_id_value(alloc: Global, sheet: u64) -> Result<Value, AllocError>
 }
 
 // The data of a pause that names its node alone.
-fn node_pause_value(alloc: Global, node: u64, watch: WatchWord) -> Result<Value, AllocError>
+fn node_pause_value(alloc: Global, node: u64, watch: WatchKind) -> Result<Value, AllocError>
     ensures { IfOk result (λ v. view v ≡ pause_form.spell (None, (node, (None, (watch, tt))))) }
 {
     ObjectBuilder::new(alloc)
@@ -110,7 +109,7 @@ fn subtree_pause_value(
         .with_value("insertion", Value::Bool(insertion))?
         .with_value("nodeId", Value::from(node))?
         .with_value("targetNodeId", Value::from(target))?
-        .with_text("type", WatchWord::Subtree.as_str())?
+        .with_text("type", WatchKind::Subtree.as_str())?
         .build()
 }
 
@@ -123,8 +122,8 @@ fn pause_value(alloc: Global, pause: PauseData) -> Result<Value, AllocError>
             target,
             insertion,
         } => subtree_pause_value(alloc, node, target, insertion),
-        PauseData::Attribute { node } => node_pause_value(alloc, node, WatchWord::Attribute),
-        PauseData::Removed { node } => node_pause_value(alloc, node, WatchWord::Removed),
+        PauseData::Attribute { node } => node_pause_value(alloc, node, WatchKind::Attribute),
+        PauseData::Removed { node } => node_pause_value(alloc, node, WatchKind::Removed),
     }
 }
 

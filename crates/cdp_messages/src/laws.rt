@@ -3,7 +3,8 @@ ghost use Rattle.cdp_messages.specs.Laws.{AsksAreAsked, AsksFit, CommandsAreAske
 ghost use Rattle.cdp_messages.specs.Laws.{RepliesAreRead, RepliesAreShallow, EventsAreRead, EventsAreShallow};
 ghost use Rattle.cdp_messages.specs.Laws.{EventsAreUtf8, ShownChildrenFit, RefusalsAreRead, ResultsAreRead, MessagesAreRead, FaultsAreRead};
 ghost use Rattle.cdp_messages.specs.Laws.{ObjectsAreEmpty, MessagesAreSpelled, ResultsAreSpelled, OneMessage, OneResult, TextsHaveNoZero};
-ghost use Rattle.cdp_messages.specs.Laws.{RepliesAreUtf8, ShownTreesFit, ValuesAreRead, SpellingsAreRead};
+ghost use Rattle.cdp_messages.specs.Laws.{RepliesAreUtf8, ValuesAreRead, SpellingsAreRead};
+ghost use Rattle.dom_objects.specs.Tellable.{ShownTreesFit};
 
 /// What a writer appends is read as what it was given, nothing else is read, and no value spells two messages.
 pub fn spell_law()

@@ -1,5 +1,15 @@
-//! The messages of the protocol as typed values and as JSON, in frames that end with a zero byte: commands and their
-//! refusals on the way up, replies, error replies and events on the way down.
+//! The messages of the protocol as typed values and as JSON, in frames that end with a zero byte: commands and their refusals on
+//! the way up, replies, error replies and events on the way down.
+//!
+//! Promise: a frame is read as exactly the command that it asks, or refused with the first refusal in order; what a writer
+//! appends is exactly the text of its message; what comes down is read exactly where it is a message, strictly as it is spelled.
+//!
+//! Way in: `read_command` for the back end, `write_reply`, `write_event` and `write_refused` for its answers; `write_command`,
+//! `read_down` and `read_result` for the front end, and `read_root` for a document read in one pass.
+//!
+//! Law: `spell_law` (src/laws.rt, specs/Laws): what is written is read again, from whatever text a value comes, and no value
+//! spells two messages. The names of methods stand once, in specs/Methods, their parameters in specs/Parameters, the order of
+//! refusals in specs/Asked.
 #![tactic(auto)]
 
 mod command;
@@ -9,18 +19,13 @@ mod dom_ask;
 mod dom_edit;
 mod down;
 mod edits;
-mod effects;
 mod event_names;
 mod event_read;
 mod event_write;
 mod kept;
 mod laws;
 mod method;
-mod node_read;
-mod node_row;
-mod node_rules;
-mod node_write;
-mod node_writer;
+mod node_message;
 mod numbers;
 mod parameters;
 mod read;
@@ -29,13 +34,11 @@ mod receive;
 mod reply_write;
 mod result_forms;
 mod result_read;
-mod scan;
-mod token_write;
-mod tree;
-mod tree_write;
+mod root_scan;
+mod tree_messages;
 mod write;
 
-pub use command::{Asked, Command, CommandErr, Param, ReadErr, Refused, WatchWord, Why};
+pub use command::{Asked, Command, CommandErr, Param, ReadErr, Refused, Why};
 pub use css_ask::CssAsk;
 pub use css_edit::CssEdit;
 pub use css_objects::{
@@ -44,21 +47,19 @@ pub use css_objects::{
 };
 pub use dom_ask::DomAsk;
 pub use dom_edit::DomEdit;
-pub use down::{Down, DownErr, Event, PauseData, ReplyBody};
+pub use dom_objects::{DownErr, NodeTree};
+pub use down::{Down, Event, PauseData, ReplyBody};
 pub use edits::{TextEdit, TextEdits};
-pub use effects::Effect;
 pub use event_write::write_event;
 pub use kept::Json;
 pub use laws::spell_law;
-pub use method::Method;
-pub use node_row::NodeRow;
-pub use node_tree::{Attributes, Kind, Kind as NodeType, Text};
-pub use node_writer::{NodeMessage, NodeWriter};
+pub use method::{Domains, Method, Server};
+pub use node_message::NodeMessage;
+pub use node_tree::{Attributes, Kind, Kind as NodeType, Text, WatchKind as WatchWord};
 pub use numbers::Numbers;
 pub use read::{read_ask, read_command};
 pub use receive::read_down;
 pub use reply_write::write_reply;
 pub use result_read::read_result;
-pub use scan::read_root;
-pub use tree::NodeTree;
+pub use root_scan::read_root;
 pub use write::{write_command, write_refused};

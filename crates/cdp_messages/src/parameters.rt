@@ -11,7 +11,7 @@ ghost use Rattle.cdp_messages.specs.Events.{watch};
 ghost use Rattle.cdp_messages.specs.Parameters.{place_fields, place_from, range_parameter, text_edit};
 ghost use Rattle.cdp_messages.specs.Answers.{Commands};
 
-use crate::command::{CommandErr, Param, WatchWord, Why};
+use crate::command::{CommandErr, Param, Why, watch_named};
 use crate::edits::{TextEdit, TextEdits};
 use crate::numbers::Numbers;
 use crate::write::param_name;
@@ -19,7 +19,7 @@ use cdp_json::{
     Field, depth_field, flag_field, int_field, list_field, object_field, text_field, wholes_of,
 };
 use css_objects::SourceRange;
-use node_tree::Text;
+use node_tree::{Text, WatchKind};
 use serde_json::{Map, Value};
 use std::alloc::{AllocError, Global};
 
@@ -129,11 +129,11 @@ pub(crate) fn wholes(
     required_of(param, field)
 }
 
-fn watch_field(params: &Map<String, Value>, name: &str) -> Field<WatchWord>
+fn watch_field(params: &Map<String, Value>, name: &str) -> Field<WatchKind>
     ensures { result ≡ field_of watch.reads name.now (members_view params.now.entries) }
 {
     match text_field(params, name) {
-        Field::Is(word) => match WatchWord::named(word) {
+        Field::Is(word) => match watch_named(word) {
             Some(found) => Field::Is(found),
             None => Field::WrongKind,
         },
@@ -142,7 +142,7 @@ fn watch_field(params: &Map<String, Value>, name: &str) -> Field<WatchWord>
     }
 }
 
-pub(crate) fn watch(params: &Map<String, Value>, param: Param) -> Result<WatchWord, Why>
+pub(crate) fn watch(params: &Map<String, Value>, param: Param) -> Result<WatchKind, Why>
     ensures { result ≡ required (BadParam param) (field_of watch.reads (param_name param)
         (members_view params.now.entries)) }
 {

@@ -3,23 +3,23 @@ ghost use Rattle.std.specs.Prelude.{◌≡◌, ◌++◌, IfOk, OnOk, OnErr, IsUt
 ghost use Rattle.serde_json.specs.Data.{Data};
 ghost use Rattle.serde_json.specs.View.{view};
 ghost use Rattle.serde_json.specs.Written.{compact_text, has_float};
-ghost use Rattle.cdp_messages.specs.NodeObject.{attribute_list};
+ghost use Rattle.dom_objects.specs.NodeObject.{attribute_list};
 ghost use Rattle.cdp_messages.specs.Results.{id_kind, ids_kind, attributes_kind};
 ghost use Rattle.cdp_messages.specs.Replies.{reply, message_data, body_data, reply_text};
 ghost use Rattle.pipe_frames.specs.Frames.{framed};
 ghost use Rattle.cdp_messages.specs.Forms.{body_said};
 
 use crate::down::ReplyBody;
-use crate::node_writer::NodeMessage;
+use crate::node_message::NodeMessage;
 use crate::numbers::Numbers;
-use crate::tree::NodeTree;
-use crate::tree_write::append_tree;
+use crate::tree_messages::append_tree;
 use crate::write::append;
 use cdp_json::{ObjectBuilder, whole_list};
 use css_objects::{
     class_names_value, matched_value, new_rule_value, new_selectors_value, sheet_text_value,
     styles_value,
 };
+use dom_objects::NodeTree;
 use node_tree::Attributes;
 use serde_json::{Map, Value};
 use std::alloc::{AllocError, Global};

@@ -5,22 +5,21 @@ ghost use Rattle.serde_json.specs.View.{view, items_view};
 ghost use Rattle.cdp_json.specs.Left.{left};
 ghost use Rattle.cdp_json.specs.Kinds.{list_of, refined, whole};
 ghost use Rattle.cdp_json.specs.Rows.{left_with, need};
-ghost use Rattle.cdp_messages.specs.Answers.{GivesMessage};
+ghost use Rattle.dom_objects.specs.Answers.{GivesMessage};
 ghost use Rattle.cdp_messages.specs.declared.result_forms.ResultForm.TheVariants as form;
-ghost use Rattle.cdp_messages.specs.NodeObject.{attribute_list};
+ghost use Rattle.dom_objects.specs.NodeObject.{attribute_list};
 ghost use Rattle.cdp_messages.specs.Results.{are_attributes};
 ghost use Rattle.cdp_messages.specs.Replies.{result_by, result_of};
 
-use crate::down::{DownErr, ReplyBody};
+use crate::down::ReplyBody;
 use crate::method::Method;
-use crate::node_read::{attributes_of, tree_of};
-use crate::node_rules::{Manner, are_attribute_names, is_ascending};
 use crate::numbers::Numbers;
 use crate::result_forms::ResultForm;
 use cdp_json::{Cursor, wholes_of};
 use css_objects::{
     class_names_of, matched_of, new_rule_of, new_selectors_of, sheet_text_of, styles_of,
 };
+use dom_objects::{DownErr, Manner, are_attribute_names, attributes_of, is_ascending, tree_of};
 use node_tree::{Attributes, Text};
 use serde_json::Value;
 use std::alloc::Global;
@@ -225,7 +224,7 @@ pub fn read_result(alloc: Global, method: &str, value: &Value) -> Result<ReplyBo
     ensures { GivesMessage (λ body. body) result (result_of method.now (view value.now)) }
 {
     match Method::named(method) {
-        Some(method) => result_by(alloc, ResultForm::of_method(method), value),
+        Some(method) => result_by(alloc, method.result_form(), value),
         None => Err(DownErr::NotMessage),
     }
 }

@@ -10,7 +10,7 @@ use Rattle.style_edits.specs.declared.splice.Splice.{Splice}
 use Rattle.style_edits.specs.Splices.{after_splice, back_by, back_splice}
 use Rattle.pipe_frames.specs.Frames.{framed}
 use Rattle.cdp_messages.specs.Events.{sheet_changed}
-use Rattle.cdp_messages.specs.Moves.{Move, replied, move_text, frames_of_moves}
+use Rattle.client_views.specs.Moves.{Move, replied, move_text, frames_of_moves}
 use Rattle.cdp_messages.specs.Replies.{event}
 use Rattle.cdp_messages.specs.declared.css_edit.CssEdit.{CssEdit}
 use Rattle.css_agent.specs.Told.{changed_message, message_frame, message_frames}

@@ -33,7 +33,7 @@ use Rattle.cdp_messages.specs.declared.down.ReplyBody.TheVariants as body
 use Rattle.cdp_messages.specs.declared.edits.TextEdit.{TextEdit}
 use Rattle.cdp_messages.specs.Laws.{answers, BodyHasUtf8}
 use Rattle.cdp_messages.specs.Replies.{fits_body}
-use Rattle.cdp_messages.specs.Moves.{IsPlainReply}
+use Rattle.client_views.specs.Moves.{IsPlainReply}
 use Rattle.cdp_messages.specs.declared.css_edit.CssEdit.{CssEdit}
 use Rattle.cdp_messages.specs.declared.css_edit.CssEdit.TheVariants as edit
 use Rattle.css_agent.specs.RuleObjects.{told_rule}

@@ -25,23 +25,23 @@ class_in only_child = None
 class_in only_of_type = None
 class_in never = None
 
--- that of a simple selector: inside `:not` too
+-- the class of a simple selector: inside `:not` too
 abbrev pub class_of : SimpleForm → Option (List ℕ)
 class_of s = class_in (test_of s)
 
--- those of the simple selectors of a compound, in their order
+-- the classes of the simple selectors of a compound, in their order
 abbrev pub classes_of_tests : List SimpleForm → List (List ℕ)
 classes_of_tests tests = flat_map (λ s. option_to_list (class_of s)) tests
 
--- those of the compounds of a selector
+-- the classes of the compounds of a selector
 abbrev pub classes_of_compounds : List CompoundForm → List (List ℕ)
 classes_of_compounds compounds = flat_map (λ c. classes_of_tests c.tests) compounds
 
--- those of the selectors of a rule
+-- the classes of the selectors of a rule
 abbrev pub classes_of_selectors : List SelectorForm → List (List ℕ)
 classes_of_selectors selectors = flat_map (λ s. classes_of_compounds s.compounds) selectors
 
--- those of style rules
+-- the classes of style rules
 abbrev pub classes_of_rules : List RuleForm → List (List ℕ)
 classes_of_rules rules = flat_map (λ r. classes_of_selectors r.selectors) rules
 
@@ -49,7 +49,7 @@ classes_of_rules rules = flat_map (λ r. classes_of_selectors r.selectors) rules
 abbrev pub with_name : List (List ℕ) → List ℕ → List (List ℕ)
 with_name names name = insert_key (slice_cmp nat_cmp) names name
 
--- the same with some more, one after the other
+-- names that ascend by bytes, with some more, one after the other, each in its place
 abbrev pub with_names : List (List ℕ) → List (List ℕ) → List (List ℕ)
 with_names names more = fold with_name names more
 

@@ -8,7 +8,7 @@ use Rattle.cdp_messages.specs.declared.down.ReplyBody.TheVariants as body
 use Rattle.cdp_messages.specs.declared.edits.TextEdit.{TextEdit}
 use Rattle.cdp_messages.specs.Asked.{method_name}
 use Rattle.cdp_messages.specs.Laws.{answers}
-use Rattle.cdp_messages.specs.Moves.{IsPlainReply}
+use Rattle.client_views.specs.Moves.{IsPlainReply}
 use Rattle.sheet_reader.specs.declared.book.SheetEntry.{SheetEntry}
 use Rattle.sheet_reader.specs.Books.{IsStored}
 use Rattle.style_edits.specs.declared.splice.Splice.{Splice}
@@ -30,7 +30,7 @@ HasEditTexts (edit.SetRuleSelector sheet range selector) = IsUtf8 selector
 HasEditTexts (edit.SetStyleSheetText sheet text) = IsUtf8 text
 HasEditTexts (edit.AddRule sheet rule_text location) = IsUtf8 rule_text
 
--- its method's name
+-- the name of the method of an edit
 abbrev pub css_edit_name : CssEdit → List ℕ
 css_edit_name x = method_name (EditCss x)
 
@@ -91,7 +91,7 @@ pub record IsDone (book : List SheetEntry) (x : CssEdit) (d : CssDone) : Type 0 
   -- and tells one style for each edit, where it tells styles
   pub styles : TellsStyles (edit_count x) d.body
 
--- so it is for each edit of a book whose sheets are as a book has them
+-- what was done is so for each edit of a book whose sheets are as a book has them
 abbrev pub EditsAreDone : Type 0
 EditsAreDone =
     (book : List SheetEntry) (x : CssEdit) (d : CssDone) → All IsStored book → HasEditTexts x → css_edited book x ≡ Ok d → IsDone book x d

@@ -20,7 +20,7 @@ use Rattle.style_edits.specs.EditedRules.{edited_rule, edited_rules}
 use Rattle.cdp_messages.specs.declared.down.ReplyBody.{ReplyBody}
 use Rattle.cdp_messages.specs.declared.down.ReplyBody.TheVariants as body
 use Rattle.cdp_messages.specs.declared.edits.TextEdit.{TextEdit}
-use Rattle.cdp_messages.specs.Moves.{Move, rewritten, replied}
+use Rattle.client_views.specs.Moves.{Move, rewritten, replied}
 use Rattle.cdp_messages.specs.declared.css_edit.CssEdit.{CssEdit}
 use Rattle.cdp_messages.specs.declared.css_edit.CssEdit.TheVariants as edit
 use Rattle.css_agent.specs.RuleObjects.{told_rule}
@@ -71,7 +71,7 @@ pub record CssDone : Type 0 where
   pub backs : List Splice
   pub body : ReplyBody
 
--- the same by its parts
+-- what was done, by its parts
 abbrev pub css_done : List SheetEntry → List Splice → ReplyBody → CssDone
 css_done book backs body = record { book = book; backs = backs; body = body }
 
@@ -97,11 +97,11 @@ styles_set edits book = styles_done (edited_rules (map style_edit edits) book) (
 abbrev pub selector_edited : List ℕ → SourceRange → List ℕ → List SheetEntry → Result (List SheetEntry × Splice) SheetFault
 selector_edited sheet range selector book = edited book (selector_splice (number_named sheet) (line_range range) selector book)
 
--- that of `CSS.setStyleSheetText`
+-- the edit of `CSS.setStyleSheetText`
 abbrev pub text_edited : List ℕ → List ℕ → List SheetEntry → Result (List SheetEntry × Splice) SheetFault
 text_edited sheet text book = edited book (text_splice (number_named sheet) text book)
 
--- that of `CSS.addRule`
+-- the edit of `CSS.addRule`
 abbrev pub rule_edited : List ℕ → List ℕ → SourceRange → List SheetEntry → Result (List SheetEntry × Splice) SheetFault
 rule_edited sheet rule_text location book = edited book (rule_splice (number_named sheet) (line_range location) rule_text book)
 
@@ -124,7 +124,7 @@ abbrev pub one_splice : Found → List Splice
 one_splice (Ok s) = s ∷ []
 one_splice (Err f) = []
 
--- that of a first edit, and those of the rest in the book that it leaves; none from the first fault on
+-- the splice of a first edit, and those of the rest in the book that it leaves; none from the first fault on
 abbrev pub splices_on : Found → List SheetEntry → (List SheetEntry → List Splice) → List Splice
 splices_on (Ok s) book rest = s ∷ rest (after_splice s book)
 splices_on (Err f) book rest = []
@@ -152,7 +152,7 @@ abbrev pub splice_moves : List Splice → List SheetEntry → List Move
 splice_moves [] book = []
 splice_moves (s ∷ ss) book = rewritten_in (after_splice s book) s.sheet ∷ splice_moves ss (after_splice s book)
 
--- these moves, and the reply behind them to the command with that id; none on a fault
+-- moves, and the reply behind them to the command with that id; none on a fault
 abbrev pub moves_with_reply : ℕ → List Move → CssEdited → List Move
 moves_with_reply id told (Ok d) = told ++ replied id d.body ∷ []
 moves_with_reply id told (Err f) = []

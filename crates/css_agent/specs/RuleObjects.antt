@@ -29,11 +29,11 @@ property_with range text p = record {
   range = range;
 }
 
--- one in a sheet
+-- a declaration of a sheet as messages tell it
 abbrev pub sheet_property : List ℕ → Property → StyleProperty
 sheet_property text p = property_with (Some (source_range text p.whole)) text p
 
--- one in a `style` attribute, which has no range
+-- a declaration of a `style` attribute as messages tell it, without a range
 abbrev pub inline_property : List ℕ → Property → StyleProperty
 inline_property text p = property_with None text p
 
@@ -60,7 +60,7 @@ told_weight s = record { a = s.a; b = s.b; c = s.c }
 abbrev pub told_selector : List ℕ → SelectorForm → SelectorValue
 told_selector text s = record { range = source_range text s.range; weight = told_weight (specificity_of s); text = told_part text s.range }
 
--- those of a rule, and the text of its prelude
+-- the selectors of a rule, and the text of its prelude
 abbrev pub told_prelude : List ℕ → RuleForm → RuleSelectors
 told_prelude text r = record { selectors = map (told_selector text) r.selectors; text = told_part text r.prelude }
 

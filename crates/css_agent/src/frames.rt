@@ -1,7 +1,7 @@
 // Messages as they are sent.
 ghost use Rattle.std.specs.Prelude.{◌≡◌, ◌++◌, cond, [], ◌∷◌, map, OnOk};
 ghost use Rattle.cdp_messages.specs.Events.{sheet_changed};
-ghost use Rattle.cdp_messages.specs.Moves.{replied, frames_of_moves};
+ghost use Rattle.client_views.specs.Moves.{replied, frames_of_moves};
 ghost use Rattle.cdp_messages.specs.Replies.{event};
 ghost use Rattle.sheet_reader.specs.Books.{IsEntry};
 ghost use Rattle.css_agent.specs.Told.{added_message, changed_message, message_frames};

@@ -33,34 +33,34 @@ pub record IsSoundKind {T : Type 0} (k : Kind T) (HasTexts : T → Type 0) (leve
 
 -- ---- the texts of each object are UTF-8
 
--- those of a selector
+-- the texts of a selector are UTF-8
 abbrev pub SelectorHasUtf8 : SelectorValue → Type 0
 SelectorHasUtf8 v = IsUtf8 v.text
 
--- those of a list of selectors
+-- the texts of a list of selectors are UTF-8
 abbrev pub SelectorsHaveUtf8 : RuleSelectors → Type 0
 SelectorsHaveUtf8 s = AllByRecursion SelectorHasUtf8 s.selectors × IsUtf8 s.text
 
--- those of a property
+-- the texts of a property are UTF-8
 abbrev pub PropertyHasUtf8 : StyleProperty → Type 0
 PropertyHasUtf8 p = IsUtf8 p.name × IsUtf8 p.text × IsUtf8 p.value
 
--- those of a style
+-- the texts of a style are UTF-8
 abbrev pub StyleHasUtf8 : Style → Type 0
 StyleHasUtf8 s = AllByRecursion PropertyHasUtf8 s.properties × IsUtf8 s.text
 
--- those of a rule
+-- the texts of a rule are UTF-8
 abbrev pub RuleHasUtf8 : Rule → Type 0
 RuleHasUtf8 r = SelectorsHaveUtf8 r.selectors × StyleHasUtf8 r.style
 
--- those of a match
+-- the texts of a match are UTF-8
 abbrev pub MatchHasUtf8 : RuleMatch → Type 0
 MatchHasUtf8 m = RuleHasUtf8 m.rule
 
--- those of an entry of inherited styles
+-- the texts of an entry of inherited styles are UTF-8
 abbrev pub InheritedHasUtf8 : Inherited → Type 0
 InheritedHasUtf8 i = IfSome i.inline StyleHasUtf8 × AllByRecursion MatchHasUtf8 i.rules
 
--- those of matched styles
+-- the texts of matched styles are UTF-8
 abbrev pub MatchedHaveUtf8 : Matched → Type 0
 MatchedHaveUtf8 m = AllByRecursion InheritedHasUtf8 m.inherited × IfSome m.inline StyleHasUtf8 × AllByRecursion MatchHasUtf8 m.rules

@@ -1,5 +1,14 @@
 //! The objects of the protocol's CSS domain, as typed values and as JSON: ranges, selectors, styles, rules and headers of
 //! sheets, and the results that are made of them.
+//!
+//! Promise: each object is described once; a reader (`rule_of`, `header_of` and the like) gives exactly what a value spells,
+//! none where it spells no such object, and a writer (`rule_value`, `header_value`) builds exactly its JSON.
+//!
+//! Way in: the types, `Listed` for each list in a public field, and a reader and a writer for each object and each result of a
+//! CSS method.
+//!
+//! Law: `css_objects_law` (src/laws.rt, specs/Laws): what is read is spelled so and what is spelled is read, no value spells
+//! two, the JSON is UTF-8 where the texts are, and how deep each object nests.
 #![tactic(auto)]
 
 mod laws;

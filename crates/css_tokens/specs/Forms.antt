@@ -103,7 +103,7 @@ pub record StringForm (kind : TokenKind) (piece rest : List ℕ) : Type 0 where
   pub units : Units (StringUnit quote) body (close ++ rest)
   pub closed : ClosesWith (quote ∷ []) close rest
 
--- the same, ended before a newline that no `\` precedes
+-- a string ended before a newline that no `\` precedes
 pub record BadStringForm (kind : TokenKind) (piece rest : List ℕ) : Type 0 where
   pub named : kind ≡ BadString
   pub quote : ℕ

@@ -17,12 +17,13 @@ use Rattle.node_binding.proofs.StartLemmas.{count-alone}
 use Rattle.node_binding.proofs.OpeningLemmas.{self_times}
 use Rattle.node_binding.proofs.AnewLemmas.{at_or_other, found_here, found_later}
 use Rattle.cdp_messages.specs.declared.down.ReplyBody.TheVariants.{Attributes, Node as ReplyNode}
-use Rattle.cdp_messages.specs.Laws.{LabelHasUtf8, NodesHaveUtf8}
+use Rattle.node_tree.specs.Labels.{LabelHasUtf8}
+use Rattle.dom_objects.specs.NodeTexts.{NodesHaveUtf8}
 use Rattle.cdp_messages.specs.Results.{are_attributes}
-use Rattle.cdp_messages.proofs.TellableLaws.{width-told_nodes}
-use Rattle.cdp_messages.specs.NodeObject.{is_counted_row, fits_hold, fits_described}
-use Rattle.cdp_messages.specs.NodeData.{fits_described_nodes, fits_described_tree}
-use Rattle.cdp_messages.specs.Told.{Told, count_in, told_nodes}
+use Rattle.dom_objects.proofs.TellableLaws.{width-told_nodes}
+use Rattle.dom_objects.specs.NodeObject.{is_counted_row, fits_hold, fits_described}
+use Rattle.dom_objects.specs.NodeData.{fits_described_nodes, fits_described_tree}
+use Rattle.dom_objects.specs.Told.{Told, count_in, told_nodes}
 use Rattle.dom_agent.specs.Described.{shows_children, row_to, shown_to, kids_to, no_ids, described}
 use Rattle.dom_agent.specs.Laws.{RowsHaveUtf8, CanTell}
 use Rattle.dom_agent.proofs.StepLemmas.{CanSpell}

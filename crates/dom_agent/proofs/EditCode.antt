@@ -23,7 +23,7 @@ use Rattle.page_tree.proofs.BackLemmas.{turned-live}
 use Rattle.node_binding.proofs.StartLemmas.{distinct-alone}
 use Rattle.node_binding.specs.Bindings.{BindingValue, opened_in, id_in, with_bound}
 use Rattle.pipe_frames.specs.Frames.{framed}
-use Rattle.cdp_messages.specs.Moves.{inserts, removes, counts, Move, change, frames_of_moves}
+use Rattle.client_views.specs.Moves.{inserts, removes, counts, Move, change, frames_of_moves}
 use Rattle.dom_agent.specs.Keepers.{Keeper, binding_keeper}
 use Rattle.dom_agent.specs.Edits.{Edited, id_before, unopened, told_count, family, insertion, child_came, edited, event_frames}
 use Rattle.dom_agent.specs.EditLaws.{binding_edited}

@@ -27,7 +27,7 @@ use Rattle.node_binding.proofs.OpeningLemmas.{AreDistinct}
 use Rattle.node_binding.proofs.InViewLemmas.{in_view, known-in_view}
 use Rattle.node_binding.proofs.ChangedLemmas.{IsAlike, containers-live}
 use Rattle.node_binding.proofs.ChangesLemmas.{binds_child, passes_attach, forgets, passes_label}
-use Rattle.cdp_messages.specs.Moves.{Change, inserts, removes, Move, change}
+use Rattle.client_views.specs.Moves.{Change, inserts, removes, Move, change}
 use Rattle.dom_agent.specs.Keepers.{session_keeper, binding_keeper}
 use Rattle.dom_agent.specs.Edits.{Edited, id_before, unopened, family, insertion}
 use Rattle.dom_agent.specs.EditLaws.{session_edited, binding_edited, EditKeepsBound, SameEditMoves}

@@ -8,8 +8,8 @@ use Rattle.page_tree.specs.declared.edits.TreeEdit.{TreeEdit}
 use Rattle.page_tree.specs.declared.edits.TreeEdit.TheVariants.{SetAttr, DropAttr, SetText, Attach, Detach}
 use Rattle.page_tree.proofs.EditLemmas.{serial-live, valid-after}
 use Rattle.node_binding.specs.Sessions.{Session, IsSession, session_of, session_ids, knows, attached, detached}
-use Rattle.cdp_messages.specs.Views.{ShownSheet, View}
-use Rattle.cdp_messages.specs.Moves.{Change, removes, counts, sets, drops, says, change, ChangesNode, CanBeTold, Course, ends, goes}
+use Rattle.client_views.specs.Views.{ShownSheet, View}
+use Rattle.client_views.specs.Moves.{Change, removes, counts, sets, drops, says, change, ChangesNode, CanBeTold, Course, ends, goes}
 use Rattle.dom_agent.specs.Edits.{Edited}
 use Rattle.dom_agent.specs.Laws.{session_view}
 use Rattle.dom_agent.specs.EditLaws.{session_edited, EditsAreMoves}

@@ -10,9 +10,9 @@ use Rattle.node_binding.specs.Cuts.{cut}
 use Rattle.node_binding.specs.Bindings.{BindingValue, opened_in, id_in}
 use Rattle.cdp_messages.specs.declared.down.ReplyBody.{ReplyBody}
 use Rattle.pipe_frames.specs.Frames.{framed}
-use Rattle.cdp_messages.specs.Tokens.{data_tokens}
-use Rattle.cdp_messages.specs.Moves.{Move, change, shows, replied, move_text, frames_of_moves}
-use Rattle.cdp_messages.proofs.TokenLists.{frame_sent}
+use Rattle.dom_objects.specs.Tokens.{data_tokens}
+use Rattle.client_views.specs.Moves.{Move, change, shows, replied, move_text, frames_of_moves}
+use Rattle.dom_objects.proofs.TokenLists.{frame_sent}
 use Rattle.dom_agent.specs.Keepers.{binding_keeper}
 use Rattle.dom_agent.specs.Requests.{Showing, told_of, opening_moves, frames_told}
 

@@ -12,8 +12,11 @@ use Rattle.dom_agent.proofs.PushLemmas.{all_pushed-cons}
 
 opened_down-grows : (d : Option ℕ) (x : Branch PageRow) (b : BindingValue) → b.next ≤ (opened_down d x b).next
 opened_down-grows d x b =
-    omega (arith, bound-next (levelled (less d) x.children) (bindings.all_opened (containers_within d (alone x)) b),
-    opened-next (containers_within d (alone x)) b)
+    omega (
+      arith,
+      bound-next (levelled (less d) x.children) (bindings.all_opened (containers_within d (alone x)) b),
+      opened-next (containers_within d (alone x)) b,
+    )
 
 opened-grow : (xs : List Opening) (n : Nodes PageRow) (d : Branch PageRow) (b : BindingValue)
     → b.next ≤ (all_opened (binding_keeper n) d xs b).state.next

@@ -27,7 +27,7 @@ use Rattle.cdp_messages.specs.declared.dom_ask.DomAsk.TheVariants.{GetDocument, 
 use Rattle.cdp_messages.specs.declared.dom_ask.DomAsk.TheVariants.{QuerySelectorAll, GetAttributes, DescribeNode}
 use Rattle.cdp_messages.specs.declared.command.Why.TheVariants.{NotPushed}
 use Rattle.cdp_messages.specs.declared.down.ReplyBody.TheVariants.{NodeId, NodeIds}
-use Rattle.cdp_messages.specs.Moves.{root, replied, failed}
+use Rattle.client_views.specs.Moves.{root, replied, failed}
 use Rattle.dom_agent.specs.Keepers.{Keeper, session_keeper, binding_keeper}
 use Rattle.dom_agent.specs.Paths.{node_at_path}
 use Rattle.dom_agent.specs.Requests.{Opening, Showing, Progress, Pushes, Outcome, shows_root, served, refused, requested, pushing}

@@ -13,7 +13,7 @@ use Rattle.node_binding.specs.Sessions.{session_of, grown}
 use Rattle.node_binding.proofs.OpeningLemmas.{AreDistinct, self_times}
 use Rattle.node_binding.proofs.SessionLemmas.{times-known, known_below}
 use Rattle.node_binding.proofs.InViewLemmas.{opened_now}
-use Rattle.cdp_messages.specs.NodeObject.{node_name}
+use Rattle.dom_objects.specs.NodeObject.{node_name}
 use Rattle.dom_agent.specs.Keepers.{session_keeper}
 use Rattle.dom_agent.specs.Paths.{PathStep, child_by, node_by, steps_of, parts_of, node_at_path}
 use Rattle.dom_agent.specs.Requests.{Opening, ancestors_down, pushing, all_opened}

@@ -16,9 +16,9 @@ use Rattle.cdp_messages.specs.declared.down.ReplyBody.TheVariants.{Nothing, Root
 use Rattle.cdp_messages.specs.declared.down.ReplyBody.TheVariants.{Styles, Selectors, Rule, Matched}
 use Rattle.cdp_messages.specs.DomAsks.{ask_name, fits_ask}
 use Rattle.cdp_messages.specs.Laws.{answers}
-use Rattle.cdp_messages.specs.Views.{ShownSheet, View}
-use Rattle.cdp_messages.specs.Moves.{root, replied, failed, tells_view, IsPlainReply, CanBeTold, Course, ends, goes}
-use Rattle.cdp_messages.specs.Told.{Told}
+use Rattle.client_views.specs.Views.{ShownSheet, View}
+use Rattle.client_views.specs.Moves.{root, replied, failed, tells_view, IsPlainReply, CanBeTold, Course, ends, goes}
+use Rattle.dom_objects.specs.Told.{Told}
 use Rattle.dom_agent.specs.Requests.{Outcome, shows_root, served, refused, state_after, moves_of}
 use Rattle.dom_agent.specs.Laws.{session_outcome, CanTell, session_view, IsReplyTo, StepsAreMoves, RepliesAnswer}
 use Rattle.dom_agent.proofs.StepLemmas.{CanSay, CanSpell, course-join, goes-few}

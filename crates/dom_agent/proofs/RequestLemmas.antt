@@ -8,7 +8,7 @@ use Rattle.node_binding.specs.Bindings.{BindingValue, opened_in}
 use Rattle.node_binding.proofs.StartLemmas.{count-alone}
 use Rattle.node_binding.proofs.OpenDownLemmas.{count-found}
 use Rattle.cdp_messages.specs.declared.down.ReplyBody.TheVariants.{Nothing}
-use Rattle.cdp_messages.specs.Moves.{replied, frames_of_moves}
+use Rattle.client_views.specs.Moves.{replied, frames_of_moves}
 use Rattle.dom_agent.specs.Keepers.{binding_keeper}
 use Rattle.dom_agent.specs.Requests.{Opening, requested, all_opened, known_node, of_children, state_after, answer, opening_moves}
 use Rattle.dom_agent.specs.Requests.{frames_told}

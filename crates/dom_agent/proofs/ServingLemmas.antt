@@ -8,7 +8,7 @@ use Rattle.page_tree.specs.Pages.{PageRow}
 use Rattle.node_binding.specs.Bindings.{BindingValue, opened_down}
 use Rattle.node_binding.proofs.OpenDownLemmas.{opened_down-next}
 use Rattle.pipe_frames.specs.Frames.{framed}
-use Rattle.cdp_messages.specs.Moves.{move_text}
+use Rattle.client_views.specs.Moves.{move_text}
 use Rattle.dom_agent.specs.Keepers.{binding_keeper}
 use Rattle.dom_agent.specs.Requests.{Opening, Showing, told_of, all_opened, opening_move, frames_told}
 use Rattle.dom_agent.specs.declared.openings.Opening as held

@@ -20,9 +20,9 @@ use Rattle.node_binding.specs.Sessions.{knows, view}
 use Rattle.node_binding.proofs.Places.{is_in-times}
 use Rattle.node_binding.proofs.OpeningLemmas.{AreDistinct}
 use Rattle.node_binding.proofs.ChangedLemmas.{IsAlike}
-use Rattle.cdp_messages.specs.LabelChanges as label
-use Rattle.cdp_messages.specs.Moves.{Change, inserts, removes, counts, sets, drops, says, changed, suits_change, has_named_attribute}
-use Rattle.cdp_messages.specs.Moves.{put_after, without_tree, has_tree, ChangesNode}
+use Rattle.node_tree.specs.LabelChanges as label
+use Rattle.client_views.specs.Moves.{Change, inserts, removes, counts, sets, drops, says, changed, suits_change, has_named_attribute}
+use Rattle.client_views.specs.Moves.{put_after, without_tree, has_tree, ChangesNode}
 use Rattle.dom_agent.specs.Requests.{shown}
 use Rattle.dom_agent.specs.Edits.{id_before, unopened}
 use Rattle.dom_agent.proofs.ShownLemmas.{is_root, SeenAt, seen-at, prior_is, insert_shown, root_seen, drop_shown}

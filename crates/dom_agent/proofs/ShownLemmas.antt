@@ -18,7 +18,7 @@ use Rattle.node_binding.proofs.OpeningLemmas.{self_times}
 use Rattle.node_binding.proofs.SessionLemmas.{times-known}
 use Rattle.node_binding.proofs.AnewLemmas.{and-first, and-second, unopened-at}
 use Rattle.node_binding.proofs.ChangedLemmas.{IsAlike, AreContainersOpened}
-use Rattle.cdp_messages.specs.Moves.{has_tree, put_behind, put_after, without_tree}
+use Rattle.client_views.specs.Moves.{has_tree, put_behind, put_after, without_tree}
 use Rattle.dom_agent.specs.Requests.{shown}
 use Rattle.dom_agent.specs.Edits.{id_before, unopened}
 

@@ -19,8 +19,8 @@ use Rattle.node_binding.proofs.OpenedLemmas.{IsSession-opened, length-opened, ba
 use Rattle.cdp_messages.specs.declared.down.ReplyBody.{ReplyBody}
 use Rattle.cdp_messages.specs.Laws.{BodyHasUtf8, body_height}
 use Rattle.cdp_messages.specs.Replies.{fits_body}
-use Rattle.cdp_messages.specs.Views.{ShownSheet, View}
-use Rattle.cdp_messages.specs.Moves.{Move, CanBeTold, Course, ends, goes}
+use Rattle.client_views.specs.Views.{ShownSheet, View}
+use Rattle.client_views.specs.Moves.{Move, CanBeTold, Course, ends, goes}
 use Rattle.dom_agent.specs.Keepers.{session_keeper}
 use Rattle.dom_agent.specs.Requests.{Opening, Showing, Progress, Pushes, pushing, all_opened, pushed as push_of, all_pushed, opening_move}
 use Rattle.dom_agent.specs.Requests.{opening_moves}

@@ -21,11 +21,11 @@ use Rattle.node_binding.proofs.Places.{times-is_in, first}
 use Rattle.node_binding.proofs.StartLemmas.{count-alone, distinct-alone}
 use Rattle.node_binding.proofs.OpeningLemmas.{self_times}
 use Rattle.node_binding.proofs.SessionLemmas.{times-known, known_below, view-ids, view-serials, view-above, height-view}
-use Rattle.cdp_messages.specs.NodeObject.{same}
-use Rattle.cdp_messages.specs.Told.{count_in}
-use Rattle.cdp_messages.specs.Tellable.{suits_hold, suits_row, suits_nodes}
-use Rattle.cdp_messages.specs.Views.{ShownSheet, IsView, is_bare}
-use Rattle.cdp_messages.specs.Moves.{SeenHaveUtf8, suits_view, IsTellable}
+use Rattle.dom_objects.specs.NodeObject.{same}
+use Rattle.dom_objects.specs.Told.{count_in}
+use Rattle.dom_objects.specs.Tellable.{suits_hold, suits_row, suits_nodes}
+use Rattle.client_views.specs.Views.{ShownSheet, IsView, is_bare}
+use Rattle.client_views.specs.Moves.{SeenHaveUtf8, suits_view, IsTellable}
 use Rattle.dom_agent.specs.Laws.{RowsHaveUtf8, CanTell, CanTellSheets}
 use Rattle.dom_agent.proofs.StepLemmas.{CanSay, ids-below}
 

@@ -14,11 +14,11 @@ use Rattle.page_tree.specs.Pages.{PageRow}
 use Rattle.page_tree.proofs.CursorLemmas.{from-next}
 use Rattle.node_binding.specs.Cuts.{opens, cut}
 use Rattle.node_binding.specs.Openings.{less, is_spent}
-use Rattle.cdp_messages.specs.Told.{Told, told_nodes, told_branch, hold_of}
-use Rattle.cdp_messages.specs.NodeObject.{only_if}
-use Rattle.cdp_messages.specs.NodeData.{tree_items, tree_data}
-use Rattle.cdp_messages.specs.Tokens.{data_tokens, field_tokens, head_tokens, tail_tokens}
-use Rattle.cdp_messages.proofs.TokenLists.{after, node_tokens}
+use Rattle.dom_objects.specs.Told.{Told, told_nodes, told_branch, hold_of}
+use Rattle.dom_objects.specs.NodeObject.{only_if}
+use Rattle.dom_objects.specs.NodeData.{tree_items, tree_data}
+use Rattle.dom_objects.specs.Tokens.{data_tokens, field_tokens, head_tokens, tail_tokens}
+use Rattle.dom_objects.proofs.TokenLists.{after, node_tokens}
 use Rattle.dom_agent.specs.Described.{shows_children, shown_to, no_ids, described}
 use Rattle.dom_agent.specs.Requests.{shown}
 use Rattle.dom_agent.specs.Edits.{unopened}

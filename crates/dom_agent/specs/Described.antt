@@ -5,7 +5,7 @@ use Rattle.node_tree.specs.Labels.{holds}
 use Rattle.node_tree.specs.Seen.{Seen, leaf, counted, opened}
 use Rattle.page_tree.specs.Pages.{PageRow}
 use Rattle.node_binding.specs.Openings.{less, is_spent}
-use Rattle.cdp_messages.specs.Told.{Told, told_branch}
+use Rattle.dom_objects.specs.Told.{Told, told_branch}
 
 -- a container shows its children where levels are left
 abbrev pub shows_children : Option ℕ → PageRow → Bool

@@ -8,8 +8,8 @@ use Rattle.page_tree.specs.declared.edits.TreeEdit.{TreeEdit}
 use Rattle.node_binding.specs.Sessions.{Session, IsSession}
 use Rattle.node_binding.specs.Bindings.{BindingValue}
 use Rattle.node_binding.specs.Changes.{BindingStandsFor}
-use Rattle.cdp_messages.specs.Views.{ShownSheet}
-use Rattle.cdp_messages.specs.Moves.{Course}
+use Rattle.client_views.specs.Views.{ShownSheet}
+use Rattle.client_views.specs.Moves.{Course}
 use Rattle.dom_agent.specs.Keepers.{session_keeper, binding_keeper}
 use Rattle.dom_agent.specs.Edits.{Edited, edited}
 use Rattle.dom_agent.specs.Laws.{CanTell, CanTellSheets, session_view}
@@ -18,7 +18,7 @@ use Rattle.dom_agent.specs.Laws.{CanTell, CanTellSheets, session_view}
 abbrev pub session_edited : TreeEdit → PageValue → Session → Edited Session
 session_edited e page w = edited (session_keeper (alone page.tree)) e page.tree w
 
--- and for a binding
+-- what an edit of the page comes to for a binding
 abbrev pub binding_edited : TreeEdit → PageValue → BindingValue → Edited BindingValue
 binding_edited e page b = edited (binding_keeper (alone page.tree)) e page.tree b
 
@@ -35,7 +35,7 @@ EditKeepsBound =
     → BindingStandsFor page w b
     → BindingStandsFor (after e page) (session_edited e page w).state (binding_edited e page b).state
 
--- and tells the same moves
+-- an edit tells the same moves for a binding as for the session that it stands for
 abbrev pub SameEditMoves : Type 0
 SameEditMoves =
     (page : PageValue) (e : TreeEdit) (w : Session) (b : BindingValue) → IsValid page → CanApply page.next e page.tree

@@ -15,7 +15,7 @@ use Rattle.cdp_messages.specs.declared.down.Event.{Event}
 use Rattle.pipe_frames.specs.Frames.{framed}
 use Rattle.cdp_messages.specs.Events.{news_of}
 use Rattle.cdp_messages.specs.Replies.{event_text}
-use Rattle.cdp_messages.specs.Moves.{Change, inserts, removes, counts, sets, drops, says, Move, change}
+use Rattle.client_views.specs.Moves.{Change, inserts, removes, counts, sets, drops, says, Move, change}
 use Rattle.dom_agent.specs.Keepers.{Keeper}
 
 -- what is kept after an edit, and what is told of it

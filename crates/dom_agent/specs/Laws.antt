@@ -7,11 +7,12 @@ use Rattle.node_binding.specs.Sessions.{Session, IsSession, view}
 use Rattle.node_binding.specs.Bindings.{BindingValue, Stands}
 use Rattle.cdp_messages.specs.declared.dom_ask.DomAsk.{DomAsk}
 use Rattle.cdp_messages.specs.DomAsks.{fits_ask, ask_name}
-use Rattle.cdp_messages.specs.Laws.{LabelHasUtf8, answers}
+use Rattle.node_tree.specs.Labels.{LabelHasUtf8}
+use Rattle.cdp_messages.specs.Laws.{answers}
 use Rattle.cdp_messages.specs.declared.down.ReplyBody.TheVariants.{Root}
-use Rattle.cdp_messages.specs.Views.{ShownSheet, sheet_number, AreSheets, View, is_distinct}
-use Rattle.cdp_messages.specs.Moves.{Course}
-use Rattle.cdp_messages.specs.Told.{told_branch}
+use Rattle.client_views.specs.Views.{ShownSheet, sheet_number, AreSheets, View, is_distinct}
+use Rattle.client_views.specs.Moves.{Course}
+use Rattle.dom_objects.specs.Told.{told_branch}
 use Rattle.dom_agent.specs.Keepers.{session_keeper, binding_keeper}
 use Rattle.dom_agent.specs.Requests.{Outcome, shows_root, served, refused, outcome, state_after, moves_of}
 
@@ -35,7 +36,7 @@ StaysBound = (page : PageValue) (c : DomAsk) (w : Session) (b : BindingValue) �
     → Stands (alone page.tree) w b
     → Stands (alone page.tree) (state_after w (session_outcome page c w)) (state_after b (binding_outcome page c b))
 
--- and what is told are the moves of the step
+-- what is told of a command are the moves of the session's step
 abbrev pub SameMoves : Type 0
 SameMoves = (page : PageValue) (c : DomAsk) (w : Session) (b : BindingValue) (id : ℕ) → IsValid page → fits_ask c ≡ true
     → IsSession (alone page.tree) w

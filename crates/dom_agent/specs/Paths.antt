@@ -4,14 +4,14 @@ use Rattle.std.specs.Prelude.{option_map, option_and_then, bytes_eq}
 use Rattle.std.specs.List.{list_all, onto_first}
 use Rattle.node_tree.specs.Nodes.{Nodes, Branch, tree_at}
 use Rattle.page_tree.specs.Pages.{PageRow}
-use Rattle.cdp_messages.specs.NodeObject.{node_name}
+use Rattle.dom_objects.specs.NodeObject.{node_name}
 
 -- the stretches between commas
 abbrev pub parts_of : List ℕ → List (List ℕ)
 parts_of [] = [] ∷ []
 parts_of (b ∷ bs) = cond (b == 44) ([] ∷ parts_of bs) (onto_first b (parts_of bs))
 
--- those after a comma, where there is one
+-- the stretches after a comma, where there is one
 abbrev pub parts_after_comma : Option (List ℕ) → List (List ℕ)
 parts_after_comma None = []
 parts_after_comma (Some text) = parts_of text

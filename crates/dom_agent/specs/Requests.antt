@@ -15,7 +15,7 @@ use Rattle.cdp_messages.specs.declared.command.Why.{Why}
 use Rattle.cdp_messages.specs.declared.command.Why.TheVariants.{UnknownNode, NotPushed, NoPath, NotElement}
 use Rattle.cdp_messages.specs.declared.down.ReplyBody.{ReplyBody}
 use Rattle.cdp_messages.specs.declared.down.ReplyBody.TheVariants.{Nothing, Node, NodeId, NodeIds, Attributes}
-use Rattle.cdp_messages.specs.Moves.{Move, change, root, replied, failed, shows, frames_of_moves}
+use Rattle.client_views.specs.Moves.{Move, change, root, replied, failed, shows, frames_of_moves}
 use Rattle.dom_agent.specs.Keepers.{Keeper}
 use Rattle.dom_agent.specs.Paths.{node_at_path}
 use Rattle.dom_agent.specs.Described.{described}
@@ -47,7 +47,7 @@ abbrev pub ancestors_down : ℕ → Nodes PageRow → List (Branch PageRow)
 ancestors_down s none = []
 ancestors_down s (node r c t) = cond (has row_serial s c) (record { row = r; children = c } ∷ ancestors_down s c) (ancestors_down s t)
 
--- by a push of a node: its ancestors that are not opened, from the top down, by one level each
+-- the openings of a push of a node: its ancestors that are not opened, from the top down, by one level each
 abbrev pub pushing : (ℕ → Bool) → ℕ → Nodes PageRow → List Opening
 pushing o s n = map (λ x. record { levels = Some 1; node = x }) (filter (λ (x : Branch PageRow). not (o x.row.serial)) (ancestors_down s n))
 
@@ -64,7 +64,7 @@ pub record Progress (S : Type 0) : Type 0 where
   pub state : S
   pub shown : List Showing
 
--- the same of several pushes, with the ids of their nodes, 0 for no node
+-- what is kept after several pushes and what is told of them, with the ids of their nodes, 0 for no node
 pub record Pushes (S : Type 0) : Type 0 where
   pub progress : Progress S
   pub ids : List ℕ

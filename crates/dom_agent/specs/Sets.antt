@@ -35,7 +35,7 @@ RequestOpens = (page : PageValue) (id : ℕ) (depth : Option ℤ) (pierce : Opti
 abbrev pub newly_known : PageValue → Session → Session → List ℕ
 newly_known page w z = filter (λ s. not (knows w (alone page.tree) s)) (known_by z.opened (alone page.tree))
 
--- and the nodes that become known by it get the next ids, in document order
+-- the nodes that become known by a request for children get the next ids, in document order
 abbrev pub RequestPushes : Type 0
 RequestPushes = (page : PageValue) (id : ℕ) (depth : Option ℤ) (pierce : Option Bool) (w : Session) (x : Branch PageRow) → IsValid page
     → IsSession (alone page.tree) w
@@ -62,7 +62,7 @@ children_in_turn (x ∷ xs) = row_serials x.children ++ children_in_turn xs
 abbrev pub shut_ancestors : PageValue → Session → ℕ → List (Branch PageRow)
 shut_ancestors page w s = filter (λ (x : Branch PageRow). not (is_open w.opened x.row.serial)) (ancestors_down s (alone page.tree))
 
--- and the nodes that become known by it get the next ids: the children of each ancestor that it opens, from the top down
+-- the nodes that become known by a push by path get the next ids: the children of each ancestor that it opens, from the top down
 abbrev pub PathPushes : Type 0
 PathPushes = (page : PageValue) (path : List ℕ) (w : Session) (x : Branch PageRow) → IsValid page → IsSession (alone page.tree) w
     → is_open w.opened page.tree.row.serial ≡ true → node_at_path path page.tree ≡ Some x
@@ -92,7 +92,7 @@ FirstFoundOpens = (page : PageValue) (id : ℕ) (text : List ℕ) (w : Session) 
     → first_matching q.selectors q.root page.tree ≡ Some s
     → OpensAlso w (state_after w (session_outcome page (QuerySelector id text) w)) (IsAncestor page.tree s)
 
--- and a query for all nodes those of each that matches
+-- a query for all nodes opens the ancestors of each that matches
 abbrev pub FoundOpen : Type 0
 FoundOpen = (page : PageValue) (id : ℕ) (text : List ℕ) (w : Session) (q : Query) → IsValid page
     → is_open w.opened page.tree.row.serial ≡ true → query_asked page w id text ≡ Ok q

@@ -1,7 +1,6 @@
 ghost use Rattle.std.specs.Prelude.{◌≤◌, ◌+◌, ◌≡◌, [], ◌∷◌, ◌++◌, ◌<◌, ◌^◌, pos, true, Some, None, unwrap_or, IsSome, OnOk, IfOk};
 ghost use Rattle.std.specs.FinMap as map;
 ghost use Rattle.node_tree.specs.Nodes.{alone};
-ghost use Rattle.node_tree.specs.Labels.{is_element};
 ghost use Rattle.page_tree.specs.Pages.{find_in};
 ghost use Rattle.page_tree.specs.Edits.{after, back_tree};
 ghost use Rattle.page_tree.specs.EditFaults.{first_fault, IsReady, RefusesEdit};
@@ -10,7 +9,7 @@ ghost use Rattle.node_binding.specs.Bindings.{empty_from, cleared, id_in};
 ghost use Rattle.cdp_messages.specs.DomAsks.{fits_ask};
 ghost use Rattle.cdp_messages.specs.declared.dom_ask.DomAsk.TheVariants.{GetDocument, RequestChildNodes, PushByPath, PushBySerials};
 ghost use Rattle.cdp_messages.specs.declared.dom_ask.DomAsk.TheVariants.{QuerySelector, QuerySelectorAll, GetAttributes, DescribeNode};
-ghost use Rattle.cdp_messages.specs.Moves.{replied, failed, frames_of_moves};
+ghost use Rattle.client_views.specs.Moves.{replied, failed, frames_of_moves};
 ghost use Rattle.dom_agent.specs.Keepers.{binding_keeper};
 ghost use Rattle.dom_agent.specs.Queries.{query_seen};
 ghost use Rattle.dom_agent.specs.Requests.{state_after, answer, pushed, all_pushed, with_id, with_ids, first_asked, all_asked, frames_told};
@@ -29,7 +28,7 @@ use crate::serving::open_all;
 use crate::told::tell_root;
 use cdp_messages::{DomAsk, Numbers, Refused, ReplyBody, Why, write_refused, write_reply};
 use node_binding::{Binding, find_in, levels_of};
-use page_tree::{EditErr, Kind, Node, Page, TreeEdit};
+use page_tree::{EditErr, Node, Page, TreeEdit};
 use select_match::{all_matches, first_match};
 use std::alloc::{AllocError, Global};
 use std::marker::Model;
@@ -347,7 +346,7 @@ impl DomAgent {
         let Some(found) = self.node_of(page, node) else {
             return refuse(self.alloc, id, Why::UnknownNode, out);
         };
-        if !is_element(found.kind()) {
+        if !found.kind().is_element() {
             return refuse(self.alloc, id, Why::NotElement, out);
         }
         let attributes = found.attributes().try_clone(self.alloc)?;
@@ -478,15 +477,6 @@ impl DomAgent {
         ensures { self.new ≡ cleared self.old }
     {
         self.binding.reset();
-    }
-}
-
-fn is_element(kind: Kind) -> bool
-    ensures { result ≡ is_element kind }
-{
-    match kind {
-        Kind::Element => true,
-        Kind::Document | Kind::Text | Kind::Comment | Kind::Doctype => false,
     }
 }
 

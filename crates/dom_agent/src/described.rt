@@ -3,18 +3,19 @@
 ghost use Rattle.std.specs.Prelude.{◌≡◌, ◌++◌, [], ◌∷◌, codes, OnOk};
 ghost use Rattle.serde_json.specs.Data.{array};
 ghost use Rattle.node_binding.specs.Openings.{less};
-ghost use Rattle.cdp_messages.specs.Told.{told_nodes};
-ghost use Rattle.cdp_messages.specs.NodeObject.{only_if};
-ghost use Rattle.cdp_messages.specs.NodeData.{tree_items, tree_data};
-ghost use Rattle.cdp_messages.specs.Tokens.{data_tokens, field_tokens};
+ghost use Rattle.dom_objects.specs.Told.{told_nodes};
+ghost use Rattle.dom_objects.specs.NodeObject.{only_if};
+ghost use Rattle.dom_objects.specs.NodeData.{tree_items, tree_data};
+ghost use Rattle.dom_objects.specs.Tokens.{data_tokens, field_tokens};
 ghost use Rattle.cdp_messages.specs.NodeWrites.{message_with};
-ghost use Rattle.cdp_messages.specs.Moves.{replied, frames_of_moves};
+ghost use Rattle.client_views.specs.Moves.{replied, frames_of_moves};
 ghost use Rattle.cdp_messages.specs.declared.down.ReplyBody.TheVariants.{Node as node_body};
-ghost use Rattle.cdp_messages.specs.declared.node_writer.NodeMessage.TheVariants as message;
+ghost use Rattle.cdp_messages.specs.declared.node_message.NodeMessage.TheVariants as message;
 ghost use Rattle.dom_agent.specs.Described.{no_ids, shows_children, shown_to, described};
 
 use crate::told::node_row;
-use cdp_messages::{NodeMessage, NodeWriter};
+use cdp_messages::NodeMessage;
+use dom_objects::NodeWriter;
 use node_binding::{is_reached, less};
 use page_tree::{Children, Node};
 use std::alloc::{AllocError, Global};
@@ -81,9 +82,9 @@ fn write_reply(
         ++ data_tokens (message_with (message.Node id) (tree_data (described levels node.now)))) }
     ensures before { out.new.before ≡ out.old.before }
 {
-    out.open(NodeMessage::Node { id })?;
+    NodeMessage::Node { id }.open(out)?;
     write_described(out, node, levels)?;
-    out.close(NodeMessage::Node { id })?;
+    NodeMessage::Node { id }.close(out)?;
     Ok(())
 }
 

@@ -1,12 +1,11 @@
 ghost use Rattle.std.specs.Prelude.{◌≡◌, ◌<◌, ◌^◌, ◌++◌, [], ◌∷◌, None, IsSome, IsOkAnd, IfOk, OnOk};
 ghost use Rattle.node_tree.specs.Nodes.{Nodes};
-ghost use Rattle.node_tree.specs.Labels.{is_document};
 ghost use Rattle.page_tree.specs.Pages.{PageRow, find_in, node_at};
 ghost use Rattle.page_tree.specs.Edits.{after, back_tree, children_at};
 ghost use Rattle.page_tree.specs.EditFaults.{first_fault, CanAttach, IsReady, RefusesEdit};
 ghost use Rattle.page_tree.specs.declared.edits.TreeEdit.TheVariants.{Attach, Detach};
 ghost use Rattle.node_binding.specs.Bindings.{id_in};
-ghost use Rattle.cdp_messages.specs.Moves.{sets, drops, says, frames_of_moves};
+ghost use Rattle.client_views.specs.Moves.{sets, drops, says, frames_of_moves};
 ghost use Rattle.dom_agent.specs.Keepers.{binding_keeper};
 ghost use Rattle.dom_agent.specs.Edits.{id_before, told_where_known, told_count, family, insertion, child_came, edited, event_frames};
 ghost use Rattle.dom_agent.specs.Edits.{OnFault};
@@ -14,7 +13,7 @@ ghost use Rattle.dom_agent.specs.Edits.{OnFault};
 use crate::told::tell_inserted;
 use cdp_messages::{Event, write_event};
 use node_binding::Binding;
-use page_tree::{Children, EditErr, EditFault, Kind, Node, Page, Text, Tree, TreeEdit};
+use page_tree::{Children, EditErr, EditFault, Node, Page, Text, Tree, TreeEdit};
 use std::alloc::{AllocError, Global};
 
 fn tell(alloc: Global, event: Option<Event>, out: &mut Vec<u8>) -> Result<(), AllocError>
@@ -220,18 +219,6 @@ pub(crate) fn attach(
 
 // ---- a node that goes
 
-fn is_document(kind: Kind) -> bool
-    ensures { result ≡ is_document kind }
-{
-    match kind {
-        Kind::Document => true,
-        Kind::Element => false,
-        Kind::Text => false,
-        Kind::Comment => false,
-        Kind::Doctype => false,
-    }
-}
-
 /// What the going of a node that is no document is to the client, told by the page that still has it.
 fn child_removed(binding: &Binding, page: &Page, serial: u64) -> Option<Event>
     requires { first_fault (Detach serial) page.now.tree ≡ None }
@@ -278,7 +265,7 @@ pub(crate) fn detach(
     if !page.live(serial) {
         return Err(EditErr::Fault(EditFault::NoNode));
     }
-    if is_document(page.kind(serial)) {
+    if page.kind(serial).is_document() {
         return Err(EditErr::Fault(EditFault::IsDocument));
     }
     let event = child_removed(binding, page, serial);

@@ -4,7 +4,7 @@ ghost use Rattle.std.specs.Option.{option_copied};
 ghost use Rattle.std.specs.List.{list_all, position};
 ghost use Rattle.std.specs.Str.{str_to_ascii_uppercase};
 ghost use Rattle.node_tree.specs.Nodes.{tree_at};
-ghost use Rattle.cdp_messages.specs.NodeObject.{node_name};
+ghost use Rattle.dom_objects.specs.NodeObject.{node_name};
 ghost use Rattle.dom_agent.specs.Paths.{parts_of, parts_after_comma, is_digit, leads_badly, is_index, number_in, step_of, steps_of};
 ghost use Rattle.dom_agent.specs.Paths.{child_by, node_by, node_at_path};
 

@@ -3,7 +3,6 @@
 ghost use Rattle.dom_agent.specs.Queries.{query_of, IsQuery};
 
 use cdp_messages::Why;
-use node_binding::is_container;
 use page_tree::Node;
 use selectors::{SelErr, SelectorList, read_selectors};
 use std::alloc::Global;
@@ -33,7 +32,7 @@ pub(crate) fn read_query(
     let Some(node) = found else {
         return Err(QueryErr::Refused(Why::UnknownNode));
     };
-    if !is_container(node.kind()) {
+    if !node.kind().is_container() {
         return Err(QueryErr::Refused(Why::NotContainer));
     }
     let root = node.serial();

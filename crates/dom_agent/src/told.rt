@@ -6,18 +6,20 @@ ghost use Rattle.node_tree.specs.Nodes.{width};
 ghost use Rattle.node_tree.specs.Labels.{holds};
 ghost use Rattle.node_binding.specs.Cuts.{opens, cut};
 ghost use Rattle.node_binding.specs.Bindings.{opened_in, id_in};
-ghost use Rattle.cdp_messages.specs.Told.{told_nodes, told_branch, hold_of};
-ghost use Rattle.cdp_messages.specs.NodeObject.{only_if};
-ghost use Rattle.cdp_messages.specs.NodeData.{tree_items, tree_data};
-ghost use Rattle.cdp_messages.specs.Tokens.{data_tokens, field_tokens};
-ghost use Rattle.cdp_messages.specs.NodeWrites.{told_by, message_with};
-ghost use Rattle.cdp_messages.specs.Moves.{shows, inserts, change, root, frames_of_moves};
-ghost use Rattle.cdp_messages.specs.declared.node_writer.NodeMessage.TheVariants as message;
+ghost use Rattle.dom_objects.specs.Told.{told_nodes, told_branch, hold_of};
+ghost use Rattle.dom_objects.specs.NodeObject.{only_if};
+ghost use Rattle.dom_objects.specs.NodeData.{tree_items, tree_data};
+ghost use Rattle.dom_objects.specs.Tokens.{data_tokens, field_tokens};
+ghost use Rattle.dom_objects.specs.NodeRows.{told_by};
+ghost use Rattle.cdp_messages.specs.NodeWrites.{message_with};
+ghost use Rattle.client_views.specs.Moves.{shows, inserts, change, root, frames_of_moves};
+ghost use Rattle.cdp_messages.specs.declared.node_message.NodeMessage.TheVariants as message;
 ghost use Rattle.dom_agent.specs.Requests.{shown};
 ghost use Rattle.dom_agent.specs.Edits.{unopened};
 
-use cdp_messages::{NodeMessage, NodeRow, NodeWriter};
-use node_binding::{Binding, is_container};
+use cdp_messages::NodeMessage;
+use dom_objects::{NodeRow, NodeWriter};
+use node_binding::Binding;
 use page_tree::{Children, Node};
 use std::alloc::{AllocError, Global};
 
@@ -25,7 +27,7 @@ use std::alloc::{AllocError, Global};
 fn count_of(node: &Node) -> u64
     ensures { result ≡ cond (holds node.now.row.label.kind) (width node.now.children) 0 }
 {
-    if !is_container(node.kind()) {
+    if !node.kind().is_container() {
         return 0;
     }
     node.len() as u64
@@ -35,7 +37,7 @@ fn count_of(node: &Node) -> u64
 fn is_opened(binding: &Binding, node: &Node) -> bool
     ensures { result ≡ opens (opened_in binding.now) node.now.row }
 {
-    is_container(node.kind()) && binding.is_opened(node.serial())
+    node.kind().is_container() && binding.is_opened(node.serial())
 }
 
 // ---- a node
@@ -152,9 +154,9 @@ fn write_root(
         (message_with (message.Root id) (tree_data (told_branch 0 (shown (opened_in binding.now) (id_in binding.now) document.now))))) }
     ensures before { out.new.before ≡ out.old.before }
 {
-    out.open(NodeMessage::Root { id })?;
+    NodeMessage::Root { id }.open(out)?;
     write_shown(out, binding, document, 0)?;
-    out.close(NodeMessage::Root { id })?;
+    NodeMessage::Root { id }.close(out)?;
     Ok(())
 }
 
@@ -185,9 +187,9 @@ fn write_shows(
         (array (tree_items (told_nodes parent (cut (opened_in binding.now) (id_in binding.now) children.now)))))) }
     ensures before { out.new.before ≡ out.old.before }
 {
-    out.open(NodeMessage::Children { parent })?;
+    NodeMessage::Children { parent }.open(out)?;
     write_children(out, binding, children, parent)?;
-    out.close(NodeMessage::Children { parent })?;
+    NodeMessage::Children { parent }.close(out)?;
     Ok(())
 }
 
@@ -219,9 +221,9 @@ fn write_inserted(
         (message_with (message.Inserted parent previous) (tree_data (told_branch parent (unopened id node.now))))) }
     ensures before { out.new.before ≡ out.old.before }
 {
-    out.open(NodeMessage::Inserted { parent, previous })?;
+    NodeMessage::Inserted { parent, previous }.open(out)?;
     write_unopened(out, node, id, parent)?;
-    out.close(NodeMessage::Inserted { parent, previous })?;
+    NodeMessage::Inserted { parent, previous }.close(out)?;
     Ok(())
 }
 

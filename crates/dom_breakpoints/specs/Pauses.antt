@@ -6,8 +6,8 @@ use Rattle.page_tree.specs.Pages.{PageRow}
 use Rattle.page_tree.specs.Ancestors.{ancestors_at}
 use Rattle.page_tree.specs.declared.edits.TreeEdit.{TreeEdit}
 use Rattle.page_tree.specs.declared.edits.TreeEdit.TheVariants.{SetAttr, DropAttr, SetText, Attach, Detach}
-use Rattle.dom_breakpoints.specs.declared.pauses.WatchKind.{WatchKind}
-use Rattle.dom_breakpoints.specs.declared.pauses.WatchKind.TheVariants.{Subtree, Attribute, Removed}
+use Rattle.node_tree.specs.declared.watches.WatchKind.{WatchKind}
+use Rattle.node_tree.specs.declared.watches.WatchKind.TheVariants.{Subtree, Attribute, Removed}
 use Rattle.dom_breakpoints.specs.declared.pauses.Pause.{Pause}
 use Rattle.dom_breakpoints.specs.Watched.{Watched, is_watched}
 
@@ -19,11 +19,11 @@ edited_node (SetText node value) = node
 edited_node (Attach parent before tree) = parent
 edited_node (Detach node) = node
 
--- by a watch of that kind on the node itself
+-- the pause by a watch of that kind on the node itself
 abbrev pub own_pause : WatchKind → Watched → ℕ → Option Pause
 own_pause kind w node = cond (is_watched kind w node) (Some (record { kind = kind; node = node; target = None; insertion = false })) None
 
--- by the first node of the line with a subtree watch
+-- the pause by the first node of the line with a subtree watch
 abbrev pub subtree_pause : Watched → ℕ → Bool → List ℕ → Option Pause
 subtree_pause w target insertion line =
     option_map (λ nearest. record { kind = Subtree; node = nearest; target = Some target; insertion = insertion })

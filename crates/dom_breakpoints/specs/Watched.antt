@@ -6,8 +6,8 @@ use Rattle.std.specs.FinSet as set
 use Rattle.node_tree.specs.Nodes.{Branch, alone}
 use Rattle.node_tree.specs.Keys.{has}
 use Rattle.page_tree.specs.Pages.{PageRow, row_serial, node_at}
-use Rattle.dom_breakpoints.specs.declared.pauses.WatchKind.{WatchKind}
-use Rattle.dom_breakpoints.specs.declared.pauses.WatchKind.TheVariants.{Subtree, Attribute, Removed}
+use Rattle.node_tree.specs.declared.watches.WatchKind.{WatchKind}
+use Rattle.node_tree.specs.declared.watches.WatchKind.TheVariants.{Subtree, Attribute, Removed}
 
 -- a set of nodes' serials
 abbrev pub Serials : Type 0

@@ -3,8 +3,9 @@ ghost use Rattle.page_tree.specs.Pages.{find_in};
 ghost use Rattle.page_tree.specs.Ancestors.{ancestors_at};
 
 use crate::climbing::{nearest_above, nearest_from};
-use crate::pauses::{Pause, WatchKind};
+use crate::pauses::Pause;
 use crate::serial_sets::SerialSet;
+use node_tree::WatchKind;
 use page_tree::{Page, TreeEdit};
 use std::alloc::{AllocError, Global};
 use std::marker::Model;

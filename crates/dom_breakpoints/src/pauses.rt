@@ -1,13 +1,4 @@
-/// The kinds of DOM breakpoints (the protocol's `DOMDebugger.DOMBreakpointType`).
-#[derive(Clone, Copy)]
-pub enum WatchKind {
-    /// `subtree-modified`
-    Subtree,
-    /// `attribute-modified`
-    Attribute,
-    /// `node-removed`
-    Removed,
-}
+use node_tree::WatchKind;
 
 /// Why an edit pauses (the `data` of `Debugger.paused`). Nodes are named by their serials.
 #[derive(Clone, Copy)]

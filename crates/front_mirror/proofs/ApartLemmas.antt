@@ -4,8 +4,8 @@ use Rattle.node_tree.specs.Nodes.{Nodes, none, node}
 use Rattle.node_tree.specs.Keys.{tally, has}
 use Rattle.node_tree.specs.Seen.{Seen, seen_id, seen_serial}
 use Rattle.node_tree.proofs.KeyLemmas.{has-there, has-absent, tally_row, tally_below, tally_cases}
-use Rattle.cdp_messages.specs.Told.{Told, seen_nodes}
-use Rattle.cdp_messages.specs.Views.{IsView, keys, is_distinct}
+use Rattle.dom_objects.specs.Told.{Told, seen_nodes}
+use Rattle.client_views.specs.Views.{IsView, keys, is_distinct}
 use Rattle.front_mirror.specs.Shown.{told_id, told_serial}
 use Rattle.front_mirror.specs.Front.{is_unique, is_fresh, clashes, any_node}
 use Rattle.front_mirror.proofs.ToldLemmas.{keys-seen}

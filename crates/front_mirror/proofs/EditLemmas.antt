@@ -7,21 +7,21 @@ use Rattle.node_tree.specs.declared.Kind.TheVariants as kind
 use Rattle.node_tree.specs.Nodes.{Nodes, none, node, Branch, alone, height, is_no_node}
 use Rattle.node_tree.specs.Names.{is_attribute_name}
 use Rattle.node_tree.specs.Labels.{Pair, Label, is_document, is_element, has_value, is_ascending, is_formed_label, is_named_label}
-use Rattle.cdp_messages.specs.LabelChanges.{placed, pairs_without, with_attribute, without_attribute, with_value}
+use Rattle.node_tree.specs.LabelChanges.{placed, pairs_without, with_attribute, without_attribute, with_value}
 use Rattle.node_tree.specs.Keys.{Spot, tally, tally_in, find, spot, put, At, here, within, past, first_true}
 use Rattle.node_tree.specs.Seen.{Seen, Hold, leaf, counted, opened, is_opened, shows_count, seen_id, seen_serial}
 use Rattle.node_tree.proofs.KeyLemmas.{tally-at, height-at, height_above-at}
 use Rattle.node_tree.proofs.ChangeLemmas.{at-old}
 use Rattle.node_tree.proofs.PairLemmas.{is_ascending-placed, names-placed, names-without, ascending-without}
-use Rattle.cdp_messages.specs.Told.{seen_nodes}
-use Rattle.cdp_messages.specs.NodeData.{fits_nodes}
-use Rattle.cdp_messages.specs.Moves.{Change, shows, inserts, removes, counts, sets, drops, says, changed, suits_change, has_tree, put_after}
-use Rattle.cdp_messages.specs.Moves.{without_tree, has_named_attribute}
-use Rattle.cdp_messages.specs.Views.{IsMirror, is_bare, has_formed_labels, is_document_tree}
+use Rattle.dom_objects.specs.Told.{seen_nodes}
+use Rattle.dom_objects.specs.NodeData.{fits_nodes}
+use Rattle.client_views.specs.Moves.{Change, shows, inserts, removes, counts, sets, drops, says, changed, suits_change, has_tree, put_after}
+use Rattle.client_views.specs.Moves.{without_tree, has_named_attribute}
+use Rattle.client_views.specs.Views.{IsMirror, is_bare, has_formed_labels, is_document_tree}
 use Rattle.node_tree.specs.Levels.{most_levels}
 use Rattle.front_mirror.specs.declared.faults.FrontKind.{FrontKind}
-use Rattle.front_mirror.specs.declared.edits.NodeEdit.{NodeEdit}
-use Rattle.front_mirror.specs.declared.edits.NodeEdit.TheVariants as edit
+use Rattle.front_mirror.specs.declared.edits.NodeChange.{NodeChange}
+use Rattle.front_mirror.specs.declared.edits.NodeChange.TheVariants as edit
 use Rattle.front_mirror.specs.Shown.{known_at, no_node}
 use Rattle.front_mirror.specs.Front.{FrontValue, ToldChange, is_kin, is_unique, is_fresh, takes_change, knows_named, stands_low}
 use Rattle.front_mirror.specs.Front.{change_fault, told, with_tree, at_spot}
@@ -347,7 +347,7 @@ clear_change v t s e =
 low_levels : (level h : ℕ) → level < most_levels → nat_le h (most_levels - 1 - level) ≡ true → suc (level + h) ≤ most_levels
 low_levels level h below e = let k : h ≤ most_levels - 1 - level = grind arith in omega arith
 
-edit_added : (e : NodeEdit) → seen_nodes (edit_nodes e) ≡ added (edit_change e)
+edit_added : (e : NodeChange) → seen_nodes (edit_nodes e) ≡ added (edit_change e)
 edit_added (edit.Show nodes) = refl
 edit_added (edit.Insert previous n) = refl
 edit_added (edit.Remove id) = refl
@@ -356,7 +356,7 @@ edit_added (edit.SetAttribute name value) = refl
 edit_added (edit.DropAttribute name) = refl
 edit_added (edit.SetValue value) = refl
 
-fine_edit : (e : NodeEdit) → fits_edit e ≡ true → Fine (edit_change e)
+fine_edit : (e : NodeChange) → fits_edit e ≡ true → Fine (edit_change e)
 fine_edit e fits =
     let shows = shows_nodes (edit_nodes e) (and_left (fits_nodes (edit_nodes e)) (has_named_attribute (edit_change e)) fits) in
     record {
@@ -366,7 +366,7 @@ fine_edit e fits =
     }
 
 -- the mirror stays one
-module _ (v : Nodes Seen) (id : ℕ) (e : NodeEdit) (mirror : IsMirror v) (fits : fits_edit e ≡ true) where
+module _ (v : Nodes Seen) (id : ℕ) (e : NodeChange) (mirror : IsMirror v) (fits : fits_edit e ≡ true) where
   mirror_at : (o : Option (Spot Seen)) → spot seen_id id 0 v ≡ o → spot_fault v (edit_told id e) o ≡ None
       → IsMirror (with_changed id (edit_change e) v)
   mirror_at None is clear = absurd cc

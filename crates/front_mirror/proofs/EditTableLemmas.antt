@@ -9,12 +9,12 @@ use Rattle.node_tree.specs.Arena.{Keeps, IsFiled}
 use Rattle.node_tree.specs.Seen.{Seen, is_opened, seen_id}
 use Rattle.node_tree.proofs.KeyLemmas.{height_above-at}
 use Rattle.node_tree.proofs.ChangeLemmas.{at-old}
-use Rattle.cdp_messages.specs.Told.{seen_branch}
-use Rattle.cdp_messages.specs.Views.{IsMirror, is_in}
+use Rattle.dom_objects.specs.Told.{seen_branch}
+use Rattle.client_views.specs.Views.{IsMirror, is_in}
 use Rattle.node_tree.specs.Levels.{most_levels}
-use Rattle.cdp_messages.specs.Moves.{changed, suits_change, has_tree}
-use Rattle.front_mirror.specs.declared.edits.NodeEdit.{NodeEdit}
-use Rattle.front_mirror.specs.declared.edits.NodeEdit.TheVariants as edit
+use Rattle.client_views.specs.Moves.{changed, suits_change, has_tree}
+use Rattle.front_mirror.specs.declared.edits.NodeChange.{NodeChange}
+use Rattle.front_mirror.specs.declared.edits.NodeChange.TheVariants as edit
 use Rattle.front_mirror.specs.declared.slots.Slot.{Slot}
 use Rattle.front_mirror.specs.declared.table.Table.{Table}
 use Rattle.front_mirror.specs.Shown.{shown_of}
@@ -59,7 +59,7 @@ module _ (a b : Table) (roots : List ℕ) (v : Nodes Seen) (id : ℕ) (table : I
       let k = mirror.view.levels in
       omega arith
 
-  pub edited_at : (e : NodeEdit) → change_fault v (edit_told id e) s ≡ None → IsEdited e a b id
+  pub edited_at : (e : NodeChange) → change_fault v (edit_told id e) s ≡ None → IsEdited e a b id
       → IsTable b roots (put seen_id id (changed (edit_change e) s.branch) v)
   edited_at (edit.Show nodes) clear g =
       let fine = clear_change v (edit_told id (edit.Show nodes)) s clear in
@@ -89,7 +89,7 @@ module _ (a b : Table) (roots : List ℕ) (v : Nodes Seen) (id : ℕ) (table : I
   edited_at (edit.SetValue value) clear (turned, same) = said_table a b roots v table mirror.view.ids id s.branch found value turned same
 
 -- the mirror after an edit with which nothing is wrong
-module _ (a b : Table) (roots : List ℕ) (v : Nodes Seen) (id : ℕ) (e : NodeEdit) (table : IsTable a roots v) (mirror : IsMirror v)
+module _ (a b : Table) (roots : List ℕ) (v : Nodes Seen) (id : ℕ) (e : NodeChange) (table : IsTable a roots v) (mirror : IsMirror v)
     (fits : fits_edit e ≡ true) (edited : IsEdited e a b id) where
   edited_spot : (o : Option (Spot Seen)) → spot seen_id id 0 v ≡ o → spot_fault v (edit_told id e) o ≡ None
       → IsTable b roots (with_changed id (edit_change e) v)
@@ -132,7 +132,7 @@ module _ (a : Table) (roots : List ℕ) (v : Nodes Seen) (id : ℕ) (table : IsT
   ascends slot e element formed = ap (λ (r : Seen). is_ascending r.label.attributes)
       (slot_is slot e).0 ∙ ascending_label s.branch.row.label element formed
 
-  pub suits_at : (e : NodeEdit) → suits_change (edit_change e) s.branch ≡ true → is_formed_label s.branch.row.label ≡ true → (slot : Slot)
+  pub suits_at : (e : NodeChange) → suits_change (edit_change e) s.branch ≡ true → is_formed_label s.branch.row.label ≡ true → (slot : Slot)
       → table_slots a id ≡ Some slot → Suits e slot
   suits_at (edit.Show nodes) suits formed z e = tt
   suits_at (edit.Insert previous tree) suits formed z e =
@@ -145,7 +145,7 @@ module _ (a : Table) (roots : List ℕ) (v : Nodes Seen) (id : ℕ) (table : IsT
   suits_at (edit.DropAttribute name) suits formed z e = ascends z e suits formed
   suits_at (edit.SetValue value) suits formed z e = tt
 
-module _ (a : Table) (roots : List ℕ) (v : Nodes Seen) (id : ℕ) (e : NodeEdit) (kept : KeepsMirror a roots) (view : tree_in a roots ≡ v)
+module _ (a : Table) (roots : List ℕ) (v : Nodes Seen) (id : ℕ) (e : NodeChange) (kept : KeepsMirror a roots) (view : tree_in a roots ≡ v)
     (fits : fits_edit e ≡ true) (clear : spot_fault v (edit_told id e) (spot seen_id id 0 v) ≡ None) where
   table : IsTable a roots v
   table = subst (λ (m : Nodes Seen). IsTable a roots m) view kept.table

@@ -17,18 +17,21 @@ use Rattle.node_tree.specs.Keys.{tally, tally_in, find, spot, put, At, here, wit
 use Rattle.node_tree.specs.Seen.{Seen, Hold, opened, is_opened, seen_id, seen_serial}
 use Rattle.node_tree.proofs.KeyLemmas.{tally-at, height_above-at, spot-at, put-at, has-there, has-find, at-put, found_key}
 use Rattle.node_tree.proofs.ChangeLemmas.{at-back}
-use Rattle.cdp_messages.specs.LabelChanges.{placed}
-use Rattle.cdp_messages.specs.Told.{count_in, seen_nodes, seen_branch, told_nodes, told_branch, seen-told}
-use Rattle.cdp_messages.specs.NodeObject.{same}
-use Rattle.cdp_messages.specs.NodeData.{fits_tree}
+use Rattle.node_tree.specs.LabelChanges.{placed}
+use Rattle.dom_objects.specs.Told.{count_in, seen_nodes, seen_branch, told_nodes, told_branch, seen-told}
+use Rattle.dom_objects.specs.NodeObject.{same}
+use Rattle.dom_objects.specs.NodeData.{fits_tree}
 use Rattle.cdp_messages.specs.Events.{News, fits_news}
-use Rattle.cdp_messages.specs.Tellable.{suits_hold, suits_row, suits_below, suits_nodes, suits_tree}
-use Rattle.cdp_messages.specs.Laws.{PairsHaveUtf8, NodesHaveUtf8, NewsHaveUtf8, news_height}
-use Rattle.cdp_messages.specs.Moves.{Change, shows, inserts, removes, counts, sets, drops, says, changed, suits_change, has_tree}
-use Rattle.cdp_messages.specs.Moves.{change_news, has_named_attribute, ChangesNode, SeenHaveUtf8, suits_view, IsTellable}
-use Rattle.cdp_messages.specs.Views.{IsView, is_bare}
+use Rattle.dom_objects.specs.Tellable.{suits_hold, suits_row, suits_below, suits_nodes, suits_tree}
+use Rattle.node_tree.specs.Labels.{PairsHaveUtf8}
+use Rattle.dom_objects.specs.NodeTexts.{NodesHaveUtf8}
+use Rattle.cdp_messages.specs.Laws.{NewsHaveUtf8, news_height}
+use Rattle.client_views.specs.Moves.{Change, shows, inserts, removes, counts, sets, drops, says, changed, suits_change, has_tree}
+use Rattle.client_views.specs.Moves.{change_news, has_named_attribute, ChangesNode, SeenHaveUtf8, suits_view, IsTellable}
+use Rattle.client_views.specs.Views.{IsView, is_bare}
 use Rattle.node_tree.specs.Levels.{most_levels}
-use Rattle.cdp_messages.proofs.TellableLaws.{fits-told_nodes, shown_children_fit}
+use Rattle.dom_objects.proofs.TellableLaws.{fits-told_nodes}
+use Rattle.cdp_messages.proofs.NewsLaws.{shown_children_fit}
 use Rattle.front_mirror.specs.declared.faults.FrontKind.{FrontKind}
 use Rattle.front_mirror.specs.declared.faults.FrontKind.TheVariants.{UnknownNode, NotChild, IdTaken, TooDeep}
 use Rattle.front_mirror.specs.Front.{FrontValue, ToldChange, told_change, is_kin, is_unique, is_fresh, takes_change, knows_named, is_shown}

@@ -3,7 +3,7 @@ use Rattle.std.proofs.Common.{◌≡◌, ℕ, zero, suc, ◌+◌, ◌<◌, ◌�
 use Rattle.std.proofs.Common.{slice_get, drop, Some, refl, sym, ap, ◌∙◌, inl, inr, arith}
 use Rattle.std.specs.List.{insert, remove}
 use Rattle.std.proofs.lemmas.Bool.{eq-eqb, ne_eqb, cases_eq}
-use Rattle.cdp_messages.specs.Views.{is_in}
+use Rattle.client_views.specs.Views.{is_in}
 use Rattle.front_mirror.specs.IdLists.{id_place, id_behind, id_after, without_id}
 
 pub drop-get : {A : Type 0} (ks : List A) (i : ℕ) (k : A) → slice_get ks i ≡ Some k → drop i ks ≡ k ∷ drop (suc i) ks

@@ -4,7 +4,7 @@ use Rattle.std.proofs.lemmas.Bool.{eqb-true}
 use Rattle.node_tree.specs.Nodes.{Nodes, none, node, Branch, height}
 use Rattle.node_tree.specs.Keys.{tally, tally_in, At, here, within, past}
 use Rattle.node_tree.specs.Seen.{Seen}
-use Rattle.cdp_messages.specs.Moves.{put_behind, put_after, without_tree, has_tree}
+use Rattle.client_views.specs.Moves.{put_behind, put_after, without_tree, has_tree}
 use Rattle.front_mirror.proofs.BoolLemmas.{and_left, and_right, both}
 
 -- the second trees are the first with w among them

@@ -7,8 +7,8 @@ use Rattle.cdp_json.specs.Kinds.{is_counted}
 use Rattle.css_objects.specs.Sheets.{is_sheet}
 use Rattle.css_objects.specs.declared.sheets.SheetOrigin.{SheetOrigin}
 use Rattle.cdp_messages.specs.Events.{sheet_added, sheet_changed, sheet_removed, fits_news}
-use Rattle.cdp_messages.specs.Views.{ShownSheet, sheet_number, AreSheets, text_units, sheet_header, shows_sheet, shown_text, sheets_without}
-use Rattle.cdp_messages.specs.Views.{sheets_with_text, is_in, is_distinct}
+use Rattle.client_views.specs.Views.{ShownSheet, sheet_number, AreSheets, text_units, sheet_header, shows_sheet, shown_text, sheets_without}
+use Rattle.client_views.specs.Views.{sheets_with_text, is_in, is_distinct}
 use Rattle.front_mirror.specs.declared.sheets.KnownSheet.{KnownSheet}
 use Rattle.front_mirror.specs.Sheets.{told_sheet, stale_sheet, fresh_sheet, has_sheet, marked_old, with_fetched, without_sheet}
 use Rattle.front_mirror.specs.Front.{sheets_fetched}

@@ -9,8 +9,8 @@ use Rattle.node_tree.specs.Seen.{Seen, seen_id, seen_serial}
 use Rattle.node_tree.specs.Arena.{Keeps}
 use Rattle.node_tree.proofs.KeyLemmas.{found_key, has-find, has-there, stands-find, find-stands}
 use Rattle.node_tree.proofs.ArenaLemmas.{keeps-find, keeps-up}
-use Rattle.cdp_messages.specs.Views.{is_in}
-use Rattle.cdp_messages.specs.Moves.{has_tree}
+use Rattle.client_views.specs.Views.{is_in}
+use Rattle.client_views.specs.Moves.{has_tree}
 use Rattle.front_mirror.specs.declared.slots.Slot.{Slot}
 use Rattle.front_mirror.specs.declared.table.Table.{Table}
 use Rattle.front_mirror.specs.Tables.{mirror_row, by_id, table_slots, table_ids, root_ids, HasOwnIds, IsTable, TableLooks, table_climbed}

@@ -14,20 +14,21 @@ use Rattle.cdp_messages.specs.declared.down.Event.{Event}
 use Rattle.cdp_messages.specs.declared.down.Event.TheVariants.{AttributeModified, AttributeRemoved, ChildNodeInserted, SetChildNodes}
 use Rattle.cdp_messages.specs.declared.down.ReplyBody.{ReplyBody}
 use Rattle.cdp_messages.specs.declared.down.ReplyBody.TheVariants as body
-use Rattle.cdp_messages.specs.declared.effects.Effect.{Effect}
-use Rattle.cdp_messages.specs.declared.effects.Effect.TheVariants as effect
-use Rattle.cdp_messages.specs.Effects.{effect_of}
-use Rattle.cdp_messages.specs.Told.{Told}
-use Rattle.cdp_messages.specs.NodeData.{fits_tree, fits_nodes}
+use Rattle.client_views.specs.declared.effects.Effect.{Effect}
+use Rattle.client_views.specs.declared.effects.Effect.TheVariants as effect
+use Rattle.client_views.specs.Effects.{effect_of}
+use Rattle.dom_objects.specs.Told.{Told}
+use Rattle.dom_objects.specs.NodeData.{fits_tree, fits_nodes}
 use Rattle.cdp_messages.specs.Asked.{json_of}
-use Rattle.cdp_messages.specs.Events.{attribute_modified, attribute_removed, inserted, set_children, news_of, shows_no_children, fits_news}
+use Rattle.cdp_messages.specs.Events.{attribute_modified, attribute_removed, inserted, set_children, news_of, fits_news}
+use Rattle.dom_objects.specs.NodeKinds.{shows_no_children}
 use Rattle.cdp_messages.specs.Replies.{Message, reply, event, message_of, message_in, down_of, body_data, result_of, fits_body}
 use Rattle.cdp_messages.specs.Replies.{fits_message}
 use Rattle.cdp_messages.proofs.Messages.{messages_are_spelled, results_are_read, results_are_spelled}
 use Rattle.front_mirror.specs.declared.faults.FrontKind.TheVariants.{NotMessage}
 use Rattle.css_objects.specs.declared.rules.Matched.{Matched}
 use Rattle.front_mirror.specs.declared.replies.MatchedReply.{MatchedReply}
-use Rattle.front_mirror.specs.declared.edits.NodeEdit.TheVariants as edit
+use Rattle.front_mirror.specs.declared.edits.NodeChange.TheVariants as edit
 use Rattle.front_mirror.specs.Edits.{fits_edit, fits_effect}
 use Rattle.front_mirror.specs.Front.{FrontValue, reply_frame, method_waiting, root_fault, matched_told, with_matched, replied, with_root}
 use Rattle.front_mirror.specs.Front.{with_effect}

@@ -3,10 +3,10 @@ use Rattle.std.proofs.Common.{◌≡◌, ℕ, ◌+◌, ◌≤◌, ◌==◌, ◌|
 use Rattle.node_tree.specs.Nodes.{Nodes, none, Branch, alone, height}
 use Rattle.node_tree.specs.Keys.{tally, find, put}
 use Rattle.node_tree.specs.Seen.{Seen, counted, opened, seen_id}
-use Rattle.cdp_messages.specs.Views.{keys}
+use Rattle.client_views.specs.Views.{keys}
 use Rattle.node_tree.specs.Levels.{most_levels}
-use Rattle.cdp_messages.specs.LabelChanges.{placed, pairs_without, with_attribute, without_attribute, with_value}
-use Rattle.cdp_messages.specs.Moves.{shows, inserts, removes, counts, sets, drops, says, changed, has_tree, without_tree}
+use Rattle.node_tree.specs.LabelChanges.{placed, pairs_without, with_attribute, without_attribute, with_value}
+use Rattle.client_views.specs.Moves.{shows, inserts, removes, counts, sets, drops, says, changed, has_tree, without_tree}
 use Rattle.node_tree.proofs.ArenaLemmas.{kept_trees-keeps}
 use Rattle.front_mirror.specs.declared.slots.Slot.{Slot}
 use Rattle.front_mirror.specs.declared.slots.Below.TheVariants.{Counted}

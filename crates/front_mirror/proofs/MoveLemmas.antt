@@ -12,24 +12,24 @@ use Rattle.cdp_messages.specs.declared.down.ReplyBody.{ReplyBody}
 use Rattle.cdp_messages.specs.declared.down.ReplyBody.TheVariants.{Nothing, Root, SheetText}
 use Rattle.cdp_messages.specs.declared.down.PauseData.{PauseData}
 use Rattle.cdp_messages.specs.declared.down.PauseData.TheVariants as pause
-use Rattle.cdp_messages.specs.declared.effects.Effect.{Effect}
-use Rattle.cdp_messages.specs.declared.effects.Effect.TheVariants as effect
-use Rattle.cdp_messages.specs.Effects.{effect_of}
-use Rattle.cdp_messages.specs.Told.{told_branch, seen-told}
+use Rattle.client_views.specs.declared.effects.Effect.{Effect}
+use Rattle.client_views.specs.declared.effects.Effect.TheVariants as effect
+use Rattle.client_views.specs.Effects.{effect_of}
+use Rattle.dom_objects.specs.Told.{told_branch, seen-told}
 use Rattle.cdp_messages.specs.Events.{News, document_updated, paused, sheet_added, sheet_changed, sheet_removed, fits_news}
 use Rattle.cdp_messages.specs.Refusals.{code_of, refusal_words}
 use Rattle.cdp_messages.specs.Replies.{fault, event, down_of, body_data, fits_body, reply_text, event_text, refused_text}
-use Rattle.cdp_messages.specs.Tellable.{suits_tree}
+use Rattle.dom_objects.specs.Tellable.{suits_tree}
 use Rattle.cdp_messages.specs.Laws.{BodyHasUtf8, body_height, answers}
-use Rattle.cdp_messages.specs.Moves as move
-use Rattle.cdp_messages.specs.Moves.{Move, change_news, move_text, answered_by, paused_nodes, AreShown, suits_view, IsTellable, CanBeTold}
-use Rattle.cdp_messages.specs.Moves.{ChangesNode, IsPlainReply, Moves, Course, ends, goes}
+use Rattle.client_views.specs.Moves as move
+use Rattle.client_views.specs.Moves.{Move, change_news, move_text, answered_by, paused_nodes, AreShown, suits_view, IsTellable, CanBeTold}
+use Rattle.client_views.specs.Moves.{ChangesNode, IsPlainReply, Moves, Course, ends, goes}
 use Rattle.css_objects.specs.Sheets.{is_sheet}
-use Rattle.cdp_messages.specs.Views.{ShownSheet, sheet_number, AreSheets, text_units, sheet_header, shows_sheet, shown_text, sheets_without}
-use Rattle.cdp_messages.specs.Views.{sheets_with_text, is_distinct, View}
+use Rattle.client_views.specs.Views.{ShownSheet, sheet_number, AreSheets, text_units, sheet_header, shows_sheet, shown_text, sheets_without}
+use Rattle.client_views.specs.Views.{sheets_with_text, is_distinct, View}
 use Rattle.cdp_messages.proofs.Depths.{replies_are_shallow, events_are_shallow}
 use Rattle.cdp_messages.proofs.Messages.{replies_are_read, results_are_read, events_are_read, refusals_are_read}
-use Rattle.cdp_messages.proofs.TellableLaws.{shown_trees_fit}
+use Rattle.dom_objects.proofs.TellableLaws.{shown_trees_fit}
 use Rattle.cdp_messages.proofs.TextsUtf8.{replies_are_utf8, events_are_utf8}
 use Rattle.front_mirror.specs.declared.replies.Ask.{Ask}
 use Rattle.front_mirror.specs.declared.faults.FrontKind.{FrontKind}

@@ -8,11 +8,11 @@ use Rattle.node_tree.specs.Keys.{Spot, has, find, spot, level_of, parent_of}
 use Rattle.node_tree.specs.Labels.{is_element, has_value}
 use Rattle.node_tree.specs.Seen.{Seen, is_opened, shows_count, seen_id, seen_serial}
 use Rattle.node_tree.proofs.KeyLemmas.{has-find, found_key}
-use Rattle.cdp_messages.specs.Told.{count_in}
-use Rattle.cdp_messages.specs.Views.{IsMirror, is_in}
+use Rattle.dom_objects.specs.Told.{count_in}
+use Rattle.client_views.specs.Views.{IsMirror, is_in}
 use Rattle.node_tree.specs.Levels.{most_levels}
-use Rattle.cdp_messages.specs.Moves.{Change, shows, inserts, removes, counts, sets, drops, says, suits_change}
-use Rattle.front_mirror.specs.declared.edits.NodeEdit.{NodeEdit}
+use Rattle.client_views.specs.Moves.{Change, shows, inserts, removes, counts, sets, drops, says, suits_change}
+use Rattle.front_mirror.specs.declared.edits.NodeChange.{NodeChange}
 use Rattle.front_mirror.specs.declared.faults.FrontKind.{FrontKind}
 use Rattle.front_mirror.specs.declared.faults.FrontKind.TheVariants.{UnknownNode}
 use Rattle.front_mirror.specs.declared.slots.Slot.{Slot}
@@ -150,7 +150,7 @@ spot_none : (o : Option (Spot Seen)) → option_map spot_branch o ≡ None → o
 spot_none None e = refl
 spot_none (Some s) e = absurd (cc)
 
-pub fault_nowhere : (v : Nodes Seen) (e : NodeEdit) (id : ℕ) → find seen_id id v ≡ None
+pub fault_nowhere : (v : Nodes Seen) (e : NodeChange) (id : ℕ) → find seen_id id v ≡ None
     → Some UnknownNode ≡ spot_fault v (edit_told id e) (spot seen_id id 0 v)
 fault_nowhere v e id gone = sym
     (ap (spot_fault v (edit_told id e)) (spot_none (spot seen_id id 0 v) (sym (find-spot seen_id id 0 v) ∙ gone)))
@@ -158,7 +158,7 @@ fault_nowhere v e id gone = sym
 pub found_known : (slot : Slot) (o : Option (Branch Seen)) → TableLooks (Some slot) o → IsSome o
 found_known slot o (b, found, row, children) = some_known o b found
 
-pub fault_found : {E : Type 0} (v : Nodes Seen) (e : NodeEdit) (id l : ℕ) (slot : Slot) (r : Result (Option FrontKind) E)
+pub fault_found : {E : Type 0} (v : Nodes Seen) (e : NodeChange) (id l : ℕ) (slot : Slot) (r : Result (Option FrontKind) E)
     → TableLooks (Some slot) (find seen_id id v) → level_of seen_id id 0 v ≡ Some l
     → ((b : Branch Seen) → IsFace slot b
     → IfOk r (λ wrong. wrong ≡ change_fault v (edit_told slot.id e) (record { branch = b; level = l })))

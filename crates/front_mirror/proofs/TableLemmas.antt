@@ -10,7 +10,7 @@ use Rattle.node_tree.proofs.KeyLemmas.{tally_row, tally_below, tally_cases}
 use Rattle.node_tree.proofs.ArenaLemmas.{keeps-same, files-add, files-remove}
 use Rattle.std.proofs.lemmas.List.{drop_more}
 use Rattle.std.specs.FinMap as numbers
-use Rattle.cdp_messages.specs.Views.{keys}
+use Rattle.client_views.specs.Views.{keys}
 use Rattle.front_mirror.specs.declared.table.Table.{Table}
 use Rattle.front_mirror.specs.declared.slots.Slot.{Slot}
 use Rattle.front_mirror.specs.Tables.{hold_below, below_hold, mirror_row, by_id, by_serial, with_entry, PutsAt, root_ids, new_slot, planted}

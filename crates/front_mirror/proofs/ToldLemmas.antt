@@ -3,8 +3,8 @@ use Rattle.std.proofs.Common.{◌≡◌, ℕ, zero, suc, ◌<◌, List, [], ◌�
 use Rattle.node_tree.specs.Nodes.{Nodes, none, node, Branch, nodes_of, width, node_count, height}
 use Rattle.node_tree.proofs.NodeLemmas.{width-nodes_of}
 use Rattle.node_tree.specs.Seen.{Seen}
-use Rattle.cdp_messages.specs.Told.{Told, seen_nodes}
-use Rattle.cdp_messages.specs.Views.{keys}
+use Rattle.dom_objects.specs.Told.{Told, seen_nodes}
+use Rattle.client_views.specs.Views.{keys}
 
 -- what stands below one tree of a list is smaller than the list
 pub node_count_below : {R : Type 0} (bs : List (Branch R)) (i : ℕ) (b : Branch R) (c : Nodes R)

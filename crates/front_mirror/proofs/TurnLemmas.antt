@@ -10,9 +10,9 @@ use Rattle.node_tree.specs.Arena.{Keeps, KeepsOne, IsFiled}
 use Rattle.node_tree.proofs.KeyLemmas.{tally_row, tally_below, tally_cases, tally-at, found_key, at-put}
 use Rattle.node_tree.proofs.ChangeLemmas.{tally_in-at}
 use Rattle.node_tree.proofs.ArenaLemmas.{keeps-same, keeps-at, files-turn, kept_trees-keeps}
-use Rattle.cdp_messages.specs.Views.{keys}
+use Rattle.client_views.specs.Views.{keys}
 use Rattle.node_tree.specs.Levels.{most_levels}
-use Rattle.cdp_messages.specs.Moves.{put_behind, put_after, without_tree, has_tree}
+use Rattle.client_views.specs.Moves.{put_behind, put_after, without_tree, has_tree}
 use Rattle.front_mirror.specs.declared.slots.Slot.{Slot}
 use Rattle.front_mirror.specs.declared.table.Table.{Table}
 use Rattle.front_mirror.specs.IdLists.{id_behind, id_after, without_id}

@@ -6,14 +6,14 @@ use Rattle.node_tree.specs.Nodes.{Nodes, none, node, Branch, alone, height, widt
 use Rattle.node_tree.specs.Keys.{tally, first_true}
 use Rattle.node_tree.specs.Labels.{is_document, is_formed_label, is_named_label}
 use Rattle.node_tree.specs.Seen.{Seen, is_opened, seen_id, seen_serial}
-use Rattle.cdp_messages.specs.Told.{Told, seen_nodes, told_nodes, told_branch}
-use Rattle.cdp_messages.specs.NodeObject.{fits_row, fits_place, is_counted_row, same, fits_hold}
-use Rattle.cdp_messages.specs.NodeData.{fits_below, fits_nodes, fits_tree}
+use Rattle.dom_objects.specs.Told.{Told, seen_nodes, told_nodes, told_branch}
+use Rattle.dom_objects.specs.NodeObject.{fits_row, fits_place, is_counted_row, same, fits_hold}
+use Rattle.dom_objects.specs.NodeData.{fits_below, fits_nodes, fits_tree}
 use Rattle.front_mirror.specs.Shown.{told_id, told_serial}
-use Rattle.cdp_messages.specs.Views.{IsView, IsMirror, is_bare, has_formed_labels, keys, is_in, is_distinct}
+use Rattle.client_views.specs.Views.{IsView, IsMirror, is_bare, has_formed_labels, keys, is_in, is_distinct}
 use Rattle.node_tree.specs.Levels.{most_levels}
 use Rattle.front_mirror.specs.Front.{is_kin, is_unique, root_fault}
-use Rattle.cdp_messages.proofs.NodeTrees.{fitting_parts, tree_parts}
+use Rattle.dom_objects.proofs.NodeTrees.{fitting_parts, tree_parts}
 use Rattle.front_mirror.proofs.DistinctLemmas.{absent_and}
 use Rattle.front_mirror.proofs.ToldLemmas.{height-seen, keys-seen}
 use Rattle.front_mirror.proofs.BoolLemmas.{and_left, and_right}

@@ -4,6 +4,8 @@ use Rattle.std.specs.Coded.{Coded, code_by, coded×, coded_list, coded_option, c
 use Rattle.node_tree.specs.Nodes.{Nodes, coded_nodes}
 use Rattle.node_tree.specs.Seen.{Seen, coded_seen}
 use Rattle.front_mirror.specs.contracts.faults.FrontKind as kind
+use Rattle.front_mirror.specs.contracts.panels.PanelKind as panel
+use Rattle.front_mirror.specs.declared.panels.PanelKind.{PanelKind}
 use Rattle.css_objects.specs.declared.sheets.SheetOrigin.{SheetOrigin}
 use Rattle.css_objects.specs.contracts.sheets.SheetOrigin as origin
 use Rattle.css_objects.specs.declared.rules.Matched.{Matched}
@@ -13,8 +15,8 @@ use Rattle.front_mirror.specs.declared.replies.Ask.{Ask}
 use Rattle.front_mirror.specs.declared.replies.Kept.{Kept}
 use Rattle.front_mirror.specs.declared.replies.MatchedReply.{MatchedReply}
 use Rattle.front_mirror.specs.declared.pauses.SeenPause.{SeenPause}
-use Rattle.cdp_messages.specs.declared.command.WatchWord.{WatchWord}
-use Rattle.cdp_messages.specs.contracts.command.WatchWord as watch
+use Rattle.node_tree.specs.declared.watches.WatchKind.{WatchKind}
+use Rattle.node_tree.specs.contracts.watches.WatchKind as watch
 use Rattle.front_mirror.specs.declared.faults.FrontKind.{FrontKind}
 use Rattle.front_mirror.specs.declared.faults.FrontFault.{FrontFault}
 use Rattle.front_mirror.specs.Front.{FrontValue, FrontState}
@@ -47,7 +49,7 @@ coded_sheet =
 -- a pause by its parts
 abbrev pub coded_pause : Coded SeenPause
 coded_pause =
-    code_by ((WatchWord × ℕ) × (Option ℕ × Bool)) (coded× (coded× watch.the_row.coded coded_ℕ) (coded× (coded_option coded_ℕ) coded_bool))
+    code_by ((WatchKind × ℕ) × (Option ℕ × Bool)) (coded× (coded× watch.the_row.coded coded_ℕ) (coded× (coded_option coded_ℕ) coded_bool))
     (λ p. ((p.kind, p.node), (p.target, p.insertion)))
     (λ p. record { kind = p.0.0; node = p.0.1; target = p.1.0; insertion = p.1.1 })
     (λ _. refl)
@@ -85,8 +87,17 @@ coded_value =
 -- a front by its parts
 abbrev pub coded_front : Coded FrontState
 coded_front =
-    code_by ((FrontValue × List ℕ) × (Option FrontFault × (ℕ × (ℕ × Bool))))
-    (coded× (coded× coded_value (coded_list coded_ℕ)) (coded× (coded_option coded_fault) (coded× coded_ℕ (coded× coded_ℕ coded_bool))))
-    (λ s. ((s.value, s.rest), (s.fault, (s.next, (s.fetches, s.dead)))))
-    (λ p. record { value = p.0.0; rest = p.0.1; fault = p.1.0; next = p.1.1.0; fetches = p.1.1.1.0; dead = p.1.1.1.1 })
+    code_by ((FrontValue × (List ℕ × List (Option PanelKind))) × (Option FrontFault × (ℕ × (ℕ × Bool))))
+    (coded× (coded× coded_value (coded× (coded_list coded_ℕ) (coded_list (coded_option panel.the_row.coded))))
+    (coded× (coded_option coded_fault) (coded× coded_ℕ (coded× coded_ℕ coded_bool))))
+    (λ s. ((s.value, (s.rest, s.panels)), (s.fault, (s.next, (s.fetches, s.dead)))))
+    (λ p. record {
+      value = p.0.0;
+      rest = p.0.1.0;
+      fault = p.1.0;
+      next = p.1.1.0;
+      fetches = p.1.1.1.0;
+      dead = p.1.1.1.1;
+      panels = p.0.1.1;
+    })
     (λ _. refl)

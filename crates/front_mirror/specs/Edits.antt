@@ -5,13 +5,13 @@ use Rattle.node_tree.specs.Nodes.{Nodes, none, Branch, nodes_of, alone}
 use Rattle.node_tree.specs.Keys.{Spot, find, put}
 use Rattle.node_tree.specs.Labels.{is_formed_label}
 use Rattle.node_tree.specs.Seen.{Seen, seen_id}
-use Rattle.cdp_messages.specs.Told.{Told, seen_nodes, seen_branch}
-use Rattle.cdp_messages.specs.Moves.{Change, shows, inserts, removes, counts, sets, drops, says, changed, suits_change, has_named_attribute}
-use Rattle.cdp_messages.specs.NodeData.{fits_tree, fits_nodes}
-use Rattle.cdp_messages.specs.declared.effects.Effect.{Effect}
-use Rattle.cdp_messages.specs.declared.effects.Effect.TheVariants as effect
-use Rattle.front_mirror.specs.declared.edits.NodeEdit.{NodeEdit}
-use Rattle.front_mirror.specs.declared.edits.NodeEdit.TheVariants as edit
+use Rattle.dom_objects.specs.Told.{Told, seen_nodes, seen_branch}
+use Rattle.client_views.specs.Moves.{Change, shows, inserts, removes, counts, sets, drops, says, changed, suits_change, has_named_attribute}
+use Rattle.dom_objects.specs.NodeData.{fits_tree, fits_nodes}
+use Rattle.client_views.specs.declared.effects.Effect.{Effect}
+use Rattle.client_views.specs.declared.effects.Effect.TheVariants as effect
+use Rattle.front_mirror.specs.declared.edits.NodeChange.{NodeChange}
+use Rattle.front_mirror.specs.declared.edits.NodeChange.TheVariants as edit
 use Rattle.front_mirror.specs.declared.faults.FrontKind.{FrontKind}
 use Rattle.front_mirror.specs.declared.faults.FrontKind.TheVariants.{UnknownNode}
 use Rattle.front_mirror.specs.Front.{ToldChange, told_change, change_fault}
@@ -26,7 +26,7 @@ fits_effect effect.SheetsOff = true
 fits_effect effect.NothingElse = true
 
 -- the nodes that come with an edit
-abbrev pub edit_nodes : NodeEdit → Nodes Told
+abbrev pub edit_nodes : NodeChange → Nodes Told
 edit_nodes (edit.Show nodes) = nodes_of nodes.items
 edit_nodes (edit.Insert previous tree) = alone tree
 edit_nodes (edit.Remove id) = none
@@ -36,7 +36,7 @@ edit_nodes (edit.DropAttribute name) = none
 edit_nodes (edit.SetValue value) = none
 
 -- what becomes of the node
-abbrev pub edit_change : NodeEdit → Change
+abbrev pub edit_change : NodeChange → Change
 edit_change (edit.Show nodes) = shows (seen_nodes (nodes_of nodes.items))
 edit_change (edit.Insert previous tree) = inserts previous (seen_branch tree)
 edit_change (edit.Remove id) = removes id
@@ -46,11 +46,11 @@ edit_change (edit.DropAttribute name) = drops name
 edit_change (edit.SetValue value) = says value
 
 -- the edit of the node of that id, as an event tells it
-abbrev pub edit_told : ℕ → NodeEdit → ToldChange
+abbrev pub edit_told : ℕ → NodeChange → ToldChange
 edit_told id e = told_change id (edit_change e) (edit_nodes e)
 
 -- the nodes that come have the forms of a message, and the name that it tells has its form
-abbrev pub fits_edit : NodeEdit → Bool
+abbrev pub fits_edit : NodeChange → Bool
 fits_edit e = fits_nodes (edit_nodes e) && has_named_attribute (edit_change e)
 
 -- the change may be told of the node, whose label has its form

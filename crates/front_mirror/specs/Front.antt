@@ -1,6 +1,6 @@
 -- The front end as a value, and the fold of the frames that come down.
 use Rattle.std.specs.Prelude.{ℕ, ◌+◌, ◌-◌, ◌^◌, ◌==◌, Bool, true, false, not, ◌&&◌, ◌||◌, cond, nat_le, List, [], ◌∷◌, ◌++◌, codes, Option}
-use Rattle.std.specs.Prelude.{Some, None, option_map, option_and_then, Result, Ok, Err}
+use Rattle.std.specs.Prelude.{Some, None, map, option_map, option_and_then, Result, Ok, Err}
 use Rattle.serde_json.specs.Data.{Data}
 use Rattle.cdp_json.specs.Rows.{ends, and_need, object_of}
 use Rattle.css_objects.specs.Sheets.{sheet_kind}
@@ -13,13 +13,13 @@ use Rattle.std.specs.List.{list_all}
 use Rattle.pipe_frames.specs.Frames.{frames_from, held_after}
 use Rattle.cdp_messages.specs.declared.down.ReplyBody.{ReplyBody}
 use Rattle.cdp_messages.specs.declared.down.ReplyBody.TheVariants as body
-use Rattle.cdp_messages.specs.declared.effects.Effect.{Effect}
-use Rattle.cdp_messages.specs.declared.effects.Effect.TheVariants as effect
-use Rattle.cdp_messages.specs.Effects.{effect_of}
-use Rattle.cdp_messages.specs.declared.command.WatchWord.TheVariants.{Subtree, Attribute, Removed}
+use Rattle.client_views.specs.declared.effects.Effect.{Effect}
+use Rattle.client_views.specs.declared.effects.Effect.TheVariants as effect
+use Rattle.client_views.specs.Effects.{effect_of}
+use Rattle.node_tree.specs.declared.watches.WatchKind.TheVariants.{Subtree, Attribute, Removed}
 use Rattle.cdp_messages.specs.declared.down.PauseData.{PauseData}
 use Rattle.cdp_messages.specs.declared.down.PauseData.TheVariants as pause
-use Rattle.cdp_messages.specs.Told.{Told, seen_nodes, seen_branch}
+use Rattle.dom_objects.specs.Told.{Told, seen_nodes, seen_branch}
 use Rattle.cdp_messages.specs.Replies.{Message, reply, fault, event, down_of, result_of}
 use Rattle.cdp_messages.specs.Events.{News, attribute_modified, attribute_removed, text_modified, count_updated, inserted, removed}
 use Rattle.cdp_messages.specs.Events.{set_children, document_updated, paused, sheet_added, sheet_changed, sheet_removed}
@@ -27,11 +27,12 @@ use Rattle.front_mirror.specs.declared.replies.Ask.{Ask}
 use Rattle.front_mirror.specs.declared.replies.Kept.{Kept}
 use Rattle.front_mirror.specs.declared.replies.MatchedReply.{MatchedReply}
 use Rattle.front_mirror.specs.declared.pauses.SeenPause.{SeenPause}
+use Rattle.front_mirror.specs.declared.panels.PanelKind.{PanelKind}
 use Rattle.front_mirror.specs.declared.faults.FrontKind.{FrontKind}
 use Rattle.front_mirror.specs.declared.faults.FrontKind.TheVariants.{NotMessage, UnknownNode, NotChild, IdTaken, UnknownSheet, TooDeep}
 use Rattle.front_mirror.specs.declared.faults.FrontFault.{FrontFault}
-use Rattle.cdp_messages.specs.Moves.{Change, shows, inserts, removes, counts, sets, drops, says, changed, suits_change, paused_nodes}
-use Rattle.cdp_messages.specs.Views.{keys, is_distinct}
+use Rattle.client_views.specs.Moves.{Change, shows, inserts, removes, counts, sets, drops, says, changed, suits_change, paused_nodes}
+use Rattle.client_views.specs.Views.{keys, is_distinct}
 use Rattle.node_tree.specs.Levels.{most_levels}
 use Rattle.css_objects.specs.declared.sheets.Header.{Header}
 use Rattle.front_mirror.specs.declared.sheets.KnownSheet.{KnownSheet}
@@ -64,7 +65,7 @@ plain_ask id method = record { id = id; method = method; sheet = None }
 abbrev pub fetch_ask : ℕ → ℕ → Ask
 fetch_ask count sheet = record { id = 2 ^ 30 + count; method = codes "CSS.getStyleSheetText"; sheet = Some sheet }
 
--- its parameters: the id of the sheet
+-- the parameters of a fetch: the id of the sheet
 abbrev pub fetch_params : ℕ → Data
 fetch_params sheet = (object_of (and_need (codes "styleSheetId") sheet_kind ends)).spell (sheet, tt)
 
@@ -73,7 +74,7 @@ abbrev pub ask_under : ℕ → List Ask → Option Ask
 ask_under id [] = None
 ask_under id (ask ∷ asks) = cond (ask.id == id) (Some ask) (ask_under id asks)
 
--- its method
+-- the method of the first ask with that id
 abbrev pub method_waiting : ℕ → List Ask → Option (List ℕ)
 method_waiting id asks = option_map (λ (ask : Ask). ask.method) (ask_under id asks)
 
@@ -376,10 +377,12 @@ pub record FrontState : Type 0 where
   pub next : ℕ
   pub fetches : ℕ
   pub dead : Bool
+  pub panels : List (Option PanelKind)
 
--- a front that has sent and taken nothing
-abbrev pub first_state : FrontState
-first_state = record { value = first_value []; rest = []; fault = None; next = 1; fetches = 0; dead = false }
+-- a front that has sent and taken nothing, with these panels
+abbrev pub first_state : List PanelKind → FrontState
+first_state kinds =
+    record { value = first_value []; rest = []; fault = None; next = 1; fetches = 0; dead = false; panels = map Some kinds }
 
 -- the state after more bytes, where no fault was met before
 abbrev pub after_bytes : FrontState → List ℕ → FrontState

@@ -11,7 +11,7 @@ abbrev pub id_behind : ℕ → ℕ → List ℕ → List ℕ
 id_behind previous x [] = []
 id_behind previous x (k ∷ ks) = cond (k == previous) (k ∷ x ∷ ks) (k ∷ id_behind previous x ks)
 
--- the same, or first where the other is 0
+-- the ids with this one put behind the other, or first where the other is 0
 abbrev pub id_after : ℕ → ℕ → List ℕ → List ℕ
 id_after previous x ks = cond (previous == 0) (x ∷ ks) (id_behind previous x ks)
 

@@ -3,16 +3,17 @@ use Rattle.std.specs.Prelude.{◌≡◌, ℕ, ◌+◌, Bool, List, [], ◌∷◌
 use Rattle.std.specs.List.{flat_map}
 use Rattle.pipe_frames.specs.Frames.{frames_from, held_after}
 use Rattle.cdp_messages.specs.declared.down.ReplyBody.{ReplyBody}
-use Rattle.cdp_messages.specs.declared.effects.Effect.{Effect}
-use Rattle.cdp_messages.specs.declared.effects.Effect.TheVariants as effect
-use Rattle.cdp_messages.specs.Effects.{effect_of}
-use Rattle.cdp_messages.specs.Moves.{Move, change, clear, met, added, dropped, rewritten, root, texted, replied, all_off, sheets_off}
-use Rattle.cdp_messages.specs.Moves.{failed, move_text, CanBeTold, Moves, Course, answered_by}
+use Rattle.client_views.specs.declared.effects.Effect.{Effect}
+use Rattle.client_views.specs.declared.effects.Effect.TheVariants as effect
+use Rattle.client_views.specs.Effects.{effect_of}
+use Rattle.client_views.specs.Moves.{Move, change, clear, met, added, dropped, rewritten, root, texted, replied, all_off, sheets_off}
+use Rattle.client_views.specs.Moves.{failed, move_text, CanBeTold, Moves, Course, answered_by}
 use Rattle.cdp_messages.specs.Laws.{answers}
-use Rattle.cdp_messages.specs.Views.{ShownSheet, View}
+use Rattle.client_views.specs.Views.{ShownSheet, View}
 use Rattle.front_mirror.specs.declared.replies.Ask.{Ask}
 use Rattle.front_mirror.specs.declared.replies.Kept.{Kept}
 use Rattle.front_mirror.specs.declared.replies.MatchedReply.{MatchedReply}
+use Rattle.front_mirror.specs.declared.panels.PanelKind.{PanelKind}
 use Rattle.front_mirror.specs.declared.pauses.SeenPause.{SeenPause}
 use Rattle.front_mirror.specs.declared.sheets.KnownSheet.{KnownSheet}
 use Rattle.front_mirror.specs.Front.{FrontValue, plain_ask, fetch_ask, method_waiting, fetched_sheet, asks_without, reply_kept, kept_reply}
@@ -46,7 +47,7 @@ pub record IsFold (waiting : List Ask) (down : List ℕ) (s : FrontState) : Type
 
 -- a new front is the fold of nothing
 abbrev pub FrontBegins : Type 0
-FrontBegins = IsFold [] [] first_state
+FrontBegins = (kinds : List PanelKind) → IsFold [] [] (first_state kinds)
 
 -- after more bytes it has the value of the fold of them all, or the fault that this fold meets
 abbrev pub TakesFold : Type 0
@@ -54,7 +55,7 @@ TakesFold =
     (waiting : List Ask) (down piece : List ℕ) (s : FrontState) → IsFold waiting down s
     → fold waiting (down ++ piece) ≡ fold_result (after_take s piece).value (after_take s piece).fault
 
--- and where there was no fault it is their fold
+-- a front in which there was no fault stays the fold of what it took
 abbrev pub StaysFold : Type 0
 StaysFold =
     (waiting : List Ask) (down piece : List ℕ) (s : FrontState) → IsFold waiting down s
@@ -66,7 +67,7 @@ AsksFold =
     (waiting : List Ask) (down method : List ℕ) (s : FrontState) → IsFold waiting down s
     → IsFold (waiting ++ plain_ask s.next method ∷ []) down (after_ask s method)
 
--- and so after a fetch
+-- a front after a fetch is the fold that waits for this one too
 abbrev pub FetchesFold : Type 0
 FetchesFold =
     (waiting : List Ask) (down : List ℕ) (sheet : ℕ) (s : FrontState) → IsFold waiting down s
@@ -80,7 +81,7 @@ pub record KnowsSheet (k : KnownSheet) (s : ShownSheet) : Type 0 where
   pub origin : k.origin ≡ s.origin
   pub text : k.stale ≡ false → k.text ≡ Some s.text
 
--- it knows these sheets, one by one, and no others
+-- the front knows these sheets, one by one, and no others
 abbrev pub KnowsSheets : List KnownSheet → List ShownSheet → Type 0
 KnowsSheets [] [] = ⊤
 KnowsSheets [] (s ∷ ss) = ⊥
@@ -245,7 +246,7 @@ pub record AreTaken (ms : List Move) (v : FrontValue) (w : View) : Type 0 where
   pub matched : after.matched ≡ v.matched ++ flat_map matched_after ms
   pub taken : after.taken ≡ v.taken + length ms
 
--- the same of a course of moves
+-- the messages of a course of moves are taken one after another
 abbrev pub CourseGives : Type 0
 CourseGives = (ms : List Move) (u w : View) (v : FrontValue) → Course ms u w → Has v u → AreAwaited ms v.asks → AreTaken ms v w
 

@@ -4,7 +4,7 @@ use Rattle.node_tree.specs.Nodes.{Nodes, none, node, Branch, nodes_of}
 use Rattle.node_tree.specs.declared.Kind.TheVariants.{Document}
 use Rattle.node_tree.specs.Keys.{find}
 use Rattle.node_tree.specs.Seen.{Seen, leaf, seen_id}
-use Rattle.cdp_messages.specs.Told.{Told, seen_nodes}
+use Rattle.dom_objects.specs.Told.{Told, seen_nodes}
 
 -- what these trees of a message show
 abbrev pub shown_of : List (Branch Told) → Nodes Seen

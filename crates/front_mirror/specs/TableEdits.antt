@@ -3,20 +3,20 @@ use Rattle.std.specs.Prelude.{◌≡◌, ℕ, ◌==◌, ◌||◌, ◌&&◌, Bool
 use Rattle.node_tree.specs.Nodes.{alone}
 use Rattle.node_tree.specs.Labels.{is_ascending, is_element, has_value}
 use Rattle.node_tree.specs.Seen.{shows_count, is_opened}
-use Rattle.cdp_messages.specs.Moves.{Change, shows, inserts, removes, counts, sets, drops, says}
-use Rattle.cdp_messages.specs.Told.{seen_nodes}
-use Rattle.cdp_messages.specs.Views.{is_in}
-use Rattle.cdp_messages.specs.LabelChanges.{placed, pairs_without}
+use Rattle.client_views.specs.Moves.{Change, shows, inserts, removes, counts, sets, drops, says}
+use Rattle.dom_objects.specs.Told.{seen_nodes}
+use Rattle.client_views.specs.Views.{is_in}
+use Rattle.node_tree.specs.LabelChanges.{placed, pairs_without}
 use Rattle.front_mirror.specs.Shown.{shown_of}
-use Rattle.front_mirror.specs.declared.edits.NodeEdit.{NodeEdit}
-use Rattle.front_mirror.specs.declared.edits.NodeEdit.TheVariants as edit
+use Rattle.front_mirror.specs.declared.edits.NodeChange.{NodeChange}
+use Rattle.front_mirror.specs.declared.edits.NodeChange.TheVariants as edit
 use Rattle.front_mirror.specs.declared.slots.Slot.{Slot}
 use Rattle.front_mirror.specs.declared.slots.Below.TheVariants.{Counted}
 use Rattle.front_mirror.specs.declared.table.Table.{Table}
 use Rattle.front_mirror.specs.Tables.{TableTurned, TableGrown, TableCut, opened_slot, with_child_id, root_ids, mirror_row}
 
 -- what the slot of the node owes before the edit: the sibling is there, attributes ascend
-abbrev pub Suits : NodeEdit → Slot → Type 0
+abbrev pub Suits : NodeChange → Slot → Type 0
 Suits (edit.Show nodes) s = ⊤
 Suits (edit.Insert previous tree) s = (previous == 0 || is_in previous s.children) ≡ true
 Suits (edit.Remove id) s = ⊤
@@ -41,7 +41,7 @@ abbrev pub TurnedAlone : Table → Table → ℕ → (Slot → Slot) → Type 0
 TurnedAlone a b x f = TableTurned a b x f × (b.ids ≡ a.ids)
 
 -- the second table is the first after the edit of the node of that id
-abbrev pub IsEdited : NodeEdit → Table → Table → ℕ → Type 0
+abbrev pub IsEdited : NodeChange → Table → Table → ℕ → Type 0
 IsEdited (edit.Show nodes) a b x = TableGrown a b x (opened_slot (root_ids (shown_of nodes.items))) (shown_of nodes.items)
 IsEdited (edit.Insert previous tree) a b x = TableGrown a b x (with_child_id previous tree.row.seen.id) (seen_nodes (alone tree))
 IsEdited (edit.Remove id) a b x = TableCut a b x id

@@ -8,7 +8,7 @@ use Rattle.node_tree.specs.Nodes.{Nodes, none, node, Branch}
 use Rattle.node_tree.specs.Keys.{tally}
 use Rattle.node_tree.specs.Seen.{Hold, leaf, counted, opened, Seen, seen_id, seen_serial}
 use Rattle.node_tree.specs.Arena.{SlotForm, Keeps, kept_trees, IsFiled}
-use Rattle.cdp_messages.specs.Views.{keys, IsMirror}
+use Rattle.client_views.specs.Views.{keys, IsMirror}
 use Rattle.node_tree.specs.Levels.{most_levels}
 use Rattle.front_mirror.specs.IdLists.{id_after, without_id}
 use Rattle.front_mirror.specs.declared.slots.Slot.{Slot}
@@ -22,7 +22,7 @@ hold_below leaf = Leaf
 hold_below (counted n) = Counted n
 hold_below opened = Opened
 
--- and as contracts see it
+-- what is shown below a node, as contracts see it
 abbrev pub below_hold : Below → Hold
 below_hold Leaf = leaf
 below_hold (Counted n) = counted n
@@ -41,7 +41,7 @@ mirror_row s = record {
 abbrev pub by_id : SlotForm Slot Seen
 by_id = record { row = mirror_row; number = seen_id; parent = λ s. s.parent; children = λ s. s.children }
 
--- and by their serials
+-- slots by the serials of their nodes
 abbrev pub by_serial : SlotForm Slot Seen
 by_serial = record { row = mirror_row; number = seen_serial; parent = λ s. s.parent; children = λ s. s.children }
 
@@ -98,7 +98,7 @@ abbrev pub planted : Option ℕ → Nodes Seen → (ℕ → Option Slot) → ℕ
 planted above none slots = slots
 planted above (node r c t) slots = planted above t (planted (Some r.id) c (with_entry r.id (Some (new_slot above r (root_ids c))) slots))
 
--- and the ids of the serials
+-- the ids of the serials after these trees came in below a node
 abbrev pub serials_listed : Nodes Seen → (ℕ → Option ℕ) → ℕ → Option ℕ
 serials_listed none ids = ids
 serials_listed (node r c t) ids = serials_listed t (serials_listed c (with_entry r.serial (Some r.id) ids))

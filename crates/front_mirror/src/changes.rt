@@ -4,7 +4,7 @@ ghost use Rattle.front_mirror.specs.declared.slots.Slot.{Slot};
 ghost use Rattle.front_mirror.specs.Tables.{table_slots, IsListed};
 ghost use Rattle.front_mirror.specs.TableEdits.{Suits, IsEdited};
 
-use crate::edits::NodeEdit;
+use crate::edits::NodeChange;
 use crate::slots::Below;
 use crate::table::Table;
 use std::alloc::{AllocError, Global};
@@ -15,7 +15,7 @@ impl Table {
         &mut self,
         alloc: Global,
         id: u64,
-        edit: NodeEdit,
+        edit: NodeChange,
     ) -> Result<(), AllocError>
         requires listed { IsListed self.old }
         requires there { IsSome (table_slots self.old id) }
@@ -23,19 +23,19 @@ impl Table {
         ensures { OnOk result (IsEdited edit self.old self.new id) }
     {
         match edit {
-            NodeEdit::Show(nodes) => self.show(alloc, id, nodes),
-            NodeEdit::Insert { previous, node } => self.insert(alloc, id, previous, node),
-            NodeEdit::Remove(child) => self.cut(alloc, id, child),
-            NodeEdit::Count(count) => {
+            NodeChange::Show(nodes) => self.show(alloc, id, nodes),
+            NodeChange::Insert { previous, node } => self.insert(alloc, id, previous, node),
+            NodeChange::Remove(child) => self.cut(alloc, id, child),
+            NodeChange::Count(count) => {
                 self.set_below(id, Below::Counted(count));
                 Ok(())
             }
-            NodeEdit::SetAttribute { name, value } => self.set_attr(id, name, value),
-            NodeEdit::DropAttribute(name) => {
+            NodeChange::SetAttribute { name, value } => self.set_attr(id, name, value),
+            NodeChange::DropAttribute(name) => {
                 self.drop_attr(id, name.as_str());
                 Ok(())
             }
-            NodeEdit::SetValue(value) => {
+            NodeChange::SetValue(value) => {
                 self.set_value(id, value);
                 Ok(())
             }

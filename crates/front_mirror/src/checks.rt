@@ -1,12 +1,12 @@
 // What is asked of nodes that come.
 ghost use Rattle.std.specs.Prelude.{◌≡◌, ◌++◌, true, nat_le, IfOk, OnOk};
 ghost use Rattle.node_tree.specs.Nodes.{nodes_of, height};
-ghost use Rattle.cdp_messages.specs.Views.{keys, is_distinct};
+ghost use Rattle.client_views.specs.Views.{keys, is_distinct};
 ghost use Rattle.front_mirror.specs.Shown.{told_id, told_serial};
 ghost use Rattle.front_mirror.specs.Front.{is_kin, is_unique};
 
 use crate::told::children_of;
-use cdp_messages::NodeTree;
+use dom_objects::NodeTree;
 use std::alloc::{AllocError, Global};
 use std::collections::BTreeSet;
 

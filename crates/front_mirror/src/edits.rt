@@ -1,7 +1,10 @@
 // Changes of one node of the mirror: whether they fit it.
-ghost use Rattle.std.specs.Prelude.{◌≡◌, ◌&&◌, ◌==◌, ◌<◌, IfOk};
+ghost use Rattle.std.specs.Prelude.{◌≡◌, ◌&&◌, ◌==◌, ◌<◌, IfOk, IsSome, true};
 ghost use Rattle.node_tree.specs.Nodes.{nodes_of, Branch};
-ghost use Rattle.node_tree.specs.Keys.{spot};
+ghost use Rattle.node_tree.specs.Keys.{spot, find};
+ghost use Rattle.client_views.specs.Moves.{suits_change};
+ghost use Rattle.front_mirror.specs.Shown.{known_at};
+ghost use Rattle.front_mirror.specs.PanelTold.{panel_change};
 ghost use Rattle.node_tree.specs.Seen.{Seen, seen_id};
 ghost use Rattle.node_tree.specs.Levels.{most_levels};
 ghost use Rattle.front_mirror.specs.Tables.{mirror_row, IsFace};
@@ -12,16 +15,17 @@ ghost use Rattle.front_mirror.specs.Edits.{edit_nodes, edit_change, edit_told, s
 use crate::checks::{MOST_LEVELS, are_kin, are_new, are_within};
 use crate::faults::FrontKind;
 use crate::mirror::Mirror;
+use crate::panels::Change;
 use crate::slots::Slot;
 use crate::told::{children_of, is_opened};
-use cdp_messages::NodeTree;
+use dom_objects::NodeTree;
 use node_tree::Text;
 use std::alloc::{AllocError, Global};
 use std::slice;
 
 /// What becomes of one node.
 #[derive(Drop)]
-pub(crate) enum NodeEdit {
+pub(crate) enum NodeChange {
     /// Its children are shown from now on.
     Show(Vec<NodeTree>),
     /// It has one more child, behind that of the id, or first where that is 0.
@@ -35,19 +39,19 @@ pub(crate) enum NodeEdit {
     SetValue(Text),
 }
 
-impl NodeEdit {
+impl NodeChange {
     /// The nodes that come with it.
     fn nodes(&self) -> &[NodeTree]
         ensures { nodes_of result.now ≡ edit_nodes self.now }
     {
         match self {
-            NodeEdit::Show(nodes) => nodes.as_slice(),
-            NodeEdit::Insert { node, .. } => slice::from_ref(node),
-            NodeEdit::Remove(_)
-            | NodeEdit::Count(_)
-            | NodeEdit::SetAttribute { .. }
-            | NodeEdit::DropAttribute(_)
-            | NodeEdit::SetValue(_) => &[],
+            NodeChange::Show(nodes) => nodes.as_slice(),
+            NodeChange::Insert { node, .. } => slice::from_ref(node),
+            NodeChange::Remove(_)
+            | NodeChange::Count(_)
+            | NodeChange::SetAttribute { .. }
+            | NodeChange::DropAttribute(_)
+            | NodeChange::SetValue(_) => &[],
         }
     }
 
@@ -56,10 +60,10 @@ impl NodeEdit {
         ensures { result ≡ takes_change (edit_change self.now) (mirror_row slot.now) }
     {
         match self {
-            NodeEdit::Show(_) | NodeEdit::Count(_) => slot.is_unopened(),
-            NodeEdit::Insert { .. } | NodeEdit::Remove(_) => slot.is_opened(),
-            NodeEdit::SetAttribute { .. } | NodeEdit::DropAttribute(_) => slot.is_element(),
-            NodeEdit::SetValue(_) => slot.has_value(),
+            NodeChange::Show(_) | NodeChange::Count(_) => slot.is_unopened(),
+            NodeChange::Insert { .. } | NodeChange::Remove(_) => slot.is_opened(),
+            NodeChange::SetAttribute { .. } | NodeChange::DropAttribute(_) => slot.is_element(),
+            NodeChange::SetValue(_) => slot.has_value(),
         }
     }
 
@@ -68,13 +72,33 @@ impl NodeEdit {
         ensures { result ≡ knows_named mirror.now (edit_change self.now) }
     {
         match self {
-            NodeEdit::Insert { previous, .. } => *previous == 0 || mirror.has_id(*previous),
-            NodeEdit::Remove(id) => mirror.has_id(*id),
-            NodeEdit::Show(_)
-            | NodeEdit::Count(_)
-            | NodeEdit::SetAttribute { .. }
-            | NodeEdit::DropAttribute(_)
-            | NodeEdit::SetValue(_) => true,
+            NodeChange::Insert { previous, .. } => *previous == 0 || mirror.has_id(*previous),
+            NodeChange::Remove(id) => mirror.has_id(*id),
+            NodeChange::Show(_)
+            | NodeChange::Count(_)
+            | NodeChange::SetAttribute { .. }
+            | NodeChange::DropAttribute(_)
+            | NodeChange::SetValue(_) => true,
+        }
+    }
+
+    /// What panels are told of it, at the node of that id.
+    pub(crate) fn told(&self, alloc: Global, id: u64, mirror: &Mirror) -> Result<Change, AllocError>
+        requires known { IsSome (find seen_id id mirror.now) }
+        requires suits { suits_change (edit_change self.now) (known_at id mirror.now) ≡ true }
+        ensures { IfOk result (λ change. change ≡ panel_change id (edit_change self.now) (known_at id mirror.now)) }
+    {
+        match self {
+            NodeChange::Show(_) => Ok(Change::Opened { node: id }),
+            NodeChange::Insert { node, .. } => Ok(Change::Inserted {
+                parent: id,
+                node: node.id,
+            }),
+            NodeChange::Remove(child) => mirror.removal(alloc, id, *child),
+            NodeChange::Count(_)
+            | NodeChange::SetAttribute { .. }
+            | NodeChange::DropAttribute(_)
+            | NodeChange::SetValue(_) => Ok(Change::Changed { node: id }),
         }
     }
 
@@ -83,15 +107,15 @@ impl NodeEdit {
         ensures { result ≡ suits_slot (edit_change self.now) slot.now }
     {
         match self {
-            NodeEdit::Show(_) | NodeEdit::Count(_) => slot.is_unopened(),
-            NodeEdit::Insert { previous, node } => {
+            NodeChange::Show(_) | NodeChange::Count(_) => slot.is_unopened(),
+            NodeChange::Insert { previous, node } => {
                 slot.is_opened()
                     && (*previous == 0 || slot.children.has(*previous))
                     && !is_opened(node)
             }
-            NodeEdit::Remove(id) => slot.is_opened() && slot.children.has(*id),
-            NodeEdit::SetAttribute { .. } | NodeEdit::DropAttribute(_) => slot.is_element(),
-            NodeEdit::SetValue(_) => slot.has_value(),
+            NodeChange::Remove(id) => slot.is_opened() && slot.children.has(*id),
+            NodeChange::SetAttribute { .. } | NodeChange::DropAttribute(_) => slot.is_element(),
+            NodeChange::SetValue(_) => slot.has_value(),
         }
     }
 }
@@ -144,7 +168,7 @@ fn slot_fault(
     mirror: &Mirror,
     slot: &Slot,
     level: usize,
-    edit: &NodeEdit,
+    edit: &NodeChange,
 ) -> Result<Option<FrontKind>, AllocError>
     requires { level < most_levels }
     ensures { (b : Branch Seen) → IsFace slot.now b
@@ -172,7 +196,7 @@ pub(crate) fn edit_fault(
     alloc: Global,
     mirror: &Mirror,
     id: u64,
-    edit: &NodeEdit,
+    edit: &NodeChange,
 ) -> Result<Option<FrontKind>, AllocError>
     ensures { IfOk result (λ wrong. wrong ≡ spot_fault mirror.now (edit_told id edit.now) (spot seen_id id 0 mirror.now)) }
 {

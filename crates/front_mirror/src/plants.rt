@@ -1,14 +1,15 @@
 // Nodes of messages that come into the table.
 ghost use Rattle.std.specs.Prelude.{◌≡◌, IfOk, OnOk};
 ghost use Rattle.node_tree.specs.Nodes.{nodes_of, alone};
-ghost use Rattle.cdp_messages.specs.Told.{seen_nodes};
+ghost use Rattle.dom_objects.specs.Told.{seen_nodes};
 ghost use Rattle.front_mirror.specs.Shown.{shown_of};
 ghost use Rattle.front_mirror.specs.Tables.{table_slots, table_ids, hold_below, root_ids, new_slot, planted, serials_listed};
 
 use crate::slots::{Below, IdList, Slot};
 use crate::table::Table;
 use crate::told::children_of;
-use cdp_messages::{Kind, NodeTree};
+use cdp_messages::Kind;
+use dom_objects::NodeTree;
 use std::alloc::{AllocError, Global};
 
 fn below_of(node: &NodeTree) -> Below

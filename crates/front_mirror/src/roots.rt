@@ -5,7 +5,7 @@ ghost use Rattle.front_mirror.specs.Front.{root_fault};
 use crate::checks::{MOST_LEVELS, are_kin, are_new, are_within};
 use crate::faults::FrontKind;
 use crate::told::children_of;
-use cdp_messages::NodeTree;
+use dom_objects::NodeTree;
 use std::alloc::{AllocError, Global};
 use std::slice;
 

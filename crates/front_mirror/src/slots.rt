@@ -1,10 +1,10 @@
 ghost use Rattle.std.specs.Prelude.{◌≡◌, ◌<◌, ◌≤◌, ◌==◌, ◌||◌, true, ℕ, List, [], ◌∷◌, ◌++◌, length, Some, IfOk, OnOk, slice_get};
 ghost use Rattle.std.specs.List.{insert};
-ghost use Rattle.cdp_messages.specs.Views.{is_in};
+ghost use Rattle.client_views.specs.Views.{is_in};
 ghost use Rattle.node_tree.specs.Nodes.{Nodes};
 ghost use Rattle.node_tree.specs.Labels.{is_element, has_value};
 ghost use Rattle.node_tree.specs.Seen.{Seen, is_opened, shows_count};
-ghost use Rattle.cdp_messages.specs.Told.{count_in};
+ghost use Rattle.dom_objects.specs.Told.{count_in};
 ghost use Rattle.front_mirror.specs.Tables.{mirror_row, root_ids};
 ghost use Rattle.front_mirror.specs.IdLists.{id_place, id_after, without_id};
 
@@ -72,7 +72,7 @@ impl IdList {
     }
 
     /// The place of the first that is the id, and else the number of them.
-    fn place(&self, id: u64) -> usize
+    pub(crate) fn place(&self, id: u64) -> usize
         ensures { result ≡ id_place id self.now }
     {
         for i in 0..self.len() {

@@ -1,15 +1,15 @@
 // Changes of one node of the table, with what comes and goes below it.
 ghost use Rattle.std.specs.Prelude.{◌≡◌, ◌==◌, ◌||◌, true, Some, IsSome, OnOk};
-ghost use Rattle.cdp_messages.specs.Views.{is_in};
+ghost use Rattle.client_views.specs.Views.{is_in};
 ghost use Rattle.front_mirror.specs.declared.slots.Slot.{Slot};
-ghost use Rattle.front_mirror.specs.declared.edits.NodeEdit.TheVariants as edit;
+ghost use Rattle.front_mirror.specs.declared.edits.NodeChange.TheVariants as edit;
 ghost use Rattle.front_mirror.specs.Tables.{table_slots, IsListed, TableCut};
 ghost use Rattle.front_mirror.specs.TableEdits.{IsEdited};
 
 use crate::checks::MOST_LEVELS;
 use crate::plants::ids_of;
 use crate::table::Table;
-use cdp_messages::NodeTree;
+use dom_objects::NodeTree;
 use std::alloc::{AllocError, Global};
 use std::slice;
 

@@ -1,8 +1,8 @@
 // Changes of single slots of the table.
 ghost use Rattle.std.specs.Prelude.{◌≡◌, ◌==◌, ◌||◌, true, Some, None, OnOk};
 ghost use Rattle.node_tree.specs.Labels.{is_ascending};
-ghost use Rattle.cdp_messages.specs.LabelChanges.{placed, pairs_without};
-ghost use Rattle.cdp_messages.specs.Views.{is_in};
+ghost use Rattle.node_tree.specs.LabelChanges.{placed, pairs_without};
+ghost use Rattle.client_views.specs.Views.{is_in};
 ghost use Rattle.front_mirror.specs.declared.slots.Slot.{Slot};
 ghost use Rattle.front_mirror.specs.declared.slots.Below.TheVariants.{Opened};
 ghost use Rattle.front_mirror.specs.IdLists.{id_after, without_id};

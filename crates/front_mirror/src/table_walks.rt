@@ -1,7 +1,7 @@
 // Walks over what stands below nodes of the table.
 ghost use Rattle.std.specs.Prelude.{◌≡◌, ◌+◌, ◌++◌, ◌<◌, ◌^◌, ◌∷◌, [], suc, OnOk};
 ghost use Rattle.node_tree.specs.Seen.{seen_id};
-ghost use Rattle.cdp_messages.specs.Views.{keys};
+ghost use Rattle.client_views.specs.Views.{keys};
 ghost use Rattle.front_mirror.specs.Outline.{lines_at, seen_line, unshown_of};
 ghost use Rattle.front_mirror.specs.Tables.{table_trees, mirror_row, below_hold};
 
@@ -11,7 +11,7 @@ use crate::table::Table;
 use std::alloc::{AllocError, Global};
 
 /// How many children of a node are not shown.
-fn unshown_of(slot: &Slot) -> u64
+pub(crate) fn unshown_of(slot: &Slot) -> u64
     ensures { result ≡ unshown_of (below_hold slot.now.below) }
 {
     match &slot.below {

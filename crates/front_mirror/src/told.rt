@@ -3,7 +3,7 @@ ghost use Rattle.std.specs.Prelude.{◌≡◌, length};
 ghost use Rattle.node_tree.specs.Nodes.{nodes_of, width};
 ghost use Rattle.node_tree.specs.Seen.{is_opened};
 
-use cdp_messages::NodeTree;
+use dom_objects::NodeTree;
 
 /// The children of a node that are shown.
 #[tactic(auto, using(crate::proofs::ToldLemmas::list_width))]

@@ -29,7 +29,7 @@ use Rattle.inspect_world.specs.Scripts.{sends}
 use Rattle.replay_script.specs.Sound.{CanSend}
 use Rattle.inspect_world.specs.Stream.{Stream, passed, arriving, awaited}
 use Rattle.inspect_world.specs.World.{World, one_fetch, sent_up, raw, turned, answered, given_up, delivered_up, delivered_down, settled}
-use Rattle.cdp_messages.specs.Moves.{frames_of_moves}
+use Rattle.client_views.specs.Moves.{frames_of_moves}
 use Rattle.back_end.specs.declared.seat.Seat.{Seat}
 use Rattle.back_end.specs.declared.side.PageSide.{PageSide}
 use Rattle.back_end.specs.States.{State}

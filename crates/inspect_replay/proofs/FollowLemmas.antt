@@ -13,9 +13,9 @@ use Rattle.node_tree.specs.Seen.{Seen}
 use Rattle.page_tree.specs.Forms.{max_nodes}
 use Rattle.page_forms.specs.Pages.{LoadedPage, CanLoadPage}
 use Rattle.page_forms.specs.Sheets.{max_sheets}
-use Rattle.cdp_messages.specs.Moves.{frames_of_moves}
+use Rattle.client_views.specs.Moves.{frames_of_moves}
 use Rattle.cdp_messages.specs.Asked.{command_text}
-use Rattle.front_mirror.specs.Front.{FrontState, first_state, after_take, after_ask, after_fetch}
+use Rattle.front_mirror.specs.Front.{FrontState, after_take, after_ask, after_fetch}
 use Rattle.inspect_world.specs.FreshRuns.{front_fetcher}
 use Rattle.front_mirror.specs.Outline.{outline_text, seen_line}
 use Rattle.front_mirror.specs.declared.faults.FrontFault.{FrontFault}
@@ -53,7 +53,8 @@ use Rattle.inspect_replay.specs.Runs.{ends_of}
 use Rattle.inspect_replay.specs.Moments.{moment}
 use Rattle.inspect_replay.specs.Stops.{GoesWell}
 use Rattle.inspect_world.proofs.SeatRoom.{room-of}
-use Rattle.inspect_replay.proofs.RunLemmas.{no_frames, first_ends, ends-first, IsNewSide, stands-first}
+use Rattle.inspect_replay.specs.Starts.{IsNew}
+use Rattle.inspect_replay.proofs.RunLemmas.{first_ends, ends-first, stands-first}
 
 -- ---- stops
 
@@ -422,14 +423,13 @@ start-good up down =
       (omega (arith, nothing up.given), omega (arith, nothing down.given)),
     )
 
-pub run-first : (up down : Pipe) (page : LoadedPage) (lines : ℕ) (e : Ends) → CanLoadPage page → PageHasTexts page → lines ≤ 2 ^ 26
-    → IsNewSide e.seat e.side page
-    → e.splitter ≡ no_frames → e.front ≡ first_state → e.up_there ≡ 0 → e.down_there ≡ 0 → e.told ≡ 0 → e.told_pauses ≡ 0
-    → FollowsRun (run_started (loaded_state page) lines []) up down up down e
-run-first up down page lines e can texts few new splitter_is front_is up_none down_none told_none pauses_none =
+pub run-first : (up down : Pipe) (page : LoadedPage) (lines : ℕ) (e : Ends)
+    → length up.given ≤ length up.sent → length down.given ≤ length down.sent → CanLoadPage page → PageHasTexts page → lines ≤ 2 ^ 26
+    → IsNew e page → FollowsRun (run_started (loaded_state page) lines []) up down up down e
+run-first up down page lines e up_within down_within can texts few new =
     let start : Started = run_started (loaded_state page) lines [] in
-    let same : ends_of e ≡ first_ends e.seat e.side = ends-first e splitter_is front_is up_none down_none told_none pauses_none in
-    let none : e.splitter.whole ≡ [] = ap (λ (f : Frames). f.whole) splitter_is in
+    let same : ends_of e ≡ first_ends e.seat e.side = ends-first e page new in
+    let none : e.splitter.whole ≡ [] = ap (λ (f : Frames). f.whole) new.splitter in
     let fit = fit-first page can texts in
     let drew : Drew (loaded_state page) 0 0 0 = record { ids = omega arith; trees = omega arith; edits = omega arith } in
     let serials : (loaded_state page).side.page.next + 0 * (max_nodes + 1) ≤ (0 + 1) * (max_nodes + 1) = fit.serials in
@@ -437,7 +437,8 @@ run-first up down page lines e can texts few new splitter_is front_is up_none do
     record {
       so_far = subst (λ h. Follows start up down up down e.splitter.whole h) (sym same)
           (subst (λ frames. Follows start up down up down frames (first_ends e.seat e.side)) (sym none)
-          (follows-start up down start e.seat e.side refl (stands-first page e.seat e.side can texts new) few drew (omega (arith, serials))
+          (follows-start up down start e.seat e.side up_within down_within refl (stands-first page e.seat e.side can texts new.side) few
+          drew (omega (arith, serials))
           (omega (arith, numbers))));
       none_whole = none;
     }

@@ -1,6 +1,6 @@
 -- A run goes on line by line, and writes what the lines print.
-use Rattle.std.proofs.Common.{◌≡◌, ℕ, suc, ◌+◌, ◌*◌, ◌≤◌, min, Bool, option_and_then, List, [], ◌∷◌, ◌++◌, length, map, drop, Option, Some}
-use Rattle.std.proofs.Common.{None, false, refl, sym, ◌∙◌, ap, subst, arith, append-nil, codes, Result, Ok, Err}
+use Rattle.std.proofs.Common.{◌≡◌, ℕ, suc, ◌+◌, ◌≤◌, min, Bool, option_and_then, List, [], ◌∷◌, ◌++◌, length, map, drop, Option, Some}
+use Rattle.std.proofs.Common.{None, refl, sym, ◌∙◌, ap, subst, arith, append-nil, codes, Result, Ok, Err}
 use Rattle.std.proofs.lemmas.List.{drop-map, drop_min, length-map}
 use Rattle.std.specs.Result.{OnOk, OnErr}
 use Rattle.node_tree.specs.Keys.{first_of}
@@ -10,16 +10,14 @@ use Rattle.pipe_frames.specs.Frames.{Frames, frames_of}
 use Rattle.pipe_frames.specs.Whole.{WrotePart}
 use Rattle.pipe_frames.proofs.WholeLemmas.{Appends-nil}
 use Rattle.replay_script.specs.Forms as forms_of
-use Rattle.replay_script.specs.Forms.{AskForm, LineForm, load, ask, show_front, show_page, show_sheets, show_replies, show_pauses}
-use Rattle.replay_script.specs.Forms.{show_styles, line_form}
+use Rattle.replay_script.specs.Forms.{LineForm, load, show_front, show_page, show_sheets, show_replies, show_pauses}
+use Rattle.replay_script.specs.Forms.{line_form}
 use Rattle.replay_script.specs.Faults.{line_fault}
 use Rattle.replay_script.specs.Lines.{lines_of}
 use Rattle.replay_script.specs.Script.{numbered_or, styles_fault, first_refused, refused_of_lines, script_refused, first_bad, good_lines}
 use Rattle.replay_script.specs.Script.{fault_of_lines, script_fault, script_forms}
 use Rattle.replay_script.specs.declared.faults.LineFault.{LineFault}
 use Rattle.page_forms.specs.Pages.{LoadedPage, CanLoadPage}
-use Rattle.page_tree.specs.Pages.{loaded}
-use Rattle.node_binding.specs.Bindings.{empty_from}
 use Rattle.node_tree.specs.Nodes.{Nodes}
 use Rattle.node_tree.specs.Seen.{Seen}
 use Rattle.front_mirror.specs.declared.replies.Kept.{Kept}
@@ -36,12 +34,11 @@ use Rattle.node_binding.specs.Sessions.{begun}
 use Rattle.node_binding.proofs.StandsLemmas.{Stands-begun}
 use Rattle.back_end.specs.declared.seat.Seat.{Seat}
 use Rattle.back_end.specs.declared.side.PageSide.{PageSide}
-use Rattle.back_end.specs.Sheets.{as_book, numbered_sheets}
 use Rattle.back_end.specs.States.{loaded_state, page_nodes, book_in, sheets_shown, view_of}
 use Rattle.back_end.specs.Steps.{acts}
 use Rattle.inspect_world.specs.RunStates.{RunState, run_step, run_turn}
-use Rattle.cdp_messages.specs.Events.{watch_name}
-use Rattle.cdp_messages.specs.declared.command.WatchWord.TheVariants as watch
+use Rattle.node_tree.specs.Watches.{watch_name}
+use Rattle.node_tree.specs.declared.watches.WatchKind.TheVariants as watch
 use Rattle.inspect_world.specs.ShownPauses.{pauses_in, watched_text, pause_line, pause_lines, seen_pause_line, seen_pause_lines}
 use Rattle.cdp_messages.specs.declared.down.PauseData.{PauseData}
 use Rattle.cdp_messages.specs.declared.down.PauseData.TheVariants as pause
@@ -49,9 +46,7 @@ use Rattle.front_mirror.specs.declared.pauses.SeenPause.{SeenPause}
 use Rattle.back_end.specs.Laws.{IsTurn}
 use Rattle.back_end.specs.Plans.{act_fault}
 use Rattle.back_end.proofs.SeatLemmas.{on_ok}
-use Rattle.dom_breakpoints.specs.Watched.{unwatched}
 use Rattle.back_end.specs.Seats.{StandsFor, IsSeated}
-use Rattle.undo_marks.specs.Marks.{no_marks}
 use Rattle.inspect_world.specs.Costs.{least_line, line_cost, line_bytes}
 use Rattle.inspect_world.specs.Fits.{most_bytes, HasLeft, IsPlainFrame}
 use Rattle.inspect_world.specs.FreshRuns.{front_fetcher, refreshes, fresh_line, Together}
@@ -62,6 +57,7 @@ use Rattle.page_forms.specs.Texts.{PageHasTexts}
 use Rattle.inspect_world.specs.ScriptsFit.{IsLater}
 use Rattle.inspect_world.specs.Held.{Ends as HeldEnds, InWorld}
 use Rattle.inspect_world.specs.ShownReplies.{reply_shown, told_lines, replies_in}
+use Rattle.inspect_replay.specs.Starts.{IsNewSide, IsNew}
 use Rattle.inspect_replay.specs.declared.ends.Ends.{Ends}
 use Rattle.inspect_replay.specs.declared.stop.Stop.{Stop}
 use Rattle.inspect_replay.specs.Runs.{InRun, InPlay, Spends, Steps, Refreshes, ends_of}
@@ -79,10 +75,6 @@ use Rattle.inspect_world.proofs.FetchesFit.{ShownThen, play-line, play-loaded, p
 use Rattle.inspect_replay.proofs.EndLemmas.{run-front}
 use Rattle.inspect_world.proofs.Inputs.{input-script, Script, length-lines_of, bytes-lines_of}
 use Rattle.inspect_world.proofs.Ends.{world-first, world-told}
-
--- a splitter that has taken nothing
-abbrev pub no_frames : Frames
-no_frames = record { whole = []; rest = [] }
 
 -- counts of which nothing is asked
 abbrev pub no_counts : Counts
@@ -453,7 +445,7 @@ before-told honest honest1 up0 down0 up down up1 down1 more w e e1 settles play 
 
 -- the same world, with something told
 abbrev told_to : AlreadyTold → World RunState → World RunState
-told_to n v = record { state = v.state; up = v.up; down = v.down; spent = v.spent; told = n }
+told_to n v = record v { told = n }
 
 -- what was printed counts as told, in both runs alike
 told-play : (line : LineForm) (honest1 : Type 0) (up0 down0 up1 down1 : Pipe) (more : ℕ) (w v : World RunState) (e1 e2 : Ends)
@@ -657,34 +649,22 @@ first_ends seat side = record {
   seat = seat;
   side = side;
   back_rest = [];
-  front = first_state;
+  front = first_state [];
   up_there = 0;
   down_there = 0;
   told = nothing_told;
 }
 
-pub ends-first : (e : Ends) → e.splitter ≡ no_frames → e.front ≡ first_state
-    → e.up_there ≡ 0 → e.down_there ≡ 0 → e.told ≡ 0 → e.told_pauses ≡ 0 → ends_of e ≡ first_ends e.seat e.side
-ends-first e splitter_is front_is up_none down_none told_none pauses_none = λ i. record {
+pub ends-first : (e : Ends) (page : LoadedPage) → IsNew e page → ends_of e ≡ first_ends e.seat e.side
+ends-first e page new = λ i. record {
   seat = e.seat;
   side = e.side;
-  back_rest = (splitter_is i).rest;
-  front = front_is i;
-  up_there = up_none i;
-  down_there = down_none i;
-  told = record { replies = told_none i; pauses = pauses_none i };
+  back_rest = (new.splitter i).rest;
+  front = new.front i;
+  up_there = new.up i;
+  down_there = new.down i;
+  told = record { replies = new.told i; pauses = new.told_pauses i };
 }
-
--- a side of this page that was just loaded, and a seat at which nothing was asked
-pub record IsNewSide (seat : Seat) (side : PageSide) (page : LoadedPage) : Type 0 where
-  pub page_is : side.page ≡ loaded 1 page.nodes
-  pub sheets_are : side.sheets.entries ≡ as_book (numbered_sheets 1 page.sheets)
-  pub next_is : side.sheets.next ≡ 1 + length page.sheets
-  pub off : seat.desk.is_on ≡ false
-  pub css : seat.desk.css ≡ false
-  pub agent_is : seat.desk.agent ≡ empty_from 1
-  pub watches_are : seat.desk.watches ≡ unwatched
-  pub history_is : seat.history ≡ no_marks
 
 -- the seat stands for it
 pub stands-first : (page : LoadedPage) (seat : Seat) (side : PageSide) → CanLoadPage page → PageHasTexts page → IsNewSide seat side page
@@ -716,13 +696,10 @@ unfolding frames_of
 nothing-awaited page = refl
 
 pub begins : (honest : Type 0) (up down : Pipe) (page : LoadedPage) (e : Ends) → honest → CanLoadPage page → PageHasTexts page → IsLevel up
-    → IsLevel down
-    → IsNewSide e.seat e.side page → e.splitter ≡ no_frames → e.front ≡ first_state → e.up_there ≡ 0 → e.down_there ≡ 0 → e.told ≡ 0
-    → e.told_pauses ≡ 0
-    → InRun honest up down up down (loaded_world page) e
-begins honest up down page e is_honest can texts up_level down_level new splitter_is front_is up_none down_none told_none pauses_none =
-    let same : first_ends e.seat e.side ≡ ends_of e = sym (ends-first e splitter_is front_is up_none down_none told_none pauses_none) in
-    let none : e.splitter.whole ≡ [] = ap (λ (f : Frames). f.whole) splitter_is in
+    → IsLevel down → IsNew e page → InRun honest up down up down (loaded_world page) e
+begins honest up down page e is_honest can texts up_level down_level new =
+    let same : first_ends e.seat e.side ≡ ends_of e = sym (ends-first e page new) in
+    let none : e.splitter.whole ≡ [] = ap (λ (f : Frames). f.whole) new.splitter in
     let frames : [] ≡ e.splitter.whole ++ awaited (loaded_world page).up =
     sym (ap (λ whole. whole ++ awaited (loaded_world page).up) none ∙ nothing-awaited page) in
     record {
@@ -730,7 +707,7 @@ begins honest up down page e is_honest can texts up_level down_level new splitte
         is_honest = is_honest;
         in_world = subst (λ h. InWorld up down up down (loaded_world page) (e.splitter.whole ++ awaited (loaded_world page).up) h) same
             (subst (λ fs. InWorld up down up down (loaded_world page) fs (first_ends e.seat e.side)) frames
-            (world-first up down page e.seat e.side can texts up_level down_level (stands-first page e.seat e.side can texts new)));
+            (world-first up down page e.seat e.side can texts up_level down_level (stands-first page e.seat e.side can texts new.side)));
       };
       none_whole = none;
     }

@@ -12,7 +12,7 @@ use Rattle.std.proofs.lemmas.List.Elements.{All-nil}
 use Rattle.page_forms.specs.declared.sheets.SheetForm.{SheetForm}
 use Rattle.page_forms.specs.Pages.{CanLoadPage}
 use Rattle.page_forms.specs.Texts.{PageHasTexts}
-use Rattle.cdp_messages.specs.Moves.{frames_of_moves}
+use Rattle.client_views.specs.Moves.{frames_of_moves}
 use Rattle.back_end.specs.States.{State}
 use Rattle.back_end.specs.Steps.{Stepped, frame_step}
 use Rattle.back_end.specs.Seats.{StandsFor, first_page}
@@ -21,7 +21,8 @@ use Rattle.inspect_replay.specs.declared.service.Service.{Service}
 use Rattle.inspect_replay.specs.declared.stop.Stop.{Stop}
 use Rattle.inspect_replay.specs.Serving.{first_served, served_step, served_run, served, IsServing, ServeMoment, serve_moment, SoFar}
 use Rattle.inspect_replay.specs.Serving.{with_more, Serves, Answered, PartServed, ServesOn}
-use Rattle.inspect_replay.proofs.RunLemmas.{IsNewSide, stands-first}
+use Rattle.inspect_replay.specs.Starts.{IsNewSide}
+use Rattle.inspect_replay.proofs.RunLemmas.{stands-first}
 
 -- ---- steps on frames
 

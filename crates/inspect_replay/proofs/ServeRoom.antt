@@ -1,5 +1,5 @@
 -- A service has room for each frame of an input that is not too long.
-use Rattle.std.proofs.Common.{◌≡◌, ℕ, suc, ◌+◌, ◌*◌, ◌^◌, ◌<◌, ◌≤◌, true, List, [], ◌∷◌, ◌++◌, length, None, Result, Ok, Err, refl, sym, ◌∙◌}
+use Rattle.std.proofs.Common.{◌≡◌, ℕ, ◌+◌, ◌*◌, ◌^◌, ◌<◌, ◌≤◌, true, List, [], ◌∷◌, ◌++◌, length, None, Result, Ok, Err, refl, sym, ◌∙◌}
 use Rattle.std.proofs.Common.{ap, subst, length-append, arith}
 use Rattle.page_tree.specs.Forms.{max_nodes}
 use Rattle.page_forms.specs.Sheets.{max_sheets}
@@ -20,7 +20,7 @@ use Rattle.inspect_world.proofs.CountLemmas.{command-ids, ids-left, few-edits, f
 use Rattle.inspect_world.proofs.Scripts.{IsState-first}
 use Rattle.inspect_world.proofs.SeatRoom.{has-room-left}
 use Rattle.inspect_replay.specs.declared.service.Service.{Service}
-use Rattle.inspect_replay.specs.Serving.{first_served, served_step, served_run, IsServing}
+use Rattle.inspect_replay.specs.Serving.{first_served, served_step, served_run}
 use Rattle.inspect_replay.specs.ServeRoom.{CameFew, HasBytesLeft}
 use Rattle.inspect_replay.proofs.ServeLemmas.{nothing-loaded, no-texts, steps-append}
 

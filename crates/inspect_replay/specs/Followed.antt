@@ -31,7 +31,7 @@ pub record Passed : Type 0 where
   pub sent_down : ℕ
   pub given_down : ℕ
 
--- the same since the pipes were as `up0` and `down0`
+-- the fold of what was sent and given since the pipes were as `up0` and `down0`
 abbrev pub fold_since : (up0 down0 up down : Pipe) → Passed
 fold_since up0 down0 up down =
     record {
@@ -73,7 +73,7 @@ AnswersInOrder up0 down0 up down = map (λ (t : ShownReply). t.id) (replies_in (
 abbrev pub GivesNoMore : Passed → Type 0
 GivesNoMore passed = (passed.given_up ≤ passed.sent_up) × (passed.given_down ≤ passed.sent_down)
 
--- so it is whatever is answered; want of memory says nothing
+-- no more bytes were given than were sent, whatever is answered; want of memory says nothing
 abbrev pub LessAt : Phase → Passed → Type 0
 LessAt untouched passed = GivesNoMore passed
 LessAt reading passed = GivesNoMore passed
@@ -81,7 +81,7 @@ LessAt underway passed = GivesNoMore passed
 LessAt ended passed = GivesNoMore passed
 LessAt anywhen passed = ⊤
 
--- the same of what the whole call answers
+-- no more bytes were given than were sent, by what the whole call answers
 abbrev pub StatusLess : Status → Passed → Type 0
 StatusLess status passed = LessAt (says status).phase passed
 
@@ -110,7 +110,7 @@ KeepsFollowing old new result =
     (state0 : Started) (up0 down0 : Pipe) → FollowsRun state0 up0 down0 old.up old.down old.ends
     → OnOk result (FollowsRun state0 up0 down0 new.up new.down new.ends) × StopFolds result (fold_since up0 down0 new.up new.down)
 
--- the same of a call that carries out a line, and may make a step of the script
+-- a call that carries out a line, and may make a step of the script, goes on following or stops as the fold says
 abbrev pub LineFollows : {T : Type 0} → Moment → Moment → Result T Stop → Type 0
 LineFollows old new result =
     (state0 : Started) (up0 down0 : Pipe) → FollowsRun (one_line_more state0) up0 down0 old.up old.down old.ends
@@ -133,7 +133,7 @@ pub record LinesCarried (state0 : State) (up0 down0 : Pipe) (new : Moment) (line
   pub run : FollowsRun (run_started state0 0 shown) up0 down0 new.up new.down new.ends
   pub none : (there : ℕ → Bool) → All (λ ask. there ask ≡ true) shown → first_refused there 2 lines ≡ None
 
--- and of one that carries out these lines, the first of which has the number 2
+-- a call that carries out these lines, the first of which has the number 2, goes on following or stops as the fold says
 abbrev pub LinesFollow : {T : Type 0} → Moment → Moment → List (List ℕ) → Result T Stop → Type 0
 LinesFollow old new lines result =
     (state0 : State) (up0 down0 : Pipe) → FollowsRun (run_started state0 (length lines) []) up0 down0 old.up old.down old.ends
@@ -141,19 +141,19 @@ LinesFollow old new lines result =
     × StopFolds result (fold_since up0 down0 new.up new.down)
     × RunTells result (first_refused (came_styles (fold_since up0 down0 new.up new.down).fold) 2 lines)
 
--- the same of a call that leaves whole frames in the splitter
+-- a call that leaves whole frames in the splitter goes on following or stops as the fold says
 abbrev pub KeepsFollowingWith : {T : Type 0} → Moment → Moment → Result T Stop → Type 0
 KeepsFollowingWith old new result =
     (state0 : Started) (up0 down0 : Pipe) → FollowsRun state0 up0 down0 old.up old.down old.ends
     → OnOk result (FollowsWith state0 up0 down0 new.up new.down new.ends) × StopFolds result (fold_since up0 down0 new.up new.down)
 
--- and of one that answers them all
+-- a call that answers all whole frames goes on following or stops as the fold says
 abbrev pub FollowsAnswers : {T : Type 0} → Moment → Moment → Result T Stop → Type 0
 FollowsAnswers old new result =
     (state0 : Started) (up0 down0 : Pipe) → FollowsWith state0 up0 down0 old.up old.down old.ends
     → OnOk result (FollowsRun state0 up0 down0 new.up new.down new.ends) × StopFolds result (fold_since up0 down0 new.up new.down)
 
--- and of one that answers this frame, before those that the splitter holds
+-- a call that answers this frame, before those that the splitter holds, goes on following or stops as the fold says
 abbrev pub FollowsAnswer : {T : Type 0} → Moment → Moment → List ℕ → Result T Stop → Type 0
 FollowsAnswer old new frame result =
     (state0 : Started) (up0 down0 : Pipe) → Follows state0 up0 down0 old.up old.down (frame ∷ old.ends.splitter.whole) (ends_of old.ends)

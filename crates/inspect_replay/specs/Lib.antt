@@ -5,9 +5,11 @@ pub mod Answers
 pub mod Stops
 pub mod Moved
 pub mod Moments
+pub mod Starts
 pub mod Runs
 pub mod Followed
 pub mod Prints
+pub mod Goes
 pub mod Serving
 pub mod ServeRoom
 pub mod ServeReads

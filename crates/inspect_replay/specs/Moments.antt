@@ -2,32 +2,56 @@
 use Rattle.std.specs.Prelude.{ℕ, List, Option}
 use Rattle.pipe_frames.specs.Pipe.{Pipe}
 use Rattle.inspect_replay.specs.declared.ends.Ends.{Ends}
+use Rattle.inspect_replay.specs.Says.{Counts}
 
--- the link, whether it is honest, and the ends
+-- the link, whether it is honest, how often it failed, and the ends
 pub record Moment : Type 1 where
   pub honest : Type 0
   pub up : Pipe
   pub down : Pipe
+  pub faults : ℕ
   pub ends : Ends
 
--- these together
+-- these together, but for the faults, which nothing asks for that is said of a run
 abbrev pub moment : Type 0 → Pipe → Pipe → Ends → Moment
-moment honest up down ends = record { honest = honest; up = up; down = down; ends = ends }
+moment honest up down ends = record { honest = honest; up = up; down = down; faults = 0; ends = ends }
 
 -- what a call leads from, and to
 pub record Passage : Type 1 where
   pub before : Moment
   pub after : Moment
 
--- these two together
+-- what a call leads from, and to
 abbrev pub passage : Moment → Moment → Passage
 passage before after = record { before = before; after = after }
+
+-- what a sink has taken, and how often it failed
+pub record Taken : Type 0 where
+  pub bytes : Option (List ℕ)
+  pub faults : ℕ
 
 -- a moment, with what the sink has taken
 pub record Scene : Type 1 where
   pub now : Moment
   pub taken : Option (List ℕ)
+  pub faults : ℕ
+
+-- these together, but for the faults of the sink
+abbrev pub scene : Moment → Option (List ℕ) → Scene
+scene now taken = record { now = now; taken = taken; faults = 0 }
 
 -- these together
-abbrev pub scene : Moment → Option (List ℕ) → Scene
-scene now taken = record { now = now; taken = taken }
+abbrev pub seen_by : Moment → Taken → Scene
+seen_by now sink = record { now = now; taken = sink.bytes; faults = sink.faults }
+
+-- the counts of faults from one scene to another
+abbrev pub counts_between : Scene → Scene → Counts
+counts_between old new =
+    record {
+      source_before = 0;
+      source_after = 0;
+      sink_before = old.faults;
+      sink_after = new.faults;
+      link_before = old.now.faults;
+      link_after = new.now.faults;
+    }

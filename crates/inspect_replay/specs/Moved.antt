@@ -5,8 +5,8 @@ use Rattle.pipe_frames.specs.Pipe.{Pipe}
 use Rattle.inspect_replay.specs.declared.stop.Stop.{Stop}
 
 -- the whole piece was sent, or nothing
-abbrev pub Sent : Pipe → Pipe → List ℕ → Result (Unit {0}) Stop → Type 0
-Sent old new piece (Ok done) = (new.sent ≡ old.sent ++ piece) × (new.given ≡ old.given)
+abbrev pub Sent : Pipe → Pipe → List ℕ → Result ℕ Stop → Type 0
+Sent old new piece (Ok there) = (new.sent ≡ old.sent ++ piece) × (new.given ≡ old.given)
 Sent old new piece (Err stop) = new ≡ old
 
 -- a piece of at most so many bytes was given, or nothing

@@ -22,7 +22,7 @@ pub record NumberedLine : Type 0 where
   pub number : ℕ
   pub form : LineForm
 
--- these together
+-- a line with its number
 abbrev pub numbered_line : ℕ → LineForm → NumberedLine
 numbered_line number form = record { number = number; form = form }
 
@@ -35,7 +35,7 @@ CarriesOut old new line result =
     × OnOk result (InPlay new.now.honest up0 down0 new.now.up new.now.down more (after_line line.form w) new.now.ends)
     × Prints result old.taken new.taken (line_text line.number line.form w)
 
--- the same of any line: one that shows what did not come is refused, and nothing is printed of it
+-- any line is carried out, and prints what it prints; one that shows what did not come is refused, and nothing is printed of it
 abbrev pub CarriesLine : {T : Type 0} → Scene → Scene → NumberedLine → Result T Stop → Type 0
 CarriesLine old new line result =
     (up0 down0 : Pipe) (more : ℕ) (w : World RunState)

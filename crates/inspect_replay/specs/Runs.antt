@@ -33,7 +33,7 @@ pub record InRunWith (honest : Type 0) (up0 down0 up down : Pipe) (w : World Run
   pub is_honest : honest
   pub in_world : InWorld up0 down0 up down w (e.splitter.whole ++ awaited w.up) (ends_of e)
 
--- the same, where each frame that came up whole is answered
+-- the ends are in a run, each frame that came up whole being answered
 pub record InRun (honest : Type 0) (up0 down0 up down : Pipe) (w : World RunState) (e : Ends) : Type 0 where
   pub so_far : InRunWith honest up0 down0 up down w e
   pub none_whole : e.splitter.whole ≡ []
@@ -44,27 +44,28 @@ Steps old new result f =
     (up0 down0 : Pipe) (w : World RunState) → InRun old.honest up0 down0 old.up old.down w old.ends
     → GoesWell result × OnOk result (InRun new.honest up0 down0 new.up new.down (f w) new.ends)
 
--- the same of a call that sends a frame or makes a step of the script, while there is room for a line of so many bytes
+-- a call that sends a frame or makes a step of the script takes each run to where the script takes it, while there is room for a line of
+-- so many bytes
 abbrev pub Spends : {T : Type 0} → ℕ → Passage → Result T Stop → (World RunState → World RunState) → Type 0
 Spends bytes m result f =
     (up0 down0 : Pipe) (w : World RunState) → HasLeft w.spent bytes
     → InRun m.before.honest up0 down0 m.before.up m.before.down w m.before.ends
     → GoesWell result × OnOk result (InRun m.after.honest up0 down0 m.after.up m.after.down (f w) m.after.ends)
 
--- the same of a call that answers the frames that came up whole
+-- a call that answers the frames that came up whole takes each run to where the script takes it
 abbrev pub AnswersAll : {T : Type 0} → Moment → Moment → Result T Stop → Type 0
 AnswersAll old new result =
     (up0 down0 : Pipe) (w : World RunState) → InRunWith old.honest up0 down0 old.up old.down w old.ends
     → GoesWell result × OnOk result (InRun new.honest up0 down0 new.up new.down (answered run_step old.ends.splitter.whole w) new.ends)
 
--- the same of a call that answers one frame, before those that the splitter holds
+-- a call that answers one frame, before those that the splitter holds, takes each run to where the script takes it
 abbrev pub AnswersOne : {T : Type 0} → Moment → Moment → List ℕ → Result T Stop → Type 0
 AnswersOne old new frame result =
     (up0 down0 : Pipe) (w : World RunState) → old.honest
     → InWorld up0 down0 old.up old.down w (frame ∷ (old.ends.splitter.whole ++ awaited w.up)) (ends_of old.ends)
     → GoesWell result × OnOk result (InRunWith new.honest up0 down0 new.up new.down (answered run_step (frame ∷ []) w) new.ends)
 
--- the same of a call that takes bytes that come up, and cuts them into frames
+-- a call that takes bytes that come up, and cuts them into frames, takes each run to where the script takes it
 abbrev pub TakesUp : {T : Type 0} → Moment → Moment → ℕ → Result T Stop → Type 0
 TakesUp old new n result =
     (up0 down0 : Pipe) (w : World RunState) → InRun old.honest up0 down0 old.up old.down w old.ends
@@ -73,7 +74,7 @@ TakesUp old new n result =
 
 -- ---- the fetches of a settle
 
--- the same of a call that makes fetches, while there is room for so many
+-- a call that makes fetches takes each run to where the script takes it, while there is room for so many
 abbrev pub SpendsFetches : {T : Type 0} → Moment → Moment → ℕ → Result T Stop → (World RunState → World RunState) → Type 0
 SpendsFetches old new count result f =
     (up0 down0 : Pipe) (w : World RunState) → w.spent.fetches + count ≤ most_fetches → InRun old.honest up0 down0 old.up old.down w old.ends
@@ -98,7 +99,7 @@ abbrev pub FetchesAll : {T : Type 0} → Moment → Moment → List ℕ → Resu
 FetchesAll old new numbers result =
     SpendsFetches old new (length numbers) result (all_fetched replay front_fetcher (first_value []) numbers)
 
--- and of a settle with its fetches, while there is room for those of one settle
+-- a settle with its fetches takes each run to where the script takes it, while there is room for those of one settle
 abbrev pub Refreshes : {T : Type 0} → Moment → Moment → Result T Stop → Type 0
 Refreshes old new result =
     (up0 down0 : Pipe) (w : World RunState) → HasLeft w.spent 0 → InRun old.honest up0 down0 old.up old.down w old.ends

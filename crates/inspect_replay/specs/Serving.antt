@@ -95,7 +95,7 @@ pub record ServeMoment : Type 0 where
   pub service : Service
   pub taken : Option (List ℕ)
 
--- these together
+-- a back end that serves, and what the sink has taken
 abbrev pub serve_moment : Service → Option (List ℕ) → ServeMoment
 serve_moment service taken = record { service = service; taken = taken }
 

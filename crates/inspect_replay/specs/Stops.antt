@@ -28,7 +28,7 @@ two_counts sink_before sink_after link_before link_after =
 abbrev pub RoseFor : Counts → Stop → Type 0
 RoseFor c stop = AmidRun (says (status_of stop)).phase (PartRose c (says (status_of stop)).failed)
 
--- the same of a result
+-- a result stops by a fault of the sink or the link only where its count rose
 abbrev pub RoseAt : {T : Type 0} → Counts → Result T Stop → Type 0
 RoseAt c (Ok value) = ⊤
 RoseAt c (Err stop) = RoseFor c stop
@@ -39,7 +39,7 @@ pub record HasStopCause {T : Type 0} (sink_before sink_after link_before link_af
   pub link_later : link_before ≤ link_after
   pub rose : RoseAt (two_counts sink_before sink_after link_before link_after) result
 
--- the same of counts in one record
+-- a stop by a fault of the sink or the link comes only where its count rose, the counts being in one record
 abbrev pub StopRose : {T : Type 0} → Counts → Result T Stop → Type 0
 StopRose c result = HasStopCause c.sink_before c.sink_after c.link_before c.link_after result
 
@@ -47,7 +47,7 @@ StopRose c result = HasStopCause c.sink_before c.sink_after c.link_before c.link
 abbrev pub GoesWell : {T : Type 0} → Result T Stop → Type 0
 GoesWell result = Absent (says_of result).lie
 
--- the same of a run that may stop at a line that is refused
+-- a run that may stop at a line that is refused stops by a fault of the sink or the link only where its count rose
 abbrev pub RunRoseAt : {T : Type 0} → Counts → Result T Stop → Type 0
 RunRoseAt c result = InRunOnly (says_of result).phase (PartRose c (says_of result).failed)
 
@@ -57,6 +57,6 @@ pub record HasRunCause {T : Type 0} (sink_before sink_after link_before link_aft
   pub link_later : link_before ≤ link_after
   pub rose : RunRoseAt (two_counts sink_before sink_after link_before link_after) result
 
--- the same of counts in one record
+-- such a run's counts do not fall, and a fault has its cause, the counts being in one record
 abbrev pub RunRose : {T : Type 0} → Counts → Result T Stop → Type 0
 RunRose c result = HasRunCause c.sink_before c.sink_after c.link_before c.link_after result

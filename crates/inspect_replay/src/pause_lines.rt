@@ -1,6 +1,6 @@
 // The lines of a show of the pauses.
 ghost use Rattle.std.specs.Prelude.{◌≡◌, ◌++◌, ◌∷◌, codes, OnOk, IfOk};
-ghost use Rattle.cdp_messages.specs.Events.{watch_name};
+ghost use Rattle.node_tree.specs.Watches.{watch_name};
 ghost use Rattle.inspect_world.specs.ShownPauses.{flag_word, watched_text, target_text, target_shown, seen_pause_line, seen_pause_lines};
 
 use front_mirror::SeenPause;

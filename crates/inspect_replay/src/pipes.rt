@@ -1,5 +1,5 @@
 // The link's calls, with what a run stops by.
-ghost use Rattle.std.specs.Prelude.{◌≡◌, take, IfOk};
+ghost use Rattle.std.specs.Prelude.{◌≡◌, ◌≤◌, ◌+◌, length, take, IfOk};
 ghost use Rattle.pipe_frames.specs.Pipe.{waiting};
 ghost use Rattle.inspect_replay.specs.Stops.{StopRose, two_counts, GoesWell};
 ghost use Rattle.inspect_replay.specs.Moved.{Sent, Got};
@@ -8,29 +8,33 @@ use crate::stop::Stop;
 use pipe_frames::{Link, OutErr};
 use std::alloc::Global;
 
-pub(crate) fn send_up<L: Link>(link: &mut L, bytes: &[u8]) -> Result<(), Stop>
+/// Sends the bytes up, where so many are on their way. Gives how many are then: what waits is in memory, so the sum has room.
+pub(crate) fn send_up<L: Link>(link: &mut L, there: u64, bytes: &[u8]) -> Result<u64, Stop>
     ensures up { Sent (L.up link.old) (L.up link.new) bytes.now result }
     ensures down { L.down link.new ≡ L.down link.old }
+    ensures count { there ≤ length (waiting (L.up link.old)) → IfOk result (λ n. n ≡ there + length bytes.now) }
     ensures honest { L.honest link.old → L.honest link.new }
     ensures never { GoesWell result }
     ensures cause { StopRose (two_counts 0 0 (L.faults link.old) (L.faults link.new)) result }
 {
     match link.put_up(bytes) {
-        Ok(()) => Ok(()),
+        Ok(()) => Ok(there.saturating_add(bytes.len() as u64)),
         Err(OutErr::Failed) => Err(Stop::LinkFault),
         Err(OutErr::Memory) => Err(Stop::Memory),
     }
 }
 
-pub(crate) fn send_down<L: Link>(link: &mut L, bytes: &[u8]) -> Result<(), Stop>
+/// The same of bytes that go down.
+pub(crate) fn send_down<L: Link>(link: &mut L, there: u64, bytes: &[u8]) -> Result<u64, Stop>
     ensures down { Sent (L.down link.old) (L.down link.new) bytes.now result }
     ensures up { L.up link.new ≡ L.up link.old }
+    ensures count { there ≤ length (waiting (L.down link.old)) → IfOk result (λ n. n ≡ there + length bytes.now) }
     ensures honest { L.honest link.old → L.honest link.new }
     ensures never { GoesWell result }
     ensures cause { StopRose (two_counts 0 0 (L.faults link.old) (L.faults link.new)) result }
 {
     match link.put_down(bytes) {
-        Ok(()) => Ok(()),
+        Ok(()) => Ok(there.saturating_add(bytes.len() as u64)),
         Err(OutErr::Failed) => Err(Stop::LinkFault),
         Err(OutErr::Memory) => Err(Stop::Memory),
     }

@@ -1,4 +1,4 @@
-ghost use Rattle.std.specs.Prelude.{ℕ, ◌≡◌, ◌≤◌, ◌^◌, ◌∷◌, [], length, option_map, Some, None, IfOk, OnOk, IfSome, IsNone};
+ghost use Rattle.std.specs.Prelude.{◌≡◌, ◌≤◌, ◌^◌, ◌∷◌, [], length, option_map, Some, None, IfOk, OnOk, IfSome, IsNone};
 ghost use Rattle.pipe_frames.specs.Pipe.{IsLevel};
 ghost use Rattle.replay_script.specs.Faults.{line_fault};
 ghost use Rattle.replay_script.specs.Forms.{act, load, line_form, show_front, show_sheets, show_replies, show_pauses, show_styles};
@@ -16,15 +16,16 @@ ghost use Rattle.replay_script.specs.Sound.{CanSend};
 ghost use Rattle.inspect_world.specs.World as world;
 ghost use Rattle.inspect_world.specs.Costs.{ask_cost, least_line, line_bytes};
 ghost use Rattle.inspect_world.specs.Scripts.{report, report_refused, rest_text, rest_refused, loaded_world, sends};
-ghost use Rattle.inspect_replay.specs.Runs.{Spends};
 ghost use Rattle.inspect_replay.specs.Stops.{StopRose, RunRose, two_counts};
 ghost use Rattle.inspect_replay.specs.Answers.{RunTells, RunTook};
-ghost use Rattle.inspect_replay.specs.Moments.{moment, scene, passage};
-ghost use Rattle.inspect_replay.specs.Followed.{KeepsFollowing, LineFollows, LineTells, LinesFollow, PrintedSome, ClosesShown, StopFolds};
+ghost use Rattle.inspect_replay.specs.Moments.{seen_by};
+ghost use Rattle.inspect_replay.specs.Goes.{Goes, Plays, spending, showing, showing_styles, carrying, carrying_line, running};
+ghost use Rattle.inspect_replay.specs.Followed.{LineTells, ClosesShown, StopFolds};
 ghost use Rattle.inspect_replay.specs.Followed.{fold_since, EndsShown, AnswersInOrder};
-ghost use Rattle.inspect_replay.specs.Prints.{CarriesOut, CarriesLine, RunsLines, Closes, IsRead, numbered_line, load_of};
+ghost use Rattle.inspect_replay.specs.Prints.{Closes, IsRead, numbered_line, load_of};
 
 use crate::ends::Ends;
+use crate::moments::{Printed, Watched};
 use crate::show::{
     print_fault, print_matched, print_outline, print_page, print_pauses, print_replies,
     print_sheets,
@@ -43,15 +44,9 @@ fn show_front<K: Sink, L: Link>(
     out: &mut K,
     link: &mut L,
 ) -> Result<(), Stop>
-    ensures honest { L.honest link.old → L.honest link.new }
-    ensures cause { StopRose (two_counts (K.faults out.old) (K.faults out.new) (L.faults link.old) (L.faults link.new)) result }
-    ensures follows { KeepsFollowing (moment (L.honest link.old) (L.up link.old) (L.down link.old) ends.old)
-        (moment (L.honest link.new) (L.up link.new) (L.down link.new) ends.new) result }
-    ensures some { OnOk result (PrintedSome (K.taken out.old) (K.taken out.new)) }
-    ensures runs { (number : ℕ) → CarriesOut
-        (scene (moment (L.honest link.old) (L.up link.old) (L.down link.old) ends.old) (K.taken out.old))
-        (scene (moment (L.honest link.new) (L.up link.new) (L.down link.new) ends.new) (K.taken out.new))
-        (numbered_line number show_front) result }
+    ensures { Plays (showing show_front)
+        (seen_by (⟦<L as Watched>⟧.at link.old ends.old) (⟦<K as Printed>⟧.at out.old))
+        (seen_by (⟦<L as Watched>⟧.at link.new ends.new) (⟦<K as Printed>⟧.at out.new)) result }
 {
     match ends.settle(link) {
         Ok(()) => print_outline(alloc, "# front", ends.mirror(), out),
@@ -66,15 +61,9 @@ fn show_replies<K: Sink, L: Link>(
     out: &mut K,
     link: &mut L,
 ) -> Result<(), Stop>
-    ensures honest { L.honest link.old → L.honest link.new }
-    ensures cause { StopRose (two_counts (K.faults out.old) (K.faults out.new) (L.faults link.old) (L.faults link.new)) result }
-    ensures follows { KeepsFollowing (moment (L.honest link.old) (L.up link.old) (L.down link.old) ends.old)
-        (moment (L.honest link.new) (L.up link.new) (L.down link.new) ends.new) result }
-    ensures some { OnOk result (PrintedSome (K.taken out.old) (K.taken out.new)) }
-    ensures runs { (number : ℕ) → CarriesOut
-        (scene (moment (L.honest link.old) (L.up link.old) (L.down link.old) ends.old) (K.taken out.old))
-        (scene (moment (L.honest link.new) (L.up link.new) (L.down link.new) ends.new) (K.taken out.new))
-        (numbered_line number show_replies) result }
+    ensures { Plays (showing show_replies)
+        (seen_by (⟦<L as Watched>⟧.at link.old ends.old) (⟦<K as Printed>⟧.at out.old))
+        (seen_by (⟦<L as Watched>⟧.at link.new ends.new) (⟦<K as Printed>⟧.at out.new)) result }
 {
     match ends.settle(link) {
         Ok(()) => {}
@@ -98,15 +87,9 @@ fn show_sheets<K: Sink, L: Link>(
     out: &mut K,
     link: &mut L,
 ) -> Result<(), Stop>
-    ensures honest { L.honest link.old → L.honest link.new }
-    ensures cause { StopRose (two_counts (K.faults out.old) (K.faults out.new) (L.faults link.old) (L.faults link.new)) result }
-    ensures follows { KeepsFollowing (moment (L.honest link.old) (L.up link.old) (L.down link.old) ends.old)
-        (moment (L.honest link.new) (L.up link.new) (L.down link.new) ends.new) result }
-    ensures some { OnOk result (PrintedSome (K.taken out.old) (K.taken out.new)) }
-    ensures runs { (number : ℕ) → CarriesOut
-        (scene (moment (L.honest link.old) (L.up link.old) (L.down link.old) ends.old) (K.taken out.old))
-        (scene (moment (L.honest link.new) (L.up link.new) (L.down link.new) ends.new) (K.taken out.new))
-        (numbered_line number show_sheets) result }
+    ensures { Plays (showing show_sheets)
+        (seen_by (⟦<L as Watched>⟧.at link.old ends.old) (⟦<K as Printed>⟧.at out.old))
+        (seen_by (⟦<L as Watched>⟧.at link.new ends.new) (⟦<K as Printed>⟧.at out.new)) result }
 {
     match ends.settle(link) {
         Ok(()) => print_sheets(alloc, ends.front(), out),
@@ -121,15 +104,9 @@ fn show_pauses<K: Sink, L: Link>(
     out: &mut K,
     link: &mut L,
 ) -> Result<(), Stop>
-    ensures honest { L.honest link.old → L.honest link.new }
-    ensures cause { StopRose (two_counts (K.faults out.old) (K.faults out.new) (L.faults link.old) (L.faults link.new)) result }
-    ensures follows { KeepsFollowing (moment (L.honest link.old) (L.up link.old) (L.down link.old) ends.old)
-        (moment (L.honest link.new) (L.up link.new) (L.down link.new) ends.new) result }
-    ensures some { OnOk result (PrintedSome (K.taken out.old) (K.taken out.new)) }
-    ensures runs { (number : ℕ) → CarriesOut
-        (scene (moment (L.honest link.old) (L.up link.old) (L.down link.old) ends.old) (K.taken out.old))
-        (scene (moment (L.honest link.new) (L.up link.new) (L.down link.new) ends.new) (K.taken out.new))
-        (numbered_line number show_pauses) result }
+    ensures { Plays (showing show_pauses)
+        (seen_by (⟦<L as Watched>⟧.at link.old ends.old) (⟦<K as Printed>⟧.at out.old))
+        (seen_by (⟦<L as Watched>⟧.at link.new ends.new) (⟦<K as Printed>⟧.at out.new)) result }
 {
     match ends.settle(link) {
         Ok(()) => {}
@@ -155,16 +132,11 @@ fn show_styles<K: Sink, L: Link>(
     out: &mut K,
     link: &mut L,
 ) -> Result<(), Stop>
-    ensures honest { L.honest link.old → L.honest link.new }
-    ensures cause { RunRose (two_counts (K.faults out.old) (K.faults out.new) (L.faults link.old) (L.faults link.new)) result }
-    ensures follows { KeepsFollowing (moment (L.honest link.old) (L.up link.old) (L.down link.old) ends.old)
-        (moment (L.honest link.new) (L.up link.new) (L.down link.new) ends.new) result }
-    ensures tells { LineTells (moment (L.honest link.old) (L.up link.old) (L.down link.old) ends.old)
-        (moment (L.honest link.new) (L.up link.new) (L.down link.new) ends.new) (numbered_line number (show_styles ask)) result }
-    ensures some { OnOk result (PrintedSome (K.taken out.old) (K.taken out.new)) }
-    ensures runs { CarriesLine (scene (moment (L.honest link.old) (L.up link.old) (L.down link.old) ends.old) (K.taken out.old))
-        (scene (moment (L.honest link.new) (L.up link.new) (L.down link.new) ends.new) (K.taken out.new))
-        (numbered_line number (show_styles ask)) result }
+    ensures plays { Plays (showing_styles (numbered_line number (show_styles ask)))
+        (seen_by (⟦<L as Watched>⟧.at link.old ends.old) (⟦<K as Printed>⟧.at out.old))
+        (seen_by (⟦<L as Watched>⟧.at link.new ends.new) (⟦<K as Printed>⟧.at out.new)) result }
+    ensures tells { LineTells (⟦<L as Watched>⟧.at link.old ends.old)
+        (⟦<L as Watched>⟧.at link.new ends.new) (numbered_line number (show_styles ask)) result }
 {
     match ends.settle(link) {
         Ok(()) => print_matched(alloc, number, ask, ends.matched_reply(ask), out),
@@ -182,14 +154,9 @@ fn carry_act<K: Sink, L: Link>(
     link: &mut L,
 ) -> Result<(), Stop>
     requires { IsTurn (acts change) }
-    ensures honest { L.honest link.old → L.honest link.new }
-    ensures cause { StopRose (two_counts (K.faults out.old) (K.faults out.new) (L.faults link.old) (L.faults link.new)) result }
-    ensures follows { LineFollows (moment (L.honest link.old) (L.up link.old) (L.down link.old) ends.old)
-        (moment (L.honest link.new) (L.up link.new) (L.down link.new) ends.new) result }
-    ensures some { OnOk result (PrintedSome (K.taken out.old) (K.taken out.new)) }
-    ensures runs { CarriesOut (scene (moment (L.honest link.old) (L.up link.old) (L.down link.old) ends.old) (K.taken out.old))
-        (scene (moment (L.honest link.new) (L.up link.new) (L.down link.new) ends.new) (K.taken out.new))
-        (numbered_line number (act change)) result }
+    ensures { Plays (carrying (numbered_line number (act change)))
+        (seen_by (⟦<L as Watched>⟧.at link.old ends.old) (⟦<K as Printed>⟧.at out.old))
+        (seen_by (⟦<L as Watched>⟧.at link.new ends.new) (⟦<K as Printed>⟧.at out.new)) result }
 {
     match ends.change_page(link, change) {
         Ok(fault) => print_fault(alloc, number, fault, out),
@@ -200,12 +167,8 @@ fn carry_act<K: Sink, L: Link>(
 /// Sends an ask.
 fn carry_ask<L: Link>(ends: &mut Ends, link: &mut L, sent: Ask) -> Result<(), Stop>
     requires { CanSend (seen_ask sent) }
-    ensures honest { L.honest link.old → L.honest link.new }
-    ensures cause { StopRose (two_counts 0 0 (L.faults link.old) (L.faults link.new)) result }
-    ensures follows { KeepsFollowing (moment (L.honest link.old) (L.up link.old) (L.down link.old) ends.old)
-        (moment (L.honest link.new) (L.up link.new) (L.down link.new) ends.new) result }
-    ensures steps { Spends (ask_cost (seen_ask sent)) (passage (moment (L.honest link.old) (L.up link.old) (L.down link.old) ends.old)
-        (moment (L.honest link.new) (L.up link.new) (L.down link.new) ends.new)) result (λ w. sends (seen_ask sent) w) }
+    ensures { Goes (spending (ask_cost (seen_ask sent)) (λ w. sends (seen_ask sent) w)) (⟦<L as Watched>⟧.at link.old ends.old)
+        (⟦<L as Watched>⟧.at link.new ends.new) result }
 {
     ends.ask(link, &sent)
 }
@@ -214,12 +177,8 @@ fn carry_ask<L: Link>(ends: &mut Ends, link: &mut L, sent: Ask) -> Result<(), St
 fn carry_raw<L: Link>(ends: &mut Ends, link: &mut L, text: Text) -> Result<(), Stop>
     requires text { IsText text }
     requires bare { IsBare text }
-    ensures honest { L.honest link.old → L.honest link.new }
-    ensures cause { StopRose (two_counts 0 0 (L.faults link.old) (L.faults link.new)) result }
-    ensures follows { KeepsFollowing (moment (L.honest link.old) (L.up link.old) (L.down link.old) ends.old)
-        (moment (L.honest link.new) (L.up link.new) (L.down link.new) ends.new) result }
-    ensures steps { Spends least_line (passage (moment (L.honest link.old) (L.up link.old) (L.down link.old) ends.old)
-        (moment (L.honest link.new) (L.up link.new) (L.down link.new) ends.new)) result (λ w. world.raw text w) }
+    ensures { Goes (spending least_line (λ w. world.raw text w)) (⟦<L as Watched>⟧.at link.old ends.old)
+        (⟦<L as Watched>⟧.at link.new ends.new) result }
 {
     ends.send_raw(link, text.as_str())
 }
@@ -235,14 +194,9 @@ fn carry_plain<K: Sink, L: Link>(
 ) -> Result<(), Stop>
     requires later { IsLater (seen line) }
     requires plain { styles_ask (seen line) ≡ None }
-    ensures honest { L.honest link.old → L.honest link.new }
-    ensures cause { StopRose (two_counts (K.faults out.old) (K.faults out.new) (L.faults link.old) (L.faults link.new)) result }
-    ensures follows { LineFollows (moment (L.honest link.old) (L.up link.old) (L.down link.old) ends.old)
-        (moment (L.honest link.new) (L.up link.new) (L.down link.new) ends.new) result }
-    ensures some { OnOk result (PrintedSome (K.taken out.old) (K.taken out.new)) }
-    ensures runs { CarriesOut (scene (moment (L.honest link.old) (L.up link.old) (L.down link.old) ends.old) (K.taken out.old))
-        (scene (moment (L.honest link.new) (L.up link.new) (L.down link.new) ends.new) (K.taken out.new))
-        (numbered_line number (seen line)) result }
+    ensures { Plays (carrying (numbered_line number (seen line)))
+        (seen_by (⟦<L as Watched>⟧.at link.old ends.old) (⟦<K as Printed>⟧.at out.old))
+        (seen_by (⟦<L as Watched>⟧.at link.new ends.new) (⟦<K as Printed>⟧.at out.new)) result }
 {
     match line {
         Line::Load(page) => ends.load_page(link, page),
@@ -271,16 +225,11 @@ fn carry_out<K: Sink, L: Link>(
     link: &mut L,
 ) -> Result<(), Stop>
     requires { IsLater (seen line) }
-    ensures honest { L.honest link.old → L.honest link.new }
-    ensures cause { RunRose (two_counts (K.faults out.old) (K.faults out.new) (L.faults link.old) (L.faults link.new)) result }
-    ensures follows { LineFollows (moment (L.honest link.old) (L.up link.old) (L.down link.old) ends.old)
-        (moment (L.honest link.new) (L.up link.new) (L.down link.new) ends.new) result }
-    ensures tells { LineTells (moment (L.honest link.old) (L.up link.old) (L.down link.old) ends.old)
-        (moment (L.honest link.new) (L.up link.new) (L.down link.new) ends.new) (numbered_line number (seen line)) result }
-    ensures some { OnOk result (PrintedSome (K.taken out.old) (K.taken out.new)) }
-    ensures runs { CarriesLine (scene (moment (L.honest link.old) (L.up link.old) (L.down link.old) ends.old) (K.taken out.old))
-        (scene (moment (L.honest link.new) (L.up link.new) (L.down link.new) ends.new) (K.taken out.new))
-        (numbered_line number (seen line)) result }
+    ensures plays { Plays (carrying_line (numbered_line number (seen line)))
+        (seen_by (⟦<L as Watched>⟧.at link.old ends.old) (⟦<K as Printed>⟧.at out.old))
+        (seen_by (⟦<L as Watched>⟧.at link.new ends.new) (⟦<K as Printed>⟧.at out.new)) result }
+    ensures tells { LineTells (⟦<L as Watched>⟧.at link.old ends.old)
+        (⟦<L as Watched>⟧.at link.new ends.new) (numbered_line number (seen line)) result }
 {
     match line.styles_ask() {
         Some(ask) => show_styles(alloc, number, ask, ends, out, link),
@@ -297,13 +246,9 @@ fn run_lines<K: Sink, L: Link>(
     link: &mut L,
 ) -> Result<(), Stop>
     requires few { length lines ≤ 2 ^ 26 }
-    ensures honest { L.honest link.old → L.honest link.new }
-    ensures cause { RunRose (two_counts (K.faults out.old) (K.faults out.new) (L.faults link.old) (L.faults link.new)) result }
-    ensures follows { LinesFollow (moment (L.honest link.old) (L.up link.old) (L.down link.old) ends.old)
-        (moment (L.honest link.new) (L.up link.new) (L.down link.new) ends.new) lines.entry result }
-    ensures some { OnOk result (PrintedSome (K.taken out.old) (K.taken out.new)) }
-    ensures runs { RunsLines (scene (moment (L.honest link.old) (L.up link.old) (L.down link.old) ends.old) (K.taken out.old))
-        (scene (moment (L.honest link.new) (L.up link.new) (L.down link.new) ends.new) (K.taken out.new)) lines.entry result }
+    ensures { Plays (running lines.entry)
+        (seen_by (⟦<L as Watched>⟧.at link.old ends.old) (⟦<K as Printed>⟧.at out.old))
+        (seen_by (⟦<L as Watched>⟧.at link.new ends.new) (⟦<K as Printed>⟧.at out.new)) result }
 {
     let mut number = 2;
     while let Some(text) = next_line(&mut lines) {
@@ -385,10 +330,9 @@ fn close<K: Sink, L: Link>(
 ) -> Result<(), Stop>
     ensures honest { L.honest link.old → L.honest link.new }
     ensures cause { StopRose (two_counts (K.faults out.old) (K.faults out.new) (L.faults link.old) (L.faults link.new)) result }
-    ensures shown { ClosesShown (scene (moment (L.honest link.old) (L.up link.old) (L.down link.old) ends.old) (K.taken out.old))
-        (scene (moment (L.honest link.new) (L.up link.new) (L.down link.new) ends.new) (K.taken out.new)) result }
-    ensures runs { Closes (scene (moment (L.honest link.old) (L.up link.old) (L.down link.old) ends.old) (K.taken out.old))
-        (K.taken out.new) result }
+    ensures shown { ClosesShown (seen_by (⟦<L as Watched>⟧.at link.old ends.old) (⟦<K as Printed>⟧.at out.old))
+        (seen_by (⟦<L as Watched>⟧.at link.new ends.new) (⟦<K as Printed>⟧.at out.new)) result }
+    ensures runs { Closes (seen_by (⟦<L as Watched>⟧.at link.old ends.old) (⟦<K as Printed>⟧.at out.old)) (K.taken out.new) result }
 {
     match ends.settle(link) {
         Ok(()) => print_outline(alloc, "# end", ends.mirror(), out),

@@ -140,15 +140,12 @@ module _ {S F E X A : Type 0} (machine : Machine S F E X) (IsNext : Spent → Li
   -- what a step sends is put_last down in both
   agrees-put : (start : F) (stepped stepped1 : Stepped S) (n n1 : Spent) (w v : World S) → stepped ≡ stepped1
       → n.asks ≡ n1.asks → n.raws ≡ n1.raws → n.turns ≡ n1.turns → n.edits ≡ n1.edits → RunsAgree machine start seen w v
-      → RunsAgree machine start seen (record {
+      → RunsAgree machine start seen (record w {
         state = stepped.state;
-        up = w.up;
         down = put_last stepped.sent w.down;
-        spent =
-            n;
-        told = w.told;
+        spent = n;
       })
-      (record { state = stepped1.state; up = v.up; down = put_last stepped1.sent v.down; spent = n1; told = v.told })
+      (record v { state = stepped1.state; down = put_last stepped1.sent v.down; spent = n1 })
   agrees-put start stepped stepped1 n n1 w v is asks raws turns edits agrees = record {
     state = ap (λ (s : Stepped S). s.state) is;
     up = agrees.up;

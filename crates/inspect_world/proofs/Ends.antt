@@ -3,7 +3,7 @@ use Rattle.std.proofs.Common.{◌≡◌, refl, false, ℕ, ◌+◌, ◌-◌, ◌
 use Rattle.std.proofs.Common.{ap, subst, append_assoc, append-nil, Result, Ok, Err, arith, length-append}
 use Rattle.std.proofs.lemmas.List.{take-append-drop}
 use Rattle.page_forms.specs.Pages.{LoadedPage, CanLoadPage}
-use Rattle.pipe_frames.specs.Pipe.{Pipe}
+use Rattle.pipe_frames.specs.Pipe.{Pipe, waiting}
 use Rattle.pipe_frames.specs.Frames.{IsText, framed, frames_of, held_after}
 use Rattle.pipe_frames.proofs.FrameLemmas.{frames_of-one}
 use Rattle.cdp_messages.specs.Asked.{command_text}
@@ -41,7 +41,7 @@ use Rattle.inspect_world.proofs.FetchForms.{fetcher-text, fetcher-asks, fetcher-
 use Rattle.inspect_world.proofs.Scripts.{frame-left, edits-left, fits-loaded}
 use Rattle.inspect_world.proofs.SeatRoom.{has-room-left}
 use Rattle.inspect_world.proofs.Folds.{Halves, folded-append, folded-halves, folded-rest, joined-append}
-use Rattle.inspect_world.proofs.Pipes.{carries-start, carries-put, carries-get}
+use Rattle.inspect_world.proofs.Pipes.{carries-start, carries-put, carries-get, waiting-is}
 
 -- ---- the front end's own fold
 
@@ -64,6 +64,14 @@ left-passed n there there' piece s is front after =
     sym (length-append (take n s.flying) (drop n s.flying)) ∙ ap length (take-append-drop n s.flying) in
     let same : length piece ≡ length (take n s.flying) = ap length front in
     omega (arith, is, after, whole, same)
+
+-- what the ends count waits in the link
+pub world-waits : (up0 down0 up down : Pipe) (w : World RunState) (frames : List (List ℕ)) (e : Ends)
+    → InWorld up0 down0 up down w frames e → (e.up_there ≤ length (waiting up)) × (e.down_there ≤ length (waiting down))
+world-waits up0 down0 up down w frames e in_world =
+    let above : length (waiting up) ≡ length w.up.flying = ap length (waiting-is up0 up w.up in_world.up_is) in
+    let below : length (waiting down) ≡ length w.down.flying = ap length (waiting-is down0 down w.down in_world.down_is) in
+    (omega (arith, above, in_world.up_left), omega (arith, below, in_world.down_left))
 
 -- ---- bytes go down
 
@@ -101,6 +109,7 @@ takes up0 down0 up down w frames e n piece in_world front_part =
             next = w.spent.asks + 1;
             fetches = w.spent.fetches;
             dead = false;
+            panels = [];
           }) taken
           ∙ ap (λ rest. good_front halves.middle rest (w.spent.asks + 1) w.spent.fetches) (sym (rest-given n w.down));
       is_fold =
@@ -334,7 +343,7 @@ world-ids up0 down0 up down w frames e in_world few_fetches =
 -- what was told says nothing of the link
 pub world-told : (up0 down0 up down : Pipe) (w : World RunState) (frames : List (List ℕ)) (e : Ends) (n : AlreadyTold)
     → InWorld up0 down0 up down w frames e
-    → InWorld up0 down0 up down (record { state = w.state; up = w.up; down = w.down; spent = w.spent; told = n }) frames
+    → InWorld up0 down0 up down (record w { told = n }) frames
     (record e { told = n })
 world-told up0 down0 up down w frames e n in_world = record {
   up_is = in_world.up_is;
@@ -362,7 +371,7 @@ world-told up0 down0 up down w frames e n in_world = record {
 pub world-first : (up0 down0 : Pipe) (page : LoadedPage) (seat : Seat) (side : PageSide) → CanLoadPage page → PageHasTexts page
     → up0.given ≡ up0.sent → down0.given ≡ down0.sent → StandsFor seat side (loaded_state page)
     → InWorld up0 down0 up0 down0 (loaded_world page) []
-    (record { seat = seat; side = side; back_rest = []; front = first_state; up_there = 0; down_there = 0; told = nothing_told })
+    (record { seat = seat; side = side; back_rest = []; front = first_state []; up_there = 0; down_there = 0; told = nothing_told })
 unfolding frames_of
 world-first up0 down0 page seat side can texts up_level down_level stands = record {
   up_is = carries-start up0 up_level;

@@ -1,6 +1,6 @@
 -- The frame of a fetch is a text, and is the ask of the sheet that it fetches.
-use Rattle.std.proofs.Common.{◌≡◌, ℕ, ◌+◌, ◌^◌, ◌<◌, ◌≤◌, Bool, true, false, cond, nat_lt, List, [], ◌∷◌, codes, Option, Some, None}
-use Rattle.std.proofs.Common.{option_and_then, Ok, refl, sym, ◌∙◌, ap, arith, lt-ltb}
+use Rattle.std.proofs.Common.{◌≡◌, ℕ, ◌+◌, ◌^◌, ◌<◌, ◌≤◌, true, false, cond, nat_lt, [], ◌∷◌, codes, Some, None}
+use Rattle.std.proofs.Common.{option_and_then, Ok, refl, ◌∙◌, ap, arith, lt-ltb}
 use Rattle.std.specs.Prelude.{bytes_eq, decimal, IsUtf8, if◌then◌else◌}
 use Rattle.std.specs.Str.Parse.{digits_value}
 use Rattle.std.proofs.lemmas.Fmt.{decimal_is_IsNumeral, IsAscii-decimal}
@@ -24,7 +24,7 @@ use Rattle.cdp_messages.proofs.Messages.{json_of-compact_text}
 use Rattle.cdp_messages.proofs.ZeroFree.{texts_have_no_zero}
 use Rattle.front_mirror.specs.Front.{fetch_ask, fetch_params}
 use Rattle.inspect_world.specs.World.{Spent, one_fetch}
-use Rattle.inspect_world.specs.Fits.{sheet_told, sheet_asked, ask_by, ask_of, ask_of_frame, most_fetches, IsNext, next_fetch}
+use Rattle.inspect_world.specs.Fits.{sheet_told, sheet_asked, ask_of, ask_of_frame, most_fetches, IsNext, next_fetch}
 use Rattle.inspect_world.specs.FreshRuns.{front_fetcher}
 
 -- the value of a fetch, by its id

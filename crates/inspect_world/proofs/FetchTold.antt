@@ -1,28 +1,25 @@
 -- What the back end makes of the fetch of a sheet's text: the state is as it was, and one reply answers, with the text or a refusal.
-use Rattle.std.proofs.Common.{◌≡◌, ℕ, ◌^◌, ◌<◌, ◌≤◌, Bool, true, false, not, ◌&&◌, cond, nat_lt, bytes_eq, List, [], ◌∷◌, drop, codes}
-use Rattle.std.proofs.Common.{Option, Some, None, option_and_then, Result, Ok, Err, refl, sym, ◌∙◌, ap, subst, arith, lt-ltb}
+use Rattle.std.proofs.Common.{◌≡◌, ℕ, ◌^◌, ◌<◌, Bool, true, false, not, ◌&&◌, cond, nat_lt, bytes_eq, List, [], ◌∷◌, drop, codes}
+use Rattle.std.proofs.Common.{Option, Some, None, option_and_then, Ok, refl, sym, ◌∙◌, ap, subst, arith}
 use Rattle.std.specs.Prelude.{if◌then◌else◌, decimal}
 use Rattle.std.specs.Str.Parse.{digits_value}
 use Rattle.std.proofs.lemmas.Fmt.{decimal_is_IsNumeral}
 use Rattle.std.proofs.lemmas.Slice.Eq.{bytes_eq-Decides}
 use Rattle.serde_json.specs.Data.{Data, Members}
 use Rattle.serde_json.specs.Find.{get_member, as_str, as_object}
-use Rattle.cdp_json.specs.Kinds.{is_counted, if_holds, as_whole}
+use Rattle.cdp_json.specs.Kinds.{if_holds, as_whole}
 use Rattle.cdp_json.specs.Fields.{field_of}
 use Rattle.cdp_json.specs.declared.fields.Field.TheVariants.{Is}
 use Rattle.cdp_json.specs.Lookups.{then_ok, required, with_later}
 use Rattle.css_objects.specs.Sheets.{sheet_text, is_sheet, is_text_of, sheet_in}
-use Rattle.cdp_messages.specs.declared.command.Command.{Command}
 use Rattle.cdp_messages.specs.declared.command.Command.TheVariants.{AskCss}
 use Rattle.cdp_messages.specs.declared.command.Why.{Why}
 use Rattle.cdp_messages.specs.declared.command.Param.TheVariants as param
 use Rattle.cdp_messages.specs.declared.command.Why.TheVariants.{BadParam, NoSession, DomOff, CssOff, NoSheet}
-use Rattle.cdp_messages.specs.declared.command.Asked.{Asked}
-use Rattle.cdp_messages.specs.declared.command.Refused.{Refused}
 use Rattle.cdp_messages.specs.Asked.{json_of, or_bad_request, params_of, unless_session, command_for, command_of, method_in, command_in}
 use Rattle.cdp_messages.specs.Asked.{with_id, asked_by, asked_in, asked_value, asked}
-use Rattle.cdp_messages.specs.Moves.{texted}
-use Rattle.cdp_messages.specs.Views.{ShownSheet, shown_text}
+use Rattle.client_views.specs.Moves.{texted}
+use Rattle.client_views.specs.Views.{shown_text}
 use Rattle.sheet_reader.specs.declared.book.SheetEntry.{SheetEntry}
 use Rattle.sheet_reader.specs.Books.{entry_of}
 use Rattle.css_agent.specs.Asks.{sheet_named}
@@ -30,9 +27,8 @@ use Rattle.cdp_messages.specs.declared.css_ask.CssAsk.TheVariants as css
 use Rattle.front_mirror.specs.declared.replies.Ask.{Ask}
 use Rattle.back_end.specs.States.{State, book_in}
 use Rattle.back_end.specs.Steps.{Step, refusing, text_answer, command_step, asked_step, frame_step}
-use Rattle.back_end.specs.Sheets.{as_book}
 use Rattle.inspect_world.specs.Fits as fits
-use Rattle.inspect_world.specs.Fits.{sheet_told, sheet_asked, ask_of, ask_of_frame}
+use Rattle.inspect_world.specs.Fits.{sheet_told, ask_of, ask_of_frame}
 use Rattle.inspect_world.proofs.Messages.{id_method, there}
 use Rattle.inspect_world.proofs.ShownSheets.{IsEntryOf, book-entry, entry-id}
 use Rattle.cdp_json.proofs.Options.{and_then_some}

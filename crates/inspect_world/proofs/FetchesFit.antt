@@ -1,5 +1,6 @@
 -- What the fetches of a settle need of this protocol.
-use Rattle.std.proofs.Common.{◌≡◌, ℕ, ◌+◌, ◌==◌, ◌^◌, ◌<◌, ◌≤◌, Bool, true, false, ◌&&◌, cond, nat_lt, List, [], ◌∷◌, ◌++◌, length, map}
+use Rattle.std.proofs.Common.{◌≡◌, ℕ, ◌+◌, ◌==◌, ◌^◌, ◌<◌, ◌≤◌, Bool, true, false, ◌&&◌, cond, nat_lt, List, [], ◌∷◌, ◌++◌, length}
+use Rattle.std.proofs.Common.{take, map}
 use Rattle.std.proofs.Common.{codes, Some, None, option_map, option_and_then, Result, Ok, Err, refl, sym, ◌∙◌, ap, subst, arith, append-nil}
 use Rattle.std.proofs.Common.{lt-ltb}
 use Rattle.std.specs.List.{All}
@@ -10,9 +11,9 @@ use Rattle.cdp_json.specs.Kinds.{is_counted}
 use Rattle.css_objects.specs.Sheets.{is_sheet}
 use Rattle.cdp_messages.specs.declared.down.ReplyBody.TheVariants.{SheetText}
 use Rattle.cdp_messages.specs.Asked.{command_text}
-use Rattle.cdp_messages.specs.Views.{ShownSheet, shown_text}
+use Rattle.client_views.specs.Views.{ShownSheet, shown_text}
 use Rattle.cdp_messages.specs.Replies.{body_data, message_data, reply, reply_text}
-use Rattle.cdp_messages.specs.Moves.{texted, move_text, frames_of_moves}
+use Rattle.client_views.specs.Moves.{texted, move_text, frames_of_moves}
 use Rattle.cdp_messages.proofs.Depths.{replies_are_shallow}
 use Rattle.cdp_messages.proofs.Messages.{reply_plain, replies_are_read, results_are_read}
 use Rattle.cdp_messages.proofs.TextsUtf8.{replies_are_utf8}
@@ -41,26 +42,28 @@ use Rattle.inspect_world.specs.Fold.{folded}
 use Rattle.inspect_world.specs.Fetches.{front_in, fetched, fetched_if, all_fetched, stale_in, IsDue, GivesText, FetchLaws}
 use Rattle.inspect_world.specs.Fits.{join, with_ask, IsPlainFrame, most_bytes, most_sheets, most_fetches, kept_styles, IsBare, IsNext}
 use Rattle.inspect_world.specs.Fits.{IsNextTurn, IsFit, replay, Fits}
-use Rattle.inspect_world.specs.Costs.{line_cost}
-use Rattle.inspect_world.specs.Scripts.{after_line, loaded_world}
+use Rattle.inspect_world.specs.Costs.{line_cost, lines_cost}
+use Rattle.inspect_world.specs.Scripts.{after_line, after_lines, loaded_world}
 use Rattle.inspect_world.specs.ScriptsFit.{IsLater}
 use Rattle.replay_script.specs.Sound.{CanSend}
 use Rattle.inspect_world.specs.ShownReplies.{reply_shown, replies_in}
 use Rattle.inspect_world.specs.FreshRuns.{front_fetcher, refreshes, fresh_line, Unstyled, unstyled, Together, FreshLinesFit, FreshInputsFit}
-use Rattle.inspect_world.specs.FreshRuns.{RefreshedShows}
+use Rattle.inspect_world.specs.FreshRuns.{fresh_lines, ShowsFresh, RefreshedShows, InputsShowTexts}
 use Rattle.inspect_world.proofs.FitLemmas.{fit-room, world_laws}
 use Rattle.inspect_world.proofs.AgreeLemmas.{ok-one}
 use Rattle.inspect_world.proofs.FetchLemmas.{IsRefreshed, settled-rests, fit-rests, refreshed-made}
 use Rattle.inspect_world.proofs.Messages.{ask_in-sent}
 use Rattle.inspect_world.proofs.Replies.{replies-of}
 use Rattle.inspect_world.proofs.StepsTaken.{frames_of-moves}
-use Rattle.inspect_world.proofs.ShownSheets.{shown-below, are-apart, known-length, HasText, stale-shown, shown-number, shown-utf8}
+use Rattle.inspect_world.proofs.ShownSheets.{fresh-texts, shown-below, are-apart, known-length, HasText, stale-shown, shown-number}
+use Rattle.inspect_world.proofs.ShownSheets.{shown-utf8}
 use Rattle.inspect_world.proofs.StaleLemmas.{AreApart, stale-known, stale-few, stale-fetched}
 use Rattle.inspect_world.proofs.FetchTold.{shown-told}
 use Rattle.inspect_world.proofs.UnstyledLemmas.{unstyled-takes, unstyled-joins}
 use Rattle.inspect_world.proofs.FetchForms.{fetcher-text, fetcher-asks, fetcher-asked, fetcher-next}
 use Rattle.inspect_world.proofs.FreshLemmas.{together-told, room-fetches, settled-plain, together-line, together-loaded, fresh-lines-fit}
-use Rattle.inspect_world.proofs.FreshLemmas.{fresh-inputs-fit, refreshed-shows}
+use Rattle.inspect_world.proofs.FreshLemmas.{fresh-inputs-fit, refreshed-shows, lines-together}
+use Rattle.inspect_world.proofs.Inputs.{input-script, Script}
 
 -- ---- which sheets are fetched
 
@@ -250,6 +253,25 @@ fresh-inputs = fresh-inputs-fit front_fetcher IsPlainFrame fetch_laws plain-sent
 pub refreshed-all : RefreshedShows front_fetcher IsPlainFrame
 refreshed-all = refreshed-shows front_fetcher IsPlainFrame fetch_laws plain-sent plain-bare kept-all
 
+-- after any lines of an input, a settle shows the texts of the page
+pub inputs-show-texts : InputsShowTexts
+inputs-show-texts input page lines is few n =
+    let script : Script page lines (length input) = input-script input page lines is in
+    let cost : lines_cost lines ≤ length input = script.rest.few in
+    let w = after_lines (take n lines) (loaded_world page) in
+    let v = fresh_lines front_fetcher (take n lines) (loaded_world page) in
+    let start : Together IsPlainFrame (lines_cost lines) (loaded_world page) (loaded_world page) =
+    together-loaded front_fetcher IsPlainFrame fetch_laws plain-sent plain-bare page (lines_cost lines) script.can script.texts
+    (omega (arith, cost, few)) in
+    let both : Together IsPlainFrame 0 w v =
+    lines-together front_fetcher IsPlainFrame fetch_laws plain-sent plain-bare n lines (loaded_world page) (loaded_world page)
+    script.rest.later start in
+    let shown : ShowsFresh front_fetcher (settled run_step w) (refreshes front_fetcher v) = refreshed-all w v both in
+    record {
+      shown = shown;
+      texts = fresh-texts shown.front.sheets (sheets_shown (settled run_step w).state.back) shown.shows.sheets shown.fresh;
+    }
+
 -- ---- lines, in both runs
 
 pub play-line : (line : LineForm) (k : ℕ) (w v : World RunState) → IsLater line → Together IsPlainFrame (k + line_cost line) w v
@@ -261,7 +283,7 @@ pub play-loaded : (page : LoadedPage) (k : ℕ) → CanLoadPage page → PageHas
 play-loaded = together-loaded front_fetcher IsPlainFrame fetch_laws plain-sent plain-bare
 
 pub play-told : (k : ℕ) (w v : World RunState) (n : AlreadyTold) → Together IsPlainFrame k w v
-    → Together IsPlainFrame k w (record { state = v.state; up = v.up; down = v.down; spent = v.spent; told = n })
+    → Together IsPlainFrame k w (record v { told = n })
 play-told = together-told front_fetcher IsPlainFrame fetch_laws plain-sent plain-bare
 
 -- what a front end shows after a settle: what the client sees; and it has kept the replies and the pauses that came in the run without

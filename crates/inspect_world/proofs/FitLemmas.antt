@@ -12,11 +12,11 @@ use Rattle.front_mirror.specs.declared.replies.Ask.{Ask}
 use Rattle.front_mirror.specs.declared.replies.MatchedReply.{MatchedReply}
 use Rattle.front_mirror.specs.declared.faults.FrontKind.{FrontKind}
 use Rattle.front_mirror.specs.Front.{FrontValue, fetch_ask, take_frame}
-use Rattle.cdp_messages.specs.Moves.{texted}
+use Rattle.client_views.specs.Moves.{texted}
 use Rattle.front_mirror.specs.Laws.{Has, matched_after, IsOfSheet, InTurn, rests, meets}
 use Rattle.back_end.specs.States.{State, view_of}
 use Rattle.back_end.specs.Steps.{Step, Turn, frame_step, turn_step}
-use Rattle.cdp_messages.specs.Moves.{frames_of_moves}
+use Rattle.client_views.specs.Moves.{frames_of_moves}
 use Rattle.inspect_world.specs.RunStates.{RunState, ToldStyles, styles_answered, run_step, run_turn}
 use Rattle.back_end.specs.Laws.{most_ids, tree_edits, edits_kept, edits_asked, KeepsAtMost, HasRoom, StepsWell, IsAnswered}
 use Rattle.inspect_world.specs.World.{Spent, one_turn}

@@ -33,7 +33,7 @@ use Rattle.inspect_world.proofs.Frames.{sent-all, sent-passed}
 use Rattle.inspect_world.proofs.FitLemmas.{world_laws}
 use Rattle.inspect_world.proofs.Messages.{IsText-sent, IsNext-sent}
 use Rattle.inspect_world.proofs.Scripts.{fit-first, fits-told, frame-left, edits-left, turn-left, Spends, spends-nothing, spends-ask}
-use Rattle.inspect_world.proofs.Scripts.{spends-raw, spends-turn, left-first, left-one, spent-on}
+use Rattle.inspect_world.proofs.Scripts.{spends-raw, spends-turn, left-first, left-fewer, left-one, spent-on}
 use Rattle.inspect_world.proofs.Inputs.{input-script, Script}
 use Rattle.inspect_world.proofs.FetchLemmas.{IsRefreshed, refreshed-made, fit-rests}
 use Rattle.inspect_world.proofs.TogetherLemmas.{together-first, together-asked, together-raw, together-turned, together-delivered_up}
@@ -132,7 +132,7 @@ module _ (fetcher : Fetcher FrontValue) (IsPlain : List ℕ → Type 0)
 
   -- in the run with fetches it may be anything
   pub together-told : (k : ℕ) (w v : World RunState) (n : AlreadyTold) → Together IsPlain k w v
-      → Together IsPlain k w (record { state = v.state; up = v.up; down = v.down; spent = v.spent; told = n })
+      → Together IsPlain k w (record v { told = n })
   together-told k w v n both = record {
     runs = record {
       fits = both.runs.fits;
@@ -222,6 +222,16 @@ module _ (fetcher : Fetcher FrontValue) (IsPlain : List ℕ → Type 0)
   both-lines (suc n) [] w v later both = both.runs
   both-lines (suc n) (line ∷ lines) w v later both =
       both-lines n lines (after_line line w) (fresh_line fetcher line v) later.1 (together-line line (lines_cost lines) w v later.0 both)
+
+  -- and there is room for a settle more
+  pub lines-together : (n : ℕ) (lines : List LineForm) (w v : World RunState) → AreLater lines → Together IsPlain (lines_cost lines) w v
+      → Together IsPlain 0 (after_lines (take n lines) w) (fresh_lines fetcher (take n lines) v)
+  lines-together zero lines w v later both =
+      record { runs = both.runs; left = left-fewer v.spent 0 (lines_cost lines) (omega arith) both.left }
+  lines-together (suc n) [] w v later both = both
+  lines-together (suc n) (line ∷ lines) w v later both =
+      lines-together n lines (after_line line w) (fresh_line fetcher line v) later.1
+      (together-line line (lines_cost lines) w v later.0 both)
 
   -- both runs begin with the load
   pub together-loaded : (page : LoadedPage) (k : ℕ) → CanLoadPage page → PageHasTexts page → k ≤ most_bytes

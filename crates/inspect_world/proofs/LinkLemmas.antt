@@ -6,6 +6,7 @@ use Rattle.std.proofs.lemmas.List.Elements.{All-nil, All-weaker}
 use Rattle.std.specs.Option.{option_to_list}
 use Rattle.std.proofs.Math.Seq.{drop-append_seam}
 use Rattle.std.proofs.lemmas.List.{map-append}
+use Rattle.pipe_frames.specs.Pipe as pipes
 use Rattle.pipe_frames.specs.Pipe.{Pipe, sent_since, given_since}
 use Rattle.pipe_frames.specs.Frames.{IsText, Frames, framed, frames_of, frames_from, held_after}
 use Rattle.pipe_frames.proofs.FrameLemmas.{frames_of-append, frames_of-one}
@@ -15,7 +16,6 @@ use Rattle.front_mirror.specs.Front as front
 use Rattle.front_mirror.specs.Front.{FrontValue, FrontState, Folded, first_value, first_state, fold, fold_frames, fold_result}
 use Rattle.front_mirror.specs.Front.{fetch_ask, after_ask, after_fetch, after_take}
 use Rattle.front_mirror.specs.Laws as front_laws
-use Rattle.front_mirror.specs.Laws.{meets}
 use Rattle.replay_script.specs.Forms.{AskForm}
 use Rattle.back_end.specs.declared.seat.Seat.{Seat}
 use Rattle.back_end.specs.declared.side.PageSide.{PageSide}
@@ -48,25 +48,26 @@ use Rattle.inspect_world.proofs.CountLemmas.{made-last}
 use Rattle.inspect_world.proofs.CountLemmas.{more_serials, more_numbers, is-full, ids-left, serials-left, numbers-left, few-edits}
 use Rattle.inspect_world.proofs.SeatRoom.{has-room-left, seated-state}
 use Rattle.inspect_world.proofs.StepSends.{Sends, same-drew, frame-sends, turn-sends, happened-state, happened-sent, frames-last}
-use Rattle.inspect_world.proofs.StepSends.{goes-start, goes-put, goes-get, sent_since-is, given_since-is, Folds, folds-sent}
+use Rattle.inspect_world.proofs.StepSends.{goes-start, goes-put, goes-get, goes-waits, sent_since-is, given_since-is, Folds, folds-sent}
 
 -- ---- the start
 
 -- a page was loaded, and both ends are new
-pub follows-start : (up0 down0 : Pipe) (state0 : Started) (seat : Seat) (side : PageSide) → state0.shown ≡ []
+pub follows-start : (up0 down0 : Pipe) (state0 : Started) (seat : Seat) (side : PageSide)
+    → length up0.given ≤ length up0.sent → length down0.given ≤ length down0.sent → state0.shown ≡ []
     → StandsFor seat side state0.state
     → state0.lines ≤ most_bytes → Drew state0.state 0 0 0 → state0.state.side.page.next ≤ (0 + 1) * (max_nodes + 1)
     → state0.state.side.next_sheet ≤ (0 + 1) * max_sheets + 1
     → Follows state0 up0 down0 up0 down0 []
-    (record { seat = seat; side = side; back_rest = []; front = first_state; up_there = 0; down_there = 0; told = nothing_told })
+    (record { seat = seat; side = side; back_rest = []; front = first_state []; up_there = 0; down_there = 0; told = nothing_told })
 unfolding frames_of
-follows-start up0 down0 state0 seat side none stands few drew serials numbers = record {
+follows-start up0 down0 state0 seat side up_within down_within none stands few drew serials numbers = record {
   sent_up = [];
   given_up = [];
   sent_down = [];
   given_down = [];
-  up_is = goes-start up0;
-  down_is = goes-start down0;
+  up_is = goes-start up0 up_within;
+  down_is = goes-start down0 down_within;
   up_whole = refl;
   value = first_value [];
   front_is = refl;
@@ -438,6 +439,7 @@ module _ (state0 : Started) (up0 down0 : Pipe) where
         next = e.front.next;
         fetches = e.front.fetches;
         dead = false;
+        panels = [];
       }
   front-down up down waiting e piece f = ap (λ s. after_take s piece) f.front_is
 
@@ -470,6 +472,7 @@ module _ (state0 : Started) (up0 down0 : Pipe) where
               next = e.front.next;
               fetches = e.front.fetches;
               dead = false;
+              panels = [];
             }) none
             ∙ ap (λ n. good_front end.value (held_after (frames_of f.given_down).rest piece) n e.front.fetches) (sym next)
             ∙ ap (λ n. good_front end.value (held_after (frames_of f.given_down).rest piece) (after_take e.front piece).next n)
@@ -564,6 +567,14 @@ module _ (state0 : Started) (up0 down0 : Pipe) where
       let up_left : e.up_there + length f.given_up ≡ length f.sent_up = f.up_left in
       let down_left : e.down_there + length f.given_down ≡ length f.sent_down = f.down_left in
       (omega (arith, up_sent, up_given, up_left), omega (arith, down_sent, down_given, down_left))
+
+  -- what the ends count waits in the link
+  pub follows-wait : (up down : Pipe) (frames : List (List ℕ)) (e : Ends) → Follows state0 up0 down0 up down frames e
+      → (e.up_there ≤ length (pipes.waiting up)) × (e.down_there ≤ length (pipes.waiting down))
+  follows-wait up down frames e f = (
+    goes-waits up0 up f.sent_up f.given_up e.up_there f.up_is f.up_left,
+    goes-waits down0 down f.sent_down f.given_down e.down_there f.down_is f.down_left,
+  )
 
   -- ---- where there is no room
 

@@ -9,15 +9,15 @@ use Rattle.cdp_messages.specs.declared.down.PauseData.{PauseData}
 use Rattle.cdp_messages.specs.declared.down.PauseData.TheVariants as pause
 use Rattle.cdp_messages.specs.Events.{paused, document_updated, sheet_added, sheet_changed, sheet_removed, fits_news}
 use Rattle.cdp_messages.specs.Replies.{message_data}
-use Rattle.cdp_messages.specs.Tellable.{suits_tree}
-use Rattle.cdp_messages.specs.Told.{told_branch}
-use Rattle.cdp_messages.specs.Views.{AreSheets, sheet_header, View}
-use Rattle.cdp_messages.specs.Moves as move
-use Rattle.cdp_messages.specs.Moves.{Move, change_news, message_of, move_text, paused_nodes, AreShown, suits_view, IsTellable, CanBeTold}
-use Rattle.cdp_messages.specs.Moves.{Moves}
+use Rattle.dom_objects.specs.Tellable.{suits_tree}
+use Rattle.dom_objects.specs.Told.{told_branch}
+use Rattle.client_views.specs.Views.{AreSheets, sheet_header, View}
+use Rattle.client_views.specs.Moves as move
+use Rattle.client_views.specs.Moves.{Move, change_news, message_of, move_text, paused_nodes, AreShown, suits_view, IsTellable, CanBeTold}
+use Rattle.client_views.specs.Moves.{Moves}
 use Rattle.cdp_messages.proofs.Messages.{reply_plain, refusal_plain}
 use Rattle.cdp_messages.proofs.NewsLaws.{news_plain}
-use Rattle.cdp_messages.proofs.TellableLaws.{shown_trees_fit}
+use Rattle.dom_objects.proofs.TellableLaws.{shown_trees_fit}
 use Rattle.cdp_messages.proofs.ZeroFree.{texts_have_no_zero}
 use Rattle.front_mirror.proofs.BoolLemmas.{and_left, both}
 use Rattle.front_mirror.proofs.FollowLemmas.{told_change_news, shown_id}

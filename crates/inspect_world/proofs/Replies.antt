@@ -1,8 +1,8 @@
 -- The replies that a front end keeps are those among the frames that it took.
 use Rattle.std.specs.List.{All, list_all}
 use Rattle.cdp_messages.specs.declared.down.PauseData.{PauseData}
-use Rattle.cdp_messages.specs.Moves.{shows, inserts, removes, counts, sets, drops, says, paused_nodes}
-use Rattle.cdp_messages.specs.Told.{seen_nodes, seen_branch}
+use Rattle.client_views.specs.Moves.{shows, inserts, removes, counts, sets, drops, says, paused_nodes}
+use Rattle.dom_objects.specs.Told.{seen_nodes, seen_branch}
 use Rattle.std.proofs.Common.{◌≡◌, Bool, true, false, cond, ℕ, List, [], ◌∷◌, ◌++◌, map, Option, Some, None, refl, sym, ◌∙◌, ap, subst}
 use Rattle.std.proofs.Common.{append-nil, append_assoc, Result, Ok, Err}
 use Rattle.std.proofs.lemmas.List.{map-append}
@@ -11,13 +11,13 @@ use Rattle.node_tree.specs.Nodes.{Nodes, none, Branch, alone}
 use Rattle.node_tree.specs.Keys.{Spot, spot}
 use Rattle.node_tree.specs.Seen.{Seen, seen_id}
 use Rattle.cdp_messages.specs.declared.down.ReplyBody.{ReplyBody}
-use Rattle.cdp_messages.specs.Effects.{effect_of}
-use Rattle.cdp_messages.specs.declared.effects.Effect.{Effect}
-use Rattle.cdp_messages.specs.declared.effects.Effect.TheVariants as effect
+use Rattle.client_views.specs.Effects.{effect_of}
+use Rattle.client_views.specs.declared.effects.Effect.{Effect}
+use Rattle.client_views.specs.declared.effects.Effect.TheVariants as effect
 use Rattle.cdp_messages.specs.Events.{News, set_children, document_updated, attribute_modified, attribute_removed, text_modified}
 use Rattle.cdp_messages.specs.Events.{count_updated, inserted, removed, paused, sheet_added, sheet_changed, sheet_removed}
 use Rattle.cdp_messages.specs.Replies.{Message, reply, fault, event, down_of, result_of}
-use Rattle.cdp_messages.specs.Told as told
+use Rattle.dom_objects.specs.Told as told
 use Rattle.front_mirror.specs.declared.replies.Ask.{Ask}
 use Rattle.front_mirror.specs.declared.replies.Kept.{Kept}
 use Rattle.front_mirror.specs.declared.faults.FrontKind.{FrontKind}

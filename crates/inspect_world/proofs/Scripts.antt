@@ -139,7 +139,7 @@ fits-sent a w can few few_edits fits =
 
 -- what was told says nothing of the streams
 pub fits-told : (w : World RunState) (n : AlreadyTold) → Fits w
-    → Fits (record { state = w.state; up = w.up; down = w.down; spent = w.spent; told = n })
+    → Fits (record w { told = n })
 fits-told w n fits = record {
   front = fits.front;
   is_fold = fits.is_fold;

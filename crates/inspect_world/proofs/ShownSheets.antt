@@ -1,9 +1,9 @@
 -- The sheets that a client sees, and those that a front end knows: their numbers are apart, and are those of sheets.
-use Rattle.std.proofs.Common.{◌≡◌, ℕ, suc, ◌+◌, ◌==◌, ◌||◌, ◌<◌, ◌≤◌, Bool, true, false, not, ◌&&◌, cond, List, [], ◌∷◌, ◌++◌, length}
+use Rattle.std.proofs.Common.{◌≡◌, ℕ, suc, ◌+◌, ◌==◌, ◌||◌, ◌<◌, ◌≤◌, Bool, true, false, not, ◌&&◌, cond, List, [], ◌∷◌, ◌++◌, length, map}
 use Rattle.std.proofs.Common.{is_some, Option, Some, if◌then◌else◌, refl, sym, ◌∙◌, ap, subst, arith}
 use Rattle.std.specs.Str.{IsUtf8}
 use Rattle.std.proofs.lemmas.Bool.{eqb-true, eq-eqb, ne_eqb}
-use Rattle.cdp_messages.specs.Views.{ShownSheet, shown_text}
+use Rattle.client_views.specs.Views.{ShownSheet, shown_text}
 use Rattle.sheet_reader.specs.declared.book.SheetEntry.{SheetEntry}
 use Rattle.sheet_reader.specs.Books.{entry_of}
 use Rattle.front_mirror.specs.declared.sheets.KnownSheet.{KnownSheet}
@@ -12,6 +12,7 @@ use Rattle.front_mirror.specs.Laws.{KnowsSheet, KnowsSheets}
 use Rattle.back_end.specs.Sheets.{entry_of_sheet, as_book, AscendBetween, AreSheetTexts, AreSheetsBelow}
 use Rattle.back_end.specs.States.{State, IsState, sheets_shown}
 use Rattle.inspect_world.specs.SheetTexts.{sheet_line, sheet_lines, known_lines}
+use Rattle.inspect_world.specs.FreshRuns.{known_fresh}
 use Rattle.inspect_world.proofs.StaleLemmas.{AreApart}
 
 -- ---- numbers that ascend
@@ -165,21 +166,32 @@ not-stale k e = at (is_some k.text) k.stale e where
   at true false e = refl
   at false stale e = absurd cc
 
-lines-by : (fresh : Bool) (k : KnownSheet) (s : ShownSheet) (ks : List KnownSheet) (ss : List ShownSheet) → has_fresh_text k ≡ fresh
-    → KnowsSheet k s
-    → cond fresh (stale_of ks) (k.number ∷ stale_of ks) ≡ [] → (stale_of ks ≡ [] → known_lines ks ≡ sheet_lines ss)
-    → known_lines (k ∷ ks) ≡ sheet_lines (s ∷ ss)
-lines-by true k s ks ss is knows e later =
-    let text : k.text ≡ Some s.text = knows.text (not-stale k is) in
-    ap (λ line. line ++ known_lines ks)
-    (ap (λ n. sheet_line n k.origin k.text) knows.number ∙ ap (λ o. sheet_line s.number o k.text) knows.origin ∙ ap
-    (sheet_line s.number s.origin) text)
-    ∙ ap (λ rest. sheet_line s.number s.origin (Some s.text) ++ rest) (later e)
-lines-by false k s ks ss is knows e later = absurd cc
+known-same : (k : KnownSheet) (s : ShownSheet) → KnowsSheet k s → k.stale ≡ false → k ≡ known_fresh s
+known-same k s knows fresh = λ i. record {
+  number = knows.number i;
+  origin = knows.origin i;
+  text = knows.text fresh i;
+  stale = fresh i;
+}
 
--- where no text is old, the lines of the known sheets are those of the page's
+texts-by : (fresh : Bool) (k : KnownSheet) (s : ShownSheet) (ks : List KnownSheet) (ss : List ShownSheet) → has_fresh_text k ≡ fresh
+    → KnowsSheet k s → cond fresh (stale_of ks) (k.number ∷ stale_of ks) ≡ [] → (stale_of ks ≡ [] → ks ≡ map known_fresh ss)
+    → k ∷ ks ≡ map known_fresh (s ∷ ss)
+texts-by true k s ks ss is knows e later = ap (λ x. x ∷ ks) (known-same k s knows (not-stale k is)) ∙ ap (λ xs. known_fresh s ∷ xs)
+    (later e)
+texts-by false k s ks ss is knows e later = absurd cc
+
+-- where no text is old, the known sheets are those of the page
+pub fresh-texts : (ks : List KnownSheet) (ss : List ShownSheet) → KnowsSheets ks ss → stale_of ks ≡ [] → ks ≡ map known_fresh ss
+fresh-texts [] [] knows e = refl
+fresh-texts [] (s ∷ ss) knows e = absurd knows
+fresh-texts (k ∷ ks) [] knows e = absurd knows
+fresh-texts (k ∷ ks) (s ∷ ss) knows e = texts-by (has_fresh_text k) k s ks ss refl knows.0 e (λ rest. fresh-texts ks ss knows.1 rest)
+
+fresh-printed : (ss : List ShownSheet) → known_lines (map known_fresh ss) ≡ sheet_lines ss
+fresh-printed [] = refl
+fresh-printed (s ∷ ss) = ap (λ rest. sheet_line s.number s.origin (Some s.text) ++ rest) (fresh-printed ss)
+
+-- and so their lines are
 pub fresh-lines : (ks : List KnownSheet) (ss : List ShownSheet) → KnowsSheets ks ss → stale_of ks ≡ [] → known_lines ks ≡ sheet_lines ss
-fresh-lines [] [] knows e = refl
-fresh-lines [] (s ∷ ss) knows e = absurd knows
-fresh-lines (k ∷ ks) [] knows e = absurd knows
-fresh-lines (k ∷ ks) (s ∷ ss) knows e = lines-by (has_fresh_text k) k s ks ss refl knows.0 e (λ rest. fresh-lines ks ss knows.1 rest)
+fresh-lines ks ss knows e = ap known_lines (fresh-texts ks ss knows e) ∙ fresh-printed ss

@@ -1,15 +1,15 @@
 -- What one happening more sends, and pipes and folds that go on.
-use Rattle.std.proofs.Common.{Option, ◌≡◌, refl, true, false, ℕ, ◌+◌, ◌*◌, ◌≤◌, List, [], ◌∷◌, ◌++◌, length, map, drop}
-use Rattle.std.proofs.Common.{Some, None, sym, ◌∙◌, ap, subst, append_assoc, append-nil, Result, Ok, Err, arith}
+use Rattle.std.proofs.Common.{Option, ◌≡◌, refl, true, false, ℕ, ◌+◌, ◌-◌, ◌*◌, ◌≤◌, List, [], ◌∷◌, ◌++◌, length, map, drop}
+use Rattle.std.proofs.Common.{Some, None, sym, ◌∙◌, ap, subst, append_assoc, append-nil, length-append, length-drop, Result, Ok, Err, arith}
 use Rattle.std.specs.List.{flat_map}
 use Rattle.std.proofs.Math.Seq.{drop-append_seam}
-use Rattle.pipe_frames.specs.Pipe.{Pipe, sent_since, given_since}
+use Rattle.pipe_frames.specs.Pipe.{Pipe, waiting, sent_since, given_since}
 use Rattle.pipe_frames.specs.Frames.{frames_of}
 use Rattle.cdp_messages.specs.declared.command.Asked.{Asked}
 use Rattle.cdp_messages.specs.declared.command.Refused.{Refused}
 use Rattle.cdp_messages.specs.Asked.{asked, method_name}
-use Rattle.cdp_messages.specs.Views.{ShownSheet}
-use Rattle.cdp_messages.specs.Moves.{failed}
+use Rattle.client_views.specs.Views.{ShownSheet}
+use Rattle.client_views.specs.Moves.{failed}
 use Rattle.front_mirror.specs.declared.replies.Ask.{Ask}
 use Rattle.front_mirror.specs.Front as front
 use Rattle.front_mirror.specs.Front.{FrontValue, first_value, fold}
@@ -17,7 +17,7 @@ use Rattle.front_mirror.specs.Laws as front_laws
 use Rattle.front_mirror.specs.Laws.{KnowsSheets, InTurn, rests, meets}
 use Rattle.front_mirror.specs.declared.sheets.KnownSheet.{KnownSheet}
 use Rattle.back_end.specs.States.{State, IsState, view_of}
-use Rattle.back_end.specs.Steps.{Step, Turn, Stepped, asked_step, frame_step, turn_step, as_bytes, step}
+use Rattle.back_end.specs.Steps.{Step, Turn, Stepped, asked_step, frame_step, turn_step, as_bytes}
 use Rattle.back_end.specs.Laws.{tree_edits, edits_kept, edits_asked, KeepsAtMost, HasRoom, StepsWell, IsAnswered, IsTurn, reply_ids}
 use Rattle.page_tree.specs.Forms.{max_nodes}
 use Rattle.page_forms.specs.Sheets.{max_sheets}
@@ -203,13 +203,14 @@ frames-last (made x ∷ hs) h = frames-last hs h
 
 -- ---- pipes that go on
 
-pub goes-start : (start : Pipe) → PipeGoesOn start start [] []
-goes-start start = record { sent_is = sym (append-nil start.sent); given_is = sym (append-nil start.given) }
+pub goes-start : (start : Pipe) → length start.given ≤ length start.sent → PipeGoesOn start start [] []
+goes-start start within = record { within = within; sent_is = sym (append-nil start.sent); given_is = sym (append-nil start.given) }
 
 pub goes-put : (start old new : Pipe) (sent given piece : List ℕ) → PipeGoesOn start old sent given → new.sent ≡ old.sent ++ piece
     → new.given ≡ old.given
     → PipeGoesOn start new (sent ++ piece) given
 goes-put start old new sent given piece goes sent_is given_is = record {
+  within = goes.within;
   sent_is = sent_is ∙ ap (λ bytes. bytes ++ piece) goes.sent_is ∙ append_assoc start.sent sent piece;
   given_is = given_is ∙ goes.given_is;
 }
@@ -218,9 +219,19 @@ pub goes-get : (start old new : Pipe) (sent given piece : List ℕ) → PipeGoes
     → new.given ≡ old.given ++ piece
     → PipeGoesOn start new sent (given ++ piece)
 goes-get start old new sent given piece goes sent_is given_is = record {
+  within = goes.within;
   sent_is = sent_is ∙ goes.sent_is;
   given_is = given_is ∙ ap (λ bytes. bytes ++ piece) goes.given_is ∙ append_assoc start.given given piece;
 }
+
+-- what was sent and not given waits in the pipe
+pub goes-waits : (start now : Pipe) (sent given : List ℕ) (there : ℕ) → PipeGoesOn start now sent given
+    → there + length given ≡ length sent → there ≤ length (waiting now)
+goes-waits start now sent given there goes left =
+    let left_there : length (waiting now) ≡ length now.sent - length now.given = length-drop (length now.given) now.sent in
+    let sent_all : length now.sent ≡ length start.sent + length sent = ap length goes.sent_is ∙ length-append start.sent sent in
+    let given_all : length now.given ≡ length start.given + length given = ap length goes.given_is ∙ length-append start.given given in
+    omega (arith, left_there, sent_all, given_all, goes.within, left)
 
 -- what was sent and given since then
 pub sent_since-is : (start now : Pipe) (sent given : List ℕ) → PipeGoesOn start now sent given → sent_since start now ≡ sent

@@ -13,11 +13,11 @@ use Rattle.cdp_messages.specs.declared.command.Why.{Why}
 use Rattle.cdp_messages.specs.Asked.{method_name}
 use Rattle.cdp_messages.specs.declared.down.ReplyBody.{ReplyBody}
 use Rattle.cdp_messages.specs.declared.down.ReplyBody.TheVariants as body
-use Rattle.cdp_messages.specs.declared.effects.Effect.TheVariants.{NothingElse}
-use Rattle.cdp_messages.specs.Effects.{effect_of_method, effect_of}
-use Rattle.cdp_messages.specs.Views.{View}
-use Rattle.cdp_messages.specs.Moves.{Move, change, clear, met, added, dropped, rewritten, root, texted, replied, all_off, sheets_off}
-use Rattle.cdp_messages.specs.Moves.{failed, move_text, frames_of_moves, tells_view, CanBeTold, Moves, Course, ends, goes, answered_by}
+use Rattle.client_views.specs.declared.effects.Effect.TheVariants.{NothingElse}
+use Rattle.client_views.specs.Effects.{effect_of_method, effect_of}
+use Rattle.client_views.specs.Views.{View}
+use Rattle.client_views.specs.Moves.{Move, change, clear, met, added, dropped, rewritten, root, texted, replied, all_off, sheets_off}
+use Rattle.client_views.specs.Moves.{failed, move_text, frames_of_moves, tells_view, CanBeTold, Moves, Course, ends, goes, answered_by}
 use Rattle.front_mirror.specs.declared.replies.Ask.{Ask}
 use Rattle.front_mirror.specs.declared.replies.Kept.{Kept}
 use Rattle.front_mirror.specs.declared.faults.FrontKind.{FrontKind}

@@ -1,6 +1,6 @@
 -- The matched styles among the messages of a step on a frame are those that the frame asks for.
-use Rattle.std.proofs.Common.{◌≡◌, Bool, true, false, not, ◌&&◌, cond, ℕ, List, [], ◌∷◌, ◌++◌, map, Option, Some, None, option_map, refl}
-use Rattle.std.proofs.Common.{sym, ◌∙◌, ap, subst, Result, Ok, Err}
+use Rattle.std.proofs.Common.{◌≡◌, Bool, true, false, not, ◌&&◌, cond, ℕ, List, [], ◌∷◌, ◌++◌, map, Some, None, option_map, refl}
+use Rattle.std.proofs.Common.{◌∙◌, ap, Result, Ok, Err}
 use Rattle.std.specs.List.{flat_map}
 use Rattle.std.specs.Option.{option_to_list}
 use Rattle.css_objects.specs.declared.rules.Matched.{Matched}
@@ -22,14 +22,13 @@ use Rattle.cdp_messages.specs.declared.down.ReplyBody.{ReplyBody}
 use Rattle.cdp_messages.specs.declared.down.ReplyBody.TheVariants as body
 use Rattle.cdp_messages.specs.Asked.{asked, method_name}
 use Rattle.cdp_messages.specs.Laws.{answers}
-use Rattle.cdp_messages.specs.Moves.{Move, change, clear, met, added, dropped, rewritten, root, texted, replied, all_off, sheets_off}
-use Rattle.cdp_messages.specs.Moves.{failed}
+use Rattle.client_views.specs.Moves.{Move, change, clear, met, added, dropped, rewritten, root, texted, replied, all_off, sheets_off}
+use Rattle.client_views.specs.Moves.{failed}
 use Rattle.cdp_messages.specs.declared.css_ask.CssAsk.TheVariants as css
-use Rattle.front_mirror.specs.declared.replies.MatchedReply.{MatchedReply}
 use Rattle.front_mirror.specs.Front.{matched_told}
 use Rattle.front_mirror.specs.Laws.{matched_after}
 use Rattle.back_end.specs.States.{State}
-use Rattle.back_end.specs.Steps.{Step, refusing, element_named, node_answer, command_step, asked_step, frame_step}
+use Rattle.back_end.specs.Steps.{refusing, element_named, node_answer, command_step, asked_step, frame_step}
 use Rattle.back_end.specs.Laws.{reply_ids, MayAnswerAll, IsAnswered}
 use Rattle.inspect_world.specs.RunStates.{ToldStyles, told_styles, styles_of_element, if_named, styles_asked, styles_answered}
 use Rattle.inspect_world.specs.Fits.{kept_styles}

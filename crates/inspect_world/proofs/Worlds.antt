@@ -45,13 +45,7 @@ answered-cons step frame frames w =
     let same : w.down.flying ++ (first ++ later) ≡ (w.down.flying ++ (first ++ [])) ++ later =
     sym (append_assoc w.down.flying first later)
     ∙ ap (λ bytes. (w.down.flying ++ bytes) ++ later) (sym (append-nil first)) in
-    ap (λ bytes. record {
-      state = state;
-      up = w.up;
-      down = record { given = w.down.given; flying = bytes };
-      spent = w.spent;
-      told = w.told;
-    }) same
+    ap (λ bytes. record w { state = state; down = record w.down { flying = bytes } }) same
 
 module _ {S F E X : Type 0} (machine : Machine S F E X) (IsNext : Spent → List ℕ → Spent → Type 0)
     (IsTurn : Spent → X → Type 0) (Fit : Spent → F → S → List (List ℕ) → Type 0) (laws : Laws machine IsNext IsTurn Fit) where
@@ -111,7 +105,7 @@ module _ {S F E X : Type 0} (machine : Machine S F E X) (IsNext : Spent → List
   fits-put : (start : F) (frames : List (List ℕ)) (w : World S) (fits : FitsWith machine.take machine.join Fit start w frames)
       (stepped : Stepped S) (n : Spent) (more : List (List ℕ)) → Leads machine.take (Fit n) fits.front stepped more
       → FitsWith machine.take machine.join Fit start
-      (record { state = stepped.state; up = w.up; down = put_last stepped.sent w.down; spent = n; told = w.told }) more
+      (record w { state = stepped.state; down = put_last stepped.sent w.down; spent = n }) more
   fits-put start frames w fits stepped n more leads =
       let front = asks_joined machine.join start (frames_of (sent w.up)).whole in
       let out = stepped.sent in
@@ -146,14 +140,7 @@ module _ {S F E X : Type 0} (machine : Machine S F E X) (IsNext : Spent → List
       → FitsWith machine.take machine.join Fit start (answered machine.step (frame ∷ []) w) frames
   fits-answered_one start frame frames w fits =
       subst (λ bytes. FitsWith machine.take machine.join Fit start
-      (record {
-        state = (machine.step w.state frame).state;
-        up = w.up;
-        down = put_last bytes w.down;
-        spent = w.spent;
-        told =
-            w.told;
-      }) frames)
+      (record w { state = (machine.step w.state frame).state; down = put_last bytes w.down }) frames)
       (sym (append-nil (machine.step w.state frame).sent))
       (fits-put start (frame ∷ frames) w fits (machine.step w.state frame) w.spent frames
       (laws.answers w.spent frame fits.front w.state frames fits.fit))
@@ -164,7 +151,7 @@ module _ {S F E X : Type 0} (machine : Machine S F E X) (IsNext : Spent → List
       → FitsWith machine.take machine.join Fit start (answered machine.step frames w) more
   fits-answered start [] more w fits =
       subst (λ down. FitsWith machine.take machine.join Fit start
-      (record { state = w.state; up = w.up; down = down; spent = w.spent; told = w.told }) more) (sym (put-nil w.down)) fits
+      (record w { down = down }) more) (sym (put-nil w.down)) fits
   fits-answered start (frame ∷ frames) more w fits =
       subst (λ v. FitsWith machine.take machine.join Fit start v more) (sym (answered-cons machine.step frame frames w))
       (fits-answered start frames more (answered machine.step (frame ∷ []) w) (fits-answered_one start frame (frames ++ more) w fits))

@@ -6,7 +6,7 @@ use Rattle.inspect_world.specs.World.{World, Spent}
 use Rattle.inspect_world.specs.Fold.{Machine, Fits}
 use Rattle.inspect_world.specs.Fetches.{front_in}
 
--- the same is on its way, after the same part of a frame
+-- in two runs the same is on its way, after the same part of a frame
 pub record IsLike (s t : Stream) : Type 0 where
   pub flying : s.flying ≡ t.flying
   pub held : held s ≡ held t

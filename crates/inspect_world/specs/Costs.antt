@@ -21,7 +21,7 @@ ask_edits a = edits_commanded (command_of false a.method a.params a.session)
 abbrev pub least_line : ℕ
 least_line = 4
 
--- that of an ask: its parameters have a byte for each edit
+-- how many bytes an ask has at least: its parameters have a byte for each edit
 abbrev pub ask_cost : AskForm → ℕ
 ask_cost a = least_line + ask_edits a
 
@@ -41,7 +41,7 @@ line_cost show_replies = least_line
 line_cost show_pauses = least_line
 line_cost (show_styles k) = least_line
 
--- and lines have so many
+-- how many bytes lines have at least
 abbrev pub lines_cost : List LineForm → ℕ
 lines_cost [] = 0
 lines_cost (line ∷ lines) = lines_cost lines + line_cost line

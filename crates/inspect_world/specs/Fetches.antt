@@ -22,7 +22,7 @@ front_in machine start w =
 abbrev pub fetched : {S F E X : Type 0} → Machine S F E X → Fetcher F → ℕ → World S → World S
 fetched machine fetcher number w = settled machine.step (sent_up (fetcher.text w.spent.fetches number) one_fetch w)
 
--- the same of a sheet that the front end still knows; another is passed over
+-- the text of a sheet that the front end still knows is fetched; another is passed over
 abbrev pub fetched_if : {S F E X : Type 0} → Machine S F E X → Fetcher F → Result F E → ℕ → World S → World S
 fetched_if machine fetcher (Ok front) number w = cond (fetcher.knows front number) (fetched machine fetcher number w) w
 fetched_if machine fetcher (Err fault) number w = w

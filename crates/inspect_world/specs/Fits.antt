@@ -200,6 +200,6 @@ replay = record { step = run_step; act = run_turn; take = take_frame; join = joi
 abbrev pub FitsWith : World RunState → List (List ℕ) → Type 0
 FitsWith w frames = fold.FitsWith take_frame join IsFit (first_value []) w frames
 
--- the same, where all whole frames are answered
+-- the two whole streams of a run, folded, fit its state, where all whole frames are answered
 abbrev pub Fits : World RunState → Type 0
 Fits w = fold.Fits take_frame join IsFit (first_value []) w

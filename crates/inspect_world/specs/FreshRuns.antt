@@ -1,5 +1,5 @@
 -- The run of a script with the fetches of its settles put into the streams, beside the run that the report tells.
-use Rattle.std.specs.Prelude.{◌≡◌, ℕ, ◌+◌, ◌^◌, ◌≤◌, List, [], ◌∷◌, length, take, map, codes, Some, None, Ok}
+use Rattle.std.specs.Prelude.{◌≡◌, ℕ, ◌+◌, ◌^◌, ◌≤◌, false, List, [], ◌∷◌, length, take, map, codes, Some, None, Ok}
 use Rattle.node_tree.specs.Nodes.{Nodes}
 use Rattle.node_tree.specs.Seen.{Seen}
 use Rattle.page_forms.specs.Pages.{LoadedPage, CanLoadPage}
@@ -15,7 +15,9 @@ use Rattle.front_mirror.specs.Front.{FrontValue, first_value, fetch_params, take
 use Rattle.front_mirror.specs.Sheets.{has_sheet, stale_of}
 use Rattle.cdp_messages.specs.Asked.{command_text}
 use Rattle.front_mirror.specs.Laws.{Has}
-use Rattle.back_end.specs.States.{view_of}
+use Rattle.client_views.specs.Views.{ShownSheet}
+use Rattle.front_mirror.specs.declared.sheets.KnownSheet.{KnownSheet}
+use Rattle.back_end.specs.States.{view_of, sheets_shown}
 use Rattle.inspect_world.specs.RunStates.{RunState, run_step}
 use Rattle.inspect_world.specs.ShownPauses.{pauses_in}
 use Rattle.inspect_world.specs.Stream.{held}
@@ -61,7 +63,7 @@ pub record Unstyled : Type 0 where
   pub pauses : List SeenPause
   pub matched : List MatchedReply
 
--- the same of a front end
+-- what a front end shows but for its sheets
 abbrev pub unstyled : FrontValue → Unstyled
 unstyled v = record { tree = v.tree; asks = v.asks; replies = v.replies; pauses = v.pauses; matched = v.matched }
 
@@ -99,6 +101,23 @@ pub record ShowsFresh (fetcher : Fetcher FrontValue) (w v : World RunState) : Ty
   pub styles : map kept_styles front.matched ≡ w.state.styles
   pub waits : front.asks ≡ []
   pub whole : held v.down ≡ []
+
+-- a sheet of the page, as a front end knows it whose text is not old
+abbrev pub known_fresh : ShownSheet → KnownSheet
+known_fresh s = record { number = s.number; origin = s.origin; text = Some s.text; stale = false }
+
+-- The same, and what it knows are just the page's sheets while the domain CSS is on, and none otherwise: in their order, each with
+-- its text.
+pub record ShowsTexts (w v : World RunState) : Type 0 where
+  pub shown : ShowsFresh front_fetcher w v
+  pub texts : shown.front.sheets ≡ map known_fresh (sheets_shown w.state.back)
+
+-- With each input that a replay reads: after any number of its lines, and then a settle, as one of its lines or the closing one.
+abbrev pub InputsShowTexts : Type 0
+InputsShowTexts =
+    (input : List ℕ) (page : LoadedPage) (lines : List LineForm) → script_forms input ≡ load page ∷ lines → length input ≤ most_bytes
+    → (n : ℕ) → ShowsTexts (settled run_step (after_lines (take n lines) (loaded_world page)))
+    (refreshes front_fetcher (fresh_lines front_fetcher (take n lines) (loaded_world page)))
 
 -- once all that is on its way has come, and the texts that were old were fetched
 abbrev pub RefreshedShows : Fetcher FrontValue → (List ℕ → Type 0) → Type 0

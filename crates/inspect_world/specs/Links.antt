@@ -26,7 +26,7 @@ fold_of sent_up given_down = fold (asks_among (frames_of sent_up).whole) given_d
 abbrev pub knows_styles : FrontValue → ℕ → Bool
 knows_styles v ask = is_some (matched_in ask v.matched)
 
--- the same of the front end that a fold comes to
+-- a reply told the front end that a fold comes to the matched styles that this ask asks for
 abbrev pub came_styles : Result FrontValue FrontFault → ℕ → Bool
 came_styles (Ok v) ask = knows_styles v ask
 came_styles (Err fault) ask = false
@@ -38,7 +38,7 @@ pub data Happening : Type 0 where
   came : List ℕ → Happening
   made : Turn → Happening
 
--- its step
+-- the step of a frame that came up, or of what the script did
 abbrev pub happening_step : Happening → State → Stepped State
 happening_step (came frame) state = step state frame
 happening_step (made x) state = turn x state
@@ -106,8 +106,9 @@ run_started state lines shown = record { state = state; lines = lines; shown = s
 abbrev pub one_line_more : Started → Started
 one_line_more start = run_started start.state (start.lines + 1) start.shown
 
--- how a pipe goes on from an earlier moment
+-- how a pipe goes on from an earlier moment, when no more was given than sent
 pub record PipeGoesOn (start now : Pipe) (sent given : List ℕ) : Type 0 where
+  pub within : length start.given ≤ length start.sent
   pub sent_is : now.sent ≡ start.sent ++ sent
   pub given_is : now.given ≡ start.given ++ given
 

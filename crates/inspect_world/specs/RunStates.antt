@@ -12,7 +12,7 @@ use Rattle.cdp_messages.specs.declared.css_ask.CssAsk.{CssAsk}
 use Rattle.cdp_messages.specs.declared.css_ask.CssAsk.TheVariants as css
 use Rattle.css_agent.specs.Asks.{css_ask_in}
 use Rattle.css_agent.specs.MatchedStyles.{matched_styles}
-use Rattle.back_end.specs.States.{State, book_in, loaded_state}
+use Rattle.back_end.specs.States.{State, book_in, first_medium, loaded_state}
 use Rattle.back_end.specs.Steps.{Turn, Stepped, element_named, step, turn}
 
 -- the matched styles that answered the ask with this id
@@ -20,7 +20,7 @@ pub record ToldStyles : Type 0 where
   pub ask : ℕ
   pub matched : Matched
 
--- these together
+-- matched styles with the id of the ask that they answered
 abbrev pub told_styles : ℕ → Matched → ToldStyles
 told_styles ask matched = record { ask = ask; matched = matched }
 
@@ -37,14 +37,14 @@ run_start page = record { back = loaded_state page; styles = [] }
 
 -- the matched styles of the element with that serial: those of the page and its sheets in this state
 abbrev pub styles_of_element : State → ℕ → Matched
-styles_of_element state serial = matched_styles (book_in state) (zipper_at serial state.side.page.tree)
+styles_of_element state serial = matched_styles first_medium (book_in state) (zipper_at serial state.side.page.tree)
 
 -- the serial of an element, if one was named
 abbrev pub if_named : Result ℕ Why → Option ℕ
 if_named (Ok serial) = Some serial
 if_named (Err why) = None
 
--- those of the node with that id, where it names an element, and the domains DOM and CSS are on
+-- the matched styles of the node with that id, where it names an element, and the domains DOM and CSS are on
 abbrev pub styles_of_node : State → ℕ → Option Matched
 styles_of_node state node =
     cond (state.client.dom_on && state.client.css_on) (option_map (styles_of_element state) (if_named (element_named node state))) None
@@ -66,7 +66,7 @@ styles_asked (Err r) state = []
 abbrev pub styles_answered : List ℕ → State → List ToldStyles
 styles_answered frame state = styles_asked (asked frame false) state
 
--- those that answered the ask with that id, if any did
+-- the matched styles that answered the ask with that id, if any did
 abbrev pub styles_under : ℕ → List ToldStyles → Option Matched
 styles_under ask [] = None
 styles_under ask (t ∷ ts) = cond (t.ask == ask) (Some t.matched) (styles_under ask ts)
@@ -81,4 +81,4 @@ run_step s frame =
 
 -- the script's own step, which answers nothing
 abbrev pub run_turn : Turn → RunState → Stepped RunState
-run_turn x s = let done = turn x s.back in record { state = record { back = done.state; styles = s.styles }; sent = done.sent }
+run_turn x s = let done = turn x s.back in record { state = record s { back = done.state }; sent = done.sent }

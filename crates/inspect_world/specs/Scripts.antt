@@ -32,7 +32,7 @@ sends a w = ask_sent (ask_edits a) (command_text (w.spent.asks + 1) a.method a.p
 
 -- the run after something was told
 abbrev pub telling : AlreadyTold → World RunState → World RunState
-telling told w = record { state = w.state; up = w.up; down = w.down; spent = w.spent; told = told }
+telling told w = record w { told = told }
 
 -- the replies that came are told
 abbrev pub replies_told : World RunState → World RunState

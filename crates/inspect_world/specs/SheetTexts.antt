@@ -3,7 +3,7 @@ use Rattle.std.specs.Prelude.{ℕ, List, [], ◌∷◌, ◌++◌, codes, Option,
 use Rattle.std.specs.List.{flat_map}
 use Rattle.css_objects.specs.declared.sheets.SheetOrigin.{SheetOrigin}
 use Rattle.css_objects.specs.Sheets.{sheet_text, origin_name}
-use Rattle.cdp_messages.specs.Views.{ShownSheet}
+use Rattle.client_views.specs.Views.{ShownSheet}
 use Rattle.front_mirror.specs.declared.sheets.KnownSheet.{KnownSheet}
 use Rattle.front_mirror.specs.Outline.{quoted}
 
@@ -20,7 +20,7 @@ sheet_line number origin text = sheet_text number ++ codes " " ++ origin_name or
 abbrev pub sheet_lines : List ShownSheet → List ℕ
 sheet_lines sheets = flat_map (λ (s : ShownSheet). sheet_line s.number s.origin (Some s.text)) sheets
 
--- and of those that a front end knows
+-- the line of a sheet that a front end knows
 abbrev pub known_line : KnownSheet → List ℕ
 known_line s = sheet_line s.number s.origin s.text
 

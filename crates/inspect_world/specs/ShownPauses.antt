@@ -4,9 +4,10 @@ use Rattle.std.specs.List.{flat_map}
 use Rattle.pipe_frames.specs.Frames.{frames_of}
 use Rattle.cdp_messages.specs.declared.down.PauseData.{PauseData}
 use Rattle.cdp_messages.specs.declared.down.PauseData.TheVariants.{Subtree, Attribute, Removed}
-use Rattle.cdp_messages.specs.declared.command.WatchWord.TheVariants as watch
+use Rattle.node_tree.specs.declared.watches.WatchKind.TheVariants as watch
 use Rattle.cdp_messages.specs.Events.{News, set_children, inserted, removed, count_updated, attribute_modified, attribute_removed}
-use Rattle.cdp_messages.specs.Events.{text_modified, document_updated, paused, sheet_added, sheet_changed, sheet_removed, watch_name}
+use Rattle.cdp_messages.specs.Events.{text_modified, document_updated, paused, sheet_added, sheet_changed, sheet_removed}
+use Rattle.node_tree.specs.Watches.{watch_name}
 use Rattle.cdp_messages.specs.Replies.{Message, reply, fault, event, down_of}
 use Rattle.front_mirror.specs.declared.pauses.SeenPause.{SeenPause}
 

@@ -20,19 +20,19 @@ nothing_spent = record { asks = 0; fetches = 0; raws = 0; turns = 0; edits = 0 }
 
 -- one ask more, which may come to so many edits
 abbrev pub one_ask : ℕ → Spent → Spent
-one_ask edits n = record { asks = n.asks + 1; fetches = n.fetches; raws = n.raws; turns = n.turns; edits = n.edits + edits }
+one_ask edits n = record n { asks = n.asks + 1; edits = n.edits + edits }
 
 -- one fetch more
 abbrev pub one_fetch : Spent → Spent
-one_fetch n = record { asks = n.asks; fetches = n.fetches + 1; raws = n.raws; turns = n.turns; edits = n.edits }
+one_fetch n = record n { fetches = n.fetches + 1 }
 
 -- one other frame more
 abbrev pub one_raw : Spent → Spent
-one_raw n = record { asks = n.asks; fetches = n.fetches; raws = n.raws + 1; turns = n.turns; edits = n.edits }
+one_raw n = record n { raws = n.raws + 1 }
 
 -- one step of the script more
 abbrev pub one_turn : Spent → Spent
-one_turn n = record { asks = n.asks; fetches = n.fetches; raws = n.raws; turns = n.turns + 1; edits = n.edits }
+one_turn n = record n { turns = n.turns + 1 }
 
 -- how many of the replies and of the pauses that came were told
 pub record AlreadyTold : Type 0 where
@@ -65,7 +65,7 @@ steps step state (frame ∷ frames) =
 
 -- the front end sends a frame, which is counted by `more`
 abbrev pub sent_up : {S : Type 0} → List ℕ → (Spent → Spent) → World S → World S
-sent_up text more w = record { state = w.state; up = put_last (framed text) w.up; down = w.down; spent = more w.spent; told = w.told }
+sent_up text more w = record w { up = put_last (framed text) w.up; spent = more w.spent }
 
 -- the front end sends an ask, which may come to so many edits
 abbrev pub ask_sent : {S : Type 0} → ℕ → List ℕ → World S → World S
@@ -79,17 +79,17 @@ raw text w = sent_up text one_raw w
 abbrev pub turned : {S X : Type 0} → (X → S → Stepped S) → X → World S → World S
 turned act x w =
     let done = act x w.state in
-    record { state = done.state; up = w.up; down = put_last done.sent w.down; spent = one_turn w.spent; told = w.told }
+    record w { state = done.state; down = put_last done.sent w.down; spent = one_turn w.spent }
 
 -- the state answers frames that have come up whole
 abbrev pub answered : {S : Type 0} → (S → List ℕ → Stepped S) → List (List ℕ) → World S → World S
 answered step frames w =
     let done = steps step w.state frames in
-    record { state = done.state; up = w.up; down = put_last done.sent w.down; spent = w.spent; told = w.told }
+    record w { state = done.state; down = put_last done.sent w.down }
 
 -- n bytes are given up, or as many as are there; the frames that become whole are still to be answered
 abbrev pub given_up : {S : Type 0} → ℕ → World S → World S
-given_up n w = record { state = w.state; up = passed n w.up; down = w.down; spent = w.spent; told = w.told }
+given_up n w = record w { up = passed n w.up }
 
 -- n bytes are delivered up, or as many as are there: each frame that becomes whole is one step
 abbrev pub delivered_up : {S : Type 0} → (S → List ℕ → Stepped S) → ℕ → World S → World S
@@ -97,7 +97,7 @@ delivered_up step n w = answered step (arriving n w.up) (given_up n w)
 
 -- n bytes are delivered down, or as many as are there
 abbrev pub delivered_down : {S : Type 0} → ℕ → World S → World S
-delivered_down n w = record { state = w.state; up = w.up; down = passed n w.down; spent = w.spent; told = w.told }
+delivered_down n w = record w { down = passed n w.down }
 
 -- all of the up pipe is delivered, then all of the down pipe
 abbrev pub settled : {S : Type 0} → (S → List ℕ → Stepped S) → World S → World S

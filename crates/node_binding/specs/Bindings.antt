@@ -51,7 +51,7 @@ all_bound (s ∷ ss) b = all_bound ss (with_bound s b)
 abbrev pub with_opened : ℕ → BindingValue → BindingValue
 with_opened s b = record { opened = set.insert b.opened s; ids = b.ids; serials = b.serials; next = b.next }
 
--- each of them is opened
+-- each of these containers is opened
 abbrev pub all_opened : List ℕ → BindingValue → BindingValue
 all_opened [] b = b
 all_opened (s ∷ ss) b = all_opened ss (with_opened s b)
@@ -69,7 +69,7 @@ cleared b = empty_from b.next
 abbrev pub started : Option ℕ → Nodes PageRow → BindingValue → BindingValue
 started d n b = all_bound (known (above d n) n) (all_opened (containers_within d n) (cleared b))
 
--- the same of trees of which nothing is known, level by level: they become known, and their containers are opened to d levels
+-- trees of which nothing is known become known, level by level, and their containers are opened to d levels
 abbrev pub revealed : Option ℕ → Nodes PageRow → BindingValue → BindingValue
 revealed d n b = all_bound (levelled d n) (all_opened (containers_within d n) b)
 
@@ -86,7 +86,7 @@ forgotten s b = record {
   next = b.next;
 }
 
--- none of the nodes
+-- none of these nodes is known any more
 abbrev pub all_forgotten : Nodes PageRow → BindingValue → BindingValue
 all_forgotten none b = b
 all_forgotten (node r c t) b = all_forgotten t (all_forgotten c (forgotten r.serial b))

@@ -6,7 +6,7 @@ abbrev pub times : ℕ → List ℕ → ℕ
 times s [] = 0
 times s (x ∷ xs) = cond {A = ℕ} (x == s) 1 0 + times s xs
 
--- it stands there at least once
+-- a number stands in the list at least once
 abbrev pub stands_in : ℕ → List ℕ → Bool
 stands_in s xs = not (times s xs == 0)
 

@@ -23,22 +23,9 @@ pub fn less(levels: Option<u64>) -> Option<u64>
     }
 }
 
-/// Only a container has children: the document or an element.
-pub fn is_container(kind: Kind) -> bool
-    ensures { result ≡ holds kind }
-{
-    match kind {
-        Kind::Document => true,
-        Kind::Element => true,
-        Kind::Text => false,
-        Kind::Comment => false,
-        Kind::Doctype => false,
-    }
-}
-
 /// Whether a node of that kind is opened where that many levels are left.
 pub fn is_reached(kind: Kind, levels: Option<u64>) -> bool
     ensures { result ≡ (holds kind && not (is_spent levels)) }
 {
-    is_container(kind) && levels != Some(0)
+    kind.is_container() && levels != Some(0)
 }

@@ -29,7 +29,7 @@ module _ {Slot Row : Type 0} (form : SlotForm Slot Row) where
         (slot : Slot) × (slots k ≡ Some slot) × (form.parent slot ≡ above) × (form.row slot ≡ r) × Keeps c (Some k) (form.children slot)
         × Keeps t above ks
 
-    -- one tree
+    -- the slots keep one tree
     abbrev pub KeepsOne : Branch Row → Option ℕ → ℕ → Type 0
     KeepsOne b above k = Keeps (alone b) above (k ∷ [])
 
@@ -59,7 +59,7 @@ module _ {Slot Row : Type 0} (form : SlotForm Slot Row) where
       pub files : IsFiled keys
       pub reached : (k : ℕ) (slot : Slot) → slots k ≡ Some slot → 0 < times (slot_number slot) (alone tree)
 
-    -- these trees may come in: their numbers are distinct, and no slot has one of them
+    -- trees that may come into the slots: their numbers are distinct, and no slot has one of them
     pub record IsFresh (n : Nodes Row) : Type 0 where
       pub distinct : (x : ℕ) → times x n ≤ 1
       pub apart : (k : ℕ) (slot : Slot) → slots k ≡ Some slot → times (slot_number slot) n ≡ 0

@@ -23,7 +23,7 @@ module _ {R : Type 0} (key : R → ℕ) (x : ℕ) where
   tally none = 0
   tally (node r c t) = cond {A = ℕ} (key r == x) 1 0 + tally c + tally t
 
-  -- the same in one tree
+  -- how many nodes of one tree have the key x
   abbrev pub tally_in : Branch R → ℕ
   tally_in b = cond {A = ℕ} (key b.row == x) 1 0 + tally b.children
 
@@ -37,21 +37,21 @@ module _ {R : Type 0} (key : R → ℕ) (x : ℕ) where
   find none = None
   find (node r c t) = cond (key r == x) (Some (record { row = r; children = c })) (first_of (find c) (find t))
 
-  -- the same in one tree
+  -- the first node of one tree in document order with the key x
   abbrev pub find_in : Branch R → Option (Branch R)
   find_in b = find (alone b)
 
-  -- its level, where these trees stand on the given one
+  -- the level of the node with the key x, where these trees stand on the given one
   abbrev pub level_of : ℕ → Nodes R → Option ℕ
   level_of level none = None
   level_of level (node r c t) = cond (key r == x) (Some level) (first_of (level_of (suc level) c) (level_of level t))
 
-  -- its parent's key, where these trees are the children of `above`
+  -- the key of the parent of the node with the key x, where these trees are the children of `above`
   abbrev pub parent_of : ℕ → Nodes R → Option ℕ
   parent_of above none = None
   parent_of above (node r c t) = cond (key r == x) (Some above) (first_of (parent_of (key r) c) (parent_of above t))
 
-  -- the same in one tree, whose root has level 0 and no parent
+  -- the level of the node with the key x in one tree, whose root has level 0 and no parent
   abbrev pub level_in : Branch R → Option ℕ
   level_in b = level_of 0 (alone b)
 
@@ -59,7 +59,7 @@ module _ {R : Type 0} (key : R → ℕ) (x : ℕ) where
   abbrev pub parent_in : Branch R → Option ℕ
   parent_in b = parent_of 0 (alone b)
 
-  -- it and its level
+  -- the node with the key x and its level
   abbrev pub spot : ℕ → Nodes R → Option (Spot R)
   spot level none = None
   spot level (node r c t) = cond (key r == x) (Some (record { branch = record { row = r; children = c }; level = level }))

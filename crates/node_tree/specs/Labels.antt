@@ -1,5 +1,5 @@
 -- What a node is but for its place: its kind, its name, its value and its attributes.
-use Rattle.std.specs.Prelude.{ℕ, Bool, true, false, cond, ◌&&◌, List, [], ◌∷◌, Option, Some, None, bytes_eq, refl}
+use Rattle.std.specs.Prelude.{ℕ, Bool, true, false, cond, ◌&&◌, List, [], ◌∷◌, Option, Some, None, bytes_eq, refl, ⊤, IsUtf8}
 use Rattle.std.specs.List.{list_all}
 use Rattle.std.specs.Ordering.{nat_cmp, is_lt}
 use Rattle.std.specs.Cmp.Lexicographic.{slice_cmp}
@@ -126,6 +126,15 @@ is_formed_label l =
     && cond (has_name l.kind) true (is_empty l.name)
     && cond (has_value l.kind) true (is_empty l.value)
 
--- its names have their forms
+-- the names of a label have their forms
 abbrev pub is_named_label : Label → Bool
 is_named_label l = cond (has_name l.kind) (is_element_name l.name) true && list_all (λ p. is_attribute_name p.0) l.attributes
+
+-- each name and each value is UTF-8
+abbrev pub PairsHaveUtf8 : List Pair → Type 0
+PairsHaveUtf8 [] = ⊤
+PairsHaveUtf8 (p ∷ ps) = IsUtf8 p.0 × IsUtf8 p.1 × PairsHaveUtf8 ps
+
+-- the texts of one node are UTF-8
+abbrev pub LabelHasUtf8 : Label → Type 0
+LabelHasUtf8 l = IsUtf8 l.name × IsUtf8 l.value × PairsHaveUtf8 l.attributes

@@ -8,3 +8,4 @@ pub mod Keys
 pub mod Seen
 pub mod Arena
 pub mod Stores
+pub mod Watches

@@ -9,7 +9,7 @@ pub data Nodes (R : Type 0) : Type 0 where
   none : Nodes R
   node : R → Nodes R → Nodes R → Nodes R
 
--- one tree
+-- one tree: a row, and the trees below it
 pub record Branch (R : Type 0) : Type 0 where
   pub row : R
   pub children : Nodes R
@@ -19,7 +19,7 @@ abbrev pub nodes_of : {R : Type 0} → List (Branch R) → Nodes R
 nodes_of [] = none
 nodes_of (b ∷ bs) = node b.row b.children (nodes_of bs)
 
--- one tree alone
+-- one tree alone, as a list of trees
 abbrev pub alone : {R : Type 0} → Branch R → Nodes R
 alone b = node b.row b.children none
 
@@ -64,12 +64,12 @@ abbrev pub height : {R : Type 0} → Nodes R → ℕ
 height none = 0
 height (node r c t) = max (suc (height c)) (height t)
 
--- the same trees with each row put through f
+-- trees with each row put through f
 abbrev pub map_rows : {R S : Type 0} → (R → S) → Nodes R → Nodes S
 map_rows f none = none
 map_rows f (node r c t) = node (f r) (map_rows f c) (map_rows f t)
 
--- the same of one tree
+-- one tree with each row put through f
 abbrev pub map_branch : {R S : Type 0} → (R → S) → Branch R → Branch S
 map_branch f b = record { row = f b.row; children = map_rows f b.children }
 
@@ -108,7 +108,7 @@ module _ {R : Type 0} where
   stacked-written none rest = refl
   stacked-written (node r c t) rest = rw (stacked-written c (written t rest), stacked-written t rest)
 
-  -- and so it is read back
+  -- trees are read back from their notation
   pub read_back : (n : Nodes R) → topmost (stacked (written n [])) ≡ n
   read_back n = rw (stacked-written n [])
 
@@ -116,7 +116,7 @@ module _ {R : Type 0} where
   abbrev pub coded_nodes : Coded R → Coded (Nodes R)
   coded_nodes code = code_by (List (Option R)) (coded_list (coded_option code)) (λ n. written n []) (λ s. topmost (stacked s)) read_back
 
-  -- one tree by its row and its children
+  -- one tree coded by its row and its children
   abbrev pub coded_branch : Coded R → Coded (Branch R)
   coded_branch code = code_by (R × Nodes R) (coded× code (coded_nodes code)) (λ b. (b.row, b.children))
       (λ p. record { row = p.0; children = p.1 }) (λ _. refl)

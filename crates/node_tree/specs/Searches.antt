@@ -9,7 +9,7 @@ abbrev pub shifted : ℕ → Result ℕ ℕ → Result ℕ ℕ
 shifted n (Ok i) = Ok (n + i)
 shifted n (Err i) = Err (n + i)
 
--- one further on
+-- the place of a search, or where the name would stand, one further on
 abbrev pub further : Result ℕ ℕ → Result ℕ ℕ
 further (Ok i) = Ok (suc i)
 further (Err i) = Err (suc i)

@@ -16,7 +16,7 @@ pub record Seen : Type 0 where
   pub label : Label
   pub hold : Hold
 
--- its children are shown
+-- a node's children are shown
 abbrev pub is_opened : Hold → Bool
 is_opened leaf = false
 is_opened (counted n) = false
@@ -32,19 +32,19 @@ shows_count opened = false
 abbrev pub seen_id : Seen → ℕ
 seen_id r = r.id
 
--- by its serial
+-- a shown node's serial
 abbrev pub seen_serial : Seen → ℕ
 seen_serial r = r.serial
 
 -- ---- codes
 
--- as code writes it: None for a leaf, Some (Some n) for n children that are not shown, Some None for children that are
+-- a hold as code writes it: None for a leaf, Some (Some n) for n children that are not shown, Some None for children that are
 abbrev pub hold_code : Hold → Option (Option ℕ)
 hold_code leaf = None
 hold_code (counted n) = Some (Some n)
 hold_code opened = Some None
 
--- and read back
+-- a hold read back from how code writes it
 abbrev pub code_hold : Option (Option ℕ) → Hold
 code_hold None = leaf
 code_hold (Some None) = opened

@@ -15,7 +15,7 @@ use Rattle.node_tree.specs.declared.Kind.TheVariants.{Element, Text, Comment, Do
 use Rattle.page_tree.specs.Loads.{pairs_of, is_taken, placed, in_order, attributes_spelled, property_count, times_of, text_at, text_alone}
 use Rattle.page_tree.specs.Loads.{labelled, attributes_at, element_name, element_label, label_spelled, branch_of, form_before, node_spelled}
 use Rattle.page_tree.specs.Loads.{forms_of, below_of, nodes_listed, nodes_in}
-use Rattle.cdp_messages.specs.Laws.{PairsHaveUtf8, LabelHasUtf8}
+use Rattle.node_tree.specs.Labels.{PairsHaveUtf8, LabelHasUtf8}
 use Rattle.page_forms.specs.Texts.{HaveTexts, FormHasTexts}
 use Rattle.cdp_json.proofs.ReadTexts.{IfSome, map_keeps, then_keeps}
 

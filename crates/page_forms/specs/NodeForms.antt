@@ -45,7 +45,7 @@ next_token End = end_object
 abbrev pub pairs_form : ListForm (List Pair)
 pairs_form = record { levels = 0; reads = pairs_of }
 
--- the same in the order of names
+-- attributes in the order of their names
 abbrev pub attributes_form : ListForm (List Pair)
 attributes_form = record { levels = 0; reads = λ ds. attributes_spelled (array ds) }
 

@@ -13,7 +13,7 @@ pub record ValueForm (A : Type 0) : Type 0 where
   pub levels : ℕ
   pub reads : Data → Option A
 
--- the same of the items of a list
+-- what the items of a list are read as, and how deep they nest at most
 pub record ListForm (A : Type 0) : Type 0 where
   pub levels : ℕ
   pub reads : datum.Items → Option A
@@ -34,7 +34,7 @@ pub record ReadsAs {A : Type 0} (form : ValueForm A) (old : List Token) (x : A) 
   pub whole : has_float value ≡ false
   pub reads : form.reads value ≡ Some x
 
--- the same of the items of a list, and the bracket behind them
+-- the tokens up to some place are those of the items of a list that are read as x, and of the bracket behind them
 pub record SpellsItems {A : Type 0} (form : ListForm A) (old : List Token) (x : A) (new : List Token) : Type 0 where
   pub json : Items
   pub items : datum.Items
@@ -44,7 +44,7 @@ pub record SpellsItems {A : Type 0} (form : ListForm A) (old : List Token) (x : 
   pub whole : items_have_float items ≡ false
   pub reads : form.reads items ≡ Some x
 
--- the same of a field with a list, which may be absent
+-- the tokens up to some place are those of a field with a list that is read as x, or of nothing where the field is absent
 pub data SpellsField {A : Type 0} (form : FieldForm A) (old : List Token) (x : A) (new : List Token) : Type 0 where
   absent : old ≡ new → x ≡ form.absent → SpellsField form old x new
   there : (from : List Token) → old ≡ key form.name ∷ (begin_array ∷ from) → SpellsItems form.list from x new → SpellsField form old x new

@@ -4,7 +4,7 @@ use Rattle.serde_json.specs.Data.{Data}
 use Rattle.cdp_json.specs.Plain.{HasUtf8}
 use Rattle.node_tree.specs.Nodes.{Nodes, none, node, Branch}
 use Rattle.node_tree.specs.Labels.{Label}
-use Rattle.cdp_messages.specs.Laws.{LabelHasUtf8}
+use Rattle.node_tree.specs.Labels.{LabelHasUtf8}
 use Rattle.page_forms.specs.declared.acts.Act.{Act}
 use Rattle.page_forms.specs.declared.acts.Act.TheVariants.{SetAttr, DropAttr, SetText, Insert, Remove, Move, AddSheet, DropSheet}
 use Rattle.page_forms.specs.declared.acts.Act.TheVariants.{ReplaceSheet}
@@ -46,6 +46,6 @@ ActHasTexts (ReplaceSheet sheet text) = IsUtf8 sheet × IsUtf8 text
 abbrev pub PagesHaveTexts : Type 0
 PagesHaveTexts = (d : Data) (page : LoadedPage) → HasUtf8 d → page_in d ≡ Some page → PageHasTexts page
 
--- so has an act
+-- an act has the texts of its JSON
 abbrev pub ActsHaveTexts : Type 0
 ActsHaveTexts = (d : Data) (act : Act) → HasUtf8 d → act_in d ≡ Some act → ActHasTexts act

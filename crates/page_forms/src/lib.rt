@@ -1,4 +1,13 @@
 //! What a page that is loaded and a change that a script makes of it say, read from JSON: exactly their forms, and nothing else.
+//!
+//! Promise: `read_page` gives exactly the nodes and sheets of a page that may be held, or its first fault by number; `read_act`
+//! exactly the act that a value spells, or that it spells none.
+//!
+//! Way in: those two for JSON values; `scan_page` for the tokens of a text: where it answers Ok they are those of JSON that is
+//! read as this page, and it may decline any text, which is then read as a value.
+//!
+//! Law: `texts_law` (src/laws.rt), the texts of what is read are UTF-8. PAGE stands in specs/Pages and specs/Sheets, ACT in
+//! specs/Acts and specs/SheetActs.
 #![tactic(auto)]
 
 mod acts;
@@ -8,11 +17,10 @@ mod page_scan;
 mod pages;
 mod sheet_acts;
 mod sheets;
-mod tokens;
 
 pub use acts::{Act, ActErr, read_act};
+pub use cdp_json::ScanErr;
 pub use laws::texts_law;
 pub use page_scan::scan_page;
 pub use pages::{PageForm, read_page};
 pub use sheets::SheetForm;
-pub use tokens::ScanErr;

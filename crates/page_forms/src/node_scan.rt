@@ -8,7 +8,7 @@ ghost use Rattle.page_forms.specs.Spelt.{ReadsAs, SpellsItems, SpellsField};
 ghost use Rattle.page_forms.specs.NodeForms.{leaf, text_field, text_data, element_tokens, next_token, pairs_form, attributes_form};
 ghost use Rattle.page_forms.specs.NodeForms.{attribute_field, node_form, nodes_form, child_field};
 
-use crate::tokens::{
+use cdp_json::{
     ScanErr, take_any_key, take_begin_array, take_begin_object, take_end_object, take_text,
 };
 use json::{Reader, Token};

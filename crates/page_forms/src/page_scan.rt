@@ -8,7 +8,7 @@ ghost use Rattle.page_forms.specs.Pages.{first_page_fault, loaded_page};
 use crate::node_scan::scan_nodes;
 use crate::pages::PageForm;
 use crate::sheets::{SheetForm, can_hold_sheets, origin_in};
-use crate::tokens::{
+use cdp_json::{
     ScanErr, take_begin_array, take_begin_object, take_end_object, take_key, take_text,
 };
 use json::{Reader, Token};

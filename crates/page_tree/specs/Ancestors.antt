@@ -11,6 +11,6 @@ ancestors_of serial above none = None
 ancestors_of serial above (node r c t) =
     cond (r.serial == serial) (Some above) (first_of (ancestors_of serial (r.serial ∷ above) c) (ancestors_of serial above t))
 
--- those of a node of a page; the document has none
+-- the ancestors of a node of a page; the document has none
 abbrev pub ancestors_at : ℕ → Branch PageRow → List ℕ
 ancestors_at serial tree = unwrap_or (ancestors_of serial [] (alone tree)) []

@@ -42,7 +42,7 @@ Stored a n above ks = Keeps page_slots (slots_in a) n above ks
 abbrev pub stored_trees : Arena → ℕ → List ℕ → Nodes PageRow
 stored_trees a levels ks = kept_trees page_slots (slots_in a) levels ks
 
--- these trees may come in
+-- trees that may come into an arena
 abbrev pub Fresh : Arena → Nodes PageRow → Type 0
 Fresh a n = IsFresh page_slots (slots_in a) n
 

@@ -24,7 +24,7 @@ use Rattle.page_tree.specs.declared.edit_faults.EditErr.TheVariants.{Fault, Memo
 abbrev pub is_live : ℕ → Branch PageRow → Bool
 is_live serial tree = is_some (find_in serial tree)
 
--- the same for a serial that may be 0, which names none
+-- a serial is that of a live node, or 0, which names none
 abbrev pub is_live_or_0 : ℕ → Branch PageRow → Bool
 is_live_or_0 serial tree = serial == 0 || is_live serial tree
 
@@ -154,7 +154,7 @@ pub record CanApply (next : ℕ) (e : TreeEdit) (tree : Branch PageRow) : Type 0
   pub fits : first_fault e tree ≡ None
   pub ready : IsReady next e tree
 
--- it takes edits, one after another
+-- a page takes edits, one after another
 abbrev pub CanApplyAll : List TreeEdit → PageValue → Type 0
 CanApplyAll [] page = Unit {0}
 CanApplyAll (e ∷ es) page = CanApply page.next e page.tree × CanApplyAll es (after e page)

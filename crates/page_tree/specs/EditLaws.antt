@@ -11,7 +11,7 @@ use Rattle.page_tree.specs.declared.edits.TreeEdit.{TreeEdit}
 abbrev pub AfterLaw : Type 0
 AfterLaw = (page : PageValue) (e : TreeEdit) → IsValid page → CanApply page.next e page.tree → IsValid (after e page)
 
--- And its next serial is what it was: what is attached has its serials already.
+-- A page's next serial is what it was before the edit: what is attached has its serials already.
 abbrev pub NextLaw : Type 0
 NextLaw = (page : PageValue) (e : TreeEdit) → CanApply page.next e page.tree → (after e page).next ≡ page.next
 
@@ -41,7 +41,8 @@ InsertLaw =
     → insert_fault parent before form page.tree ≡ None
     → EditsLead (insert_edits parent before form page) (drawn form page) (after_all (insert_edits parent before form page) page)
 
--- The same of a copy.
+-- Where a copy has no fault, its edits are taken as soon as its serials are drawn, and they lead to the same page as they would without
+-- that.
 abbrev pub CopyLaw : Type 0
 CopyLaw =
     (page : PageValue) (serial parent before : ℕ) → IsValid page → copy_fault serial parent before page.tree ≡ None

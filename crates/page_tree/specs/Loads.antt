@@ -114,12 +114,12 @@ abbrev mutual
   forms_of top no_items = Some none
   forms_of top (item d ds) = form_before (node_spelled top d) (forms_of top ds)
 
-  -- those that the property `c` of an object lists; none where it has no such property
+  -- the nodes that the property `c` of an object lists; none where it has no such property
   pub below_of : Members → Option (Nodes Label)
   below_of no_members = Some none
   below_of (member key d ms) = cond (bytes_eq (codes "c") key) (nodes_listed d) (below_of ms)
 
-  -- those of an array, and of nothing else
+  -- the nodes of an array, and of nothing else
   pub nodes_listed : Data → Option (Nodes Label)
   nodes_listed null = None
   nodes_listed (boolean b) = None

@@ -41,7 +41,7 @@ coded_state = code_by (Branch PageRow × ℕ) (coded× (coded_branch coded_row) 
 abbrev pub find_in : ℕ → Branch PageRow → Option (Branch PageRow)
 find_in serial tree = keys.find_in row_serial serial tree
 
--- the same, where it is there
+-- the branch of the node with that serial, where it is there
 abbrev pub node_at : ℕ → Branch PageRow → Branch PageRow
 node_at serial tree = unwrap_or (find_in serial tree) tree
 
@@ -49,7 +49,7 @@ node_at serial tree = unwrap_or (find_in serial tree) tree
 abbrev pub parent_at : ℕ → Branch PageRow → ℕ
 parent_at serial tree = unwrap_or (keys.parent_in row_serial serial tree) 0
 
--- its level; the document has level 0
+-- the level of the node with that serial; the document has level 0
 abbrev pub level_at : ℕ → Branch PageRow → ℕ
 level_at serial tree = unwrap_or (keys.level_in row_serial serial tree) 0
 

@@ -65,7 +65,7 @@ earlier_in above (b ∷ before) here = record { branch = b; before = before; aft
 abbrev pub earlier : Zipper → List Zipper
 earlier z = earlier_in z.above z.before (node z.branch.row z.branch.children z.after)
 
--- these nodes, which have siblings before them, in order
+-- nodes that have siblings before them, in order
 abbrev pub in_row : List Generation → List (Branch PageRow) → Nodes PageRow → List Zipper
 in_row above before none = []
 in_row above before (node r c t) = record { branch = record { row = r; children = c }; before = before; after = t; above = above }
@@ -102,7 +102,7 @@ first_child_of z = first_node (children_of z)
 
 -- ---- the nodes of a tree
 
--- these nodes and all below them in document order, where nodes stand before and above them
+-- nodes and all below them in document order, where nodes stand before and above them
 abbrev pub all_in : List Generation → List (Branch PageRow) → Nodes PageRow → List Zipper
 all_in above before none = []
 all_in above before (node r c t) =
@@ -130,6 +130,6 @@ has_serial serial z = serial_of z == serial
 abbrev pub find_zipper : ℕ → Branch PageRow → Option Zipper
 find_zipper serial tree = find (has_serial serial) (zippers tree)
 
--- the same, where it is there
+-- the node with that serial, where it is there
 abbrev pub zipper_at : ℕ → Branch PageRow → Zipper
 zipper_at serial tree = unwrap_or (find_zipper serial tree) (root_of tree)

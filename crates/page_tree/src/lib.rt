@@ -1,4 +1,15 @@
-//! The page: a tree of nodes, each with a serial for the whole run, read from a load and asked by serial.
+//! The page: a tree of nodes, each with a serial for the whole run, read from a load, asked by serial, and changed by edits.
+//!
+//! Promise: a load is read exactly, or refused with its first fault by number; an edit gives the plain tree after it and answers
+//! the edit that leads back, or names its first fault and leaves the page as it was.
+//!
+//! Way in: `read_nodes` and `Page::load`; the readers of `Page` by serial; `Page::apply` with a `TreeEdit`; the cursors `Node`
+//! and `Children` for walks down, `NodeRef` for walks every way. `insert_fault`, `move_fault`, `copy_fault`, `grow` and `copy`
+//! for acts of several edits.
+//!
+//! Laws: `after_law`, `back_law`, `insert_law`, `copy_law`, `move_law` (src/edit_laws.rt) and `relation_law` (src/relations.rt),
+//! over pages alone. The page and what makes it valid stand in specs/Pages, edits in specs/Edits. The slab that keeps the nodes
+//! is in no clause of a caller.
 #![tactic(auto)]
 
 mod arenas;

@@ -2,7 +2,6 @@
 
 ghost use Rattle.std.specs.Prelude.{◌≡◌, ◌+◌, [], IsSome};
 ghost use Rattle.node_tree.specs.Nodes.{branch_count, map_branch};
-ghost use Rattle.node_tree.specs.Labels.{is_element, has_value};
 ghost use Rattle.page_tree.specs.Forms.{max_nodes};
 ghost use Rattle.node_tree.specs.Levels.{max_level};
 ghost use Rattle.page_tree.specs.Pages.{row_label, find_in, level_at};
@@ -20,26 +19,6 @@ use crate::trees::Tree;
 use crate::walks::{are_children_within, room_beside_children};
 use node_tree::{Kind, is_attribute_name};
 use std::slice;
-
-/// An element.
-fn is_element(kind: Kind) -> bool
-    ensures { result ≡ is_element kind }
-{
-    match kind {
-        Kind::Element => true,
-        Kind::Document | Kind::Text | Kind::Comment | Kind::Doctype => false,
-    }
-}
-
-/// A text or a comment.
-fn has_value(kind: Kind) -> bool
-    ensures { result ≡ has_value kind }
-{
-    match kind {
-        Kind::Text | Kind::Comment => true,
-        Kind::Document | Kind::Element | Kind::Doctype => false,
-    }
-}
 
 /// A node of the second kind may stand right below one of the first.
 fn may_hold(above: Kind, below: Kind) -> bool
@@ -202,7 +181,7 @@ impl Page {
         if !self.live(node) {
             return Some(EditFault::NoNode);
         }
-        if !is_element(self.kind(node)) {
+        if !self.kind(node).is_element() {
             return Some(EditFault::NotElement);
         }
         if !is_attribute_name(name) {
@@ -229,7 +208,7 @@ impl Page {
         if !self.live(node) {
             return Some(EditFault::NoNode);
         }
-        if !has_value(self.kind(node)) {
+        if !self.kind(node).has_value() {
             return Some(EditFault::NotText);
         }
         None

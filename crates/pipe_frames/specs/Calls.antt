@@ -22,7 +22,7 @@ no_calls fail = record { fail = fail; made = 0; faults = 0 }
 abbrev pub NextFails : Calls → Type 0
 NextFails calls = Contains calls.fail (next_count calls.made)
 
--- one call more
+-- the calls after one call more
 abbrev pub counted : Calls → Bool → Calls
 counted calls failed =
     record { fail = calls.fail; made = next_count calls.made; faults = if failed then next_count calls.faults else calls.faults }

@@ -19,7 +19,7 @@ pub record HasCause {T : Type 0} (before now : ℕ) (result : Result T OutErr) :
   pub failed : IsErrOf result Failed → Rose before now
   pub answered : before < now → IsErrOf result Failed
 
--- the same of a call whose one error is that of a source
+-- a call whose one error is that of a source answers it only where the count of faults rose
 pub record HasReadCause {T : Type 0} (before now : ℕ) (result : Result T ReadFault) : Type 0 where
   pub later : before ≤ now
   pub failed : OnErr result (Rose before now)

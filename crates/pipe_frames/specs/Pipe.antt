@@ -46,7 +46,7 @@ GivesPrefix pipe = pipe.sent ≡ pipe.given ++ waiting pipe
 abbrev pub GivesAll : {E : Type 0} → ℕ → Filling → List ℕ → Result ℕ E → Type 0
 GivesAll max old after result = OnOk result (after ≡ old.into ++ take max (waiting old.pipe))
 
--- there is nothing left to give
+-- a pipe has nothing left to give
 abbrev pub IsLevel : Pipe → Type 0
 IsLevel pipe = pipe.given ≡ pipe.sent
 

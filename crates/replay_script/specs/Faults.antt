@@ -37,7 +37,7 @@ is_later kind.Show v = option_map_or is_later_word (as_str v) false
 is_later kind.Close v = is_some (as_whole v)
 is_later kind.Styles v = false
 
--- it has a form at all; each page has one, and its own faults come later
+-- a line has a form at all; each load has one, and its page's own faults come later
 abbrev pub has_form : LineKind → Data → Bool
 has_form kind v = is_load kind || (is_some (form_by kind v) || is_later kind v)
 
@@ -94,7 +94,7 @@ fault_by kind v =
 abbrev pub page_of : Data → Option Data
 page_of d = option_and_then (λ s. page_by s.0 s.1) (said d)
 
--- its first fault
+-- the first fault of the page that a line loads
 abbrev pub load_fault : Data → Option LoadFault
 load_fault d = option_and_then page_fault (page_of d)
 
@@ -102,11 +102,11 @@ load_fault d = option_and_then page_fault (page_of d)
 abbrev pub is_formed : Data → Bool
 is_formed d = option_map_or (λ s. has_form s.0 s.1) (said d) false
 
--- it has a form that is not carried out yet
+-- a line has a form that is not carried out yet
 abbrev pub is_unbuilt : Data → Bool
 is_unbuilt d = option_map_or (λ s. is_later s.0 s.1) (said d) false
 
--- it sends a text that may not be sent
+-- a line sends a text that may not be sent
 abbrev pub sends_no_frame : Data → Bool
 sends_no_frame d = option_map_or is_no_frame (option_and_then (λ s. raw_by s.0 s.1) (said d)) false
 

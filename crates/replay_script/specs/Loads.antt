@@ -5,7 +5,7 @@ use Rattle.page_forms.specs.Spelt.{ValueForm}
 use Rattle.replay_script.specs.Faults.{page_of, line_fault}
 use Rattle.replay_script.specs.Forms.{load, line_form}
 
--- such a line, which nests one level more than a page
+-- a line that loads a page, which nests one level more than a page
 abbrev pub load_line_form : ValueForm LoadedPage
 load_line_form = record { levels = 123; reads = λ d. option_and_then page_in (page_of d) }
 

@@ -68,7 +68,7 @@ styles_ask (show_styles k) = Some k
 abbrev pub styles_missing : Bool → Option LineFault
 styles_missing came = cond came None (Some NoStyles)
 
--- the same of any line; `came` says of which asks a reply told the matched styles
+-- the fault of any line that shows matched styles which did not come; `came` says of which asks a reply told them
 abbrev pub styles_fault : (ℕ → Bool) → LineForm → Option LineFault
 styles_fault came line = option_and_then (λ k. styles_missing (came k)) (styles_ask line)
 

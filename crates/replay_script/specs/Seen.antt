@@ -28,7 +28,7 @@ said_seen s = (s.0, view s.1.now)
 abbrev pub seen_ask : Ask → AskForm
 seen_ask a = record { method = a.method; params = option_map view a.params; session = option_map view a.session }
 
--- the same before it is copied
+-- an ask as it is read, before it is copied
 abbrev pub parts_form : AskParts → AskForm
 parts_form a = record {
   method = a.method.now;

@@ -31,7 +31,7 @@ attributes_of z = (label_of z).attributes
 abbrev pub is_element_node : Zipper → Bool
 is_element_node z = labels.is_element (kind_of z)
 
--- those of the nodes that are elements
+-- those of some nodes that are elements
 abbrev pub elements : List Zipper → List Zipper
 elements zs = filter is_element_node zs
 
@@ -47,7 +47,7 @@ fills_by Doctype value = false
 abbrev pub fills : Zipper → Bool
 fills z = fills_by (kind_of z) (label_of z).value
 
--- its parent is the document
+-- an element's parent is the document
 abbrev pub is_root_by : Option Zipper → Bool
 is_root_by None = false
 is_root_by (Some parent) = is_document (kind_of parent)

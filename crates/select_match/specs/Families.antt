@@ -31,7 +31,7 @@ is_counted (Some name) z = is_element_node z && bytes_eq (zipper_name z) name
 abbrev pub count_of : Option (List ℕ) → List Zipper → ℕ
 count_of key zs = length (filter (is_counted key) zs)
 
--- one for a node that is
+-- one for a node that is counted, none for another
 abbrev pub one_of : Option (List ℕ) → Zipper → ℕ
 one_of key z = cond (is_counted key z) 1 0
 
@@ -44,11 +44,11 @@ pub record Faces (f : Family) (z : Zipper) : Type 0 where
   pub before : Counts f.before (earlier z)
   pub after : Counts f.after (z ∷ later z)
 
--- the same of a node, if there is one
+-- the siblings before a node, it and those behind it are counted, if there is such a node
 abbrev pub FacesNext : Family → Option Zipper → Type 0
 FacesNext f at = (z : Zipper) → at ≡ Some z → Faces f z
 
--- the same of the last of some nodes, if there are any
+-- the siblings before the last of some nodes, it and those behind it are counted, if there are any nodes
 abbrev pub FacesLast : Family → List Zipper → Type 0
 FacesLast f before = (bs : List Zipper) (z : Zipper) → before ≡ bs ++ z ∷ [] → Faces f z
 
@@ -63,6 +63,6 @@ SiblingsFace siblings.Nothing z = Unit {0}
 SiblingsFace (siblings.Elements l) z = LineFaces l z
 SiblingsFace (siblings.Types f) z = Faces f z
 
--- the same of a node, if there is one
+-- the siblings of a node are counted as far as they are counted at all, if there is such a node
 abbrev pub SiblingsFaceNext : Siblings → Option Zipper → Type 0
 SiblingsFaceNext s at = (z : Zipper) → at ≡ Some z → SiblingsFace s z

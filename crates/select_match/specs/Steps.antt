@@ -64,7 +64,7 @@ around_of z chain = record {
   earlier = list_any (chain_holds chain) (earlier z);
 }
 
--- the same, where these siblings stand before the node, the nearest first
+-- where around a node a chain holds, where these siblings stand before the node, the nearest first
 abbrev pub around_by : Zipper → List Zipper → List CompoundForm → Around
 around_by z before chain = record {
   above = list_any (chain_holds chain) (ancestors z);
@@ -77,7 +77,7 @@ around_by z before chain = record {
 abbrev pub nothing : Around
 nothing = record { above = false; parent = false; previous = false; earlier = false }
 
--- the same of the node's next sibling, if it has one
+-- where around a node's next sibling a chain holds, if it has one
 abbrev pub beside_of : Zipper → List CompoundForm → Around
 beside_of z chain = record {
   above = list_any (chain_holds chain) (ancestors z);
@@ -86,7 +86,7 @@ beside_of z chain = record {
   earlier = list_any (chain_holds chain) (z ∷ earlier z);
 }
 
--- the same of the node's first child, if it has one
+-- where around a node's first child a chain holds, if it has one
 abbrev pub inside_of : Zipper → List CompoundForm → Around
 inside_of z chain = record {
   above = list_any (chain_holds chain) (z ∷ ancestors z);
@@ -115,7 +115,7 @@ leads_by Child a = a.parent
 leads_by Next a = a.previous
 leads_by Later a = a.earlier
 
--- the same, or nothing is asked on the left
+-- the combinator leads to a node where the test holds, or nothing is asked on the left
 abbrev pub leads : Joint → Option Around → Bool
 leads joint None = true
 leads joint (Some a) = leads_by joint a

@@ -21,14 +21,14 @@ element_places z = record {
   last_of_type = index LastOfType z;
 }
 
--- one of them
+-- one of the four places of an element among its siblings
 abbrev pub element_place : NthKind → ElementPlaces → ℕ
 element_place Child p = p.child
 element_place LastChild p = p.last_child
 element_place OfType p = p.of_type
 element_place LastOfType p = p.last_of_type
 
--- one of them, if it was counted
+-- one of the four places of an element among its siblings, if it was counted
 abbrev pub place_known : NthKind → KnownPlaces → Option ℕ
 place_known Child p = p.child
 place_known LastChild p = p.last_child

@@ -20,7 +20,7 @@ moved_range from to range = record { start = moved from to range.start; end = mo
 abbrev pub moved_selector : ℕ → ℕ → SelectorForm → SelectorForm
 moved_selector from to s = record { compounds = s.compounds; pseudo_element = s.pseudo_element; range = moved_range from to s.range }
 
--- both places lie at or behind `from`, and where they are moved to are places
+-- a range can be moved: both its places lie at or behind `from`, and where they are moved to are places
 abbrev pub CanMove : ℕ → ℕ → Range → Type 0
 CanMove from to range = (from ≤ range.start) × (from ≤ range.end) × (moved from to range.start < 2 ^ 64)
     × (moved from to range.end < 2 ^ 64)

@@ -30,7 +30,7 @@ pub data IsNthSign : List ℕ → ℕ → ℤ → Type 0 where
   plus : (n : ℕ) → IsNthSign (codes "+") n (pos n)
   minus : (n : ℕ) → IsNthSign (codes "-") n (neg_ℤ (pos n))
 
--- the same, where the sign may be missing
+-- a number with a sign, which may be missing
 pub data MaySign : List ℕ → ℕ → ℤ → Type 0 where
   unsigned : (n : ℕ) → MaySign [] n (pos n)
   with_sign : (sign : List ℕ) (n : ℕ) (z : ℤ) → IsNthSign sign n z → MaySign sign n z

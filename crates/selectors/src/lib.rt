@@ -1,7 +1,16 @@
-//! Selector lists by Selectors Level 3, in a profile: which list a text spells, if it spells one, and how specific a
-//! selector is. The matching of elements is not here.
+//! Selector lists by Selectors Level 3, in a profile: which list a text spells, if it spells one, and how specific a selector
+//! is. The matching of elements is not here.
 //!
 //! A text is read by its words, its pieces but white space and comments. Places are bytes from 0.
+//!
+//! Promise: `read_selectors` gives exactly the list that a text spells, and Invalid exactly where none does.
+//!
+//! Way in: `read_selectors` for a text, `read_list` for the words among some pieces (`words_among`), for crates that read
+//! sheets; `specificity` of a selector; `value_of`, `lower_of` and `range_of` of words.
+//!
+//! Laws, in src/laws.rt: `grammar_law` (what is read is what a declarative grammar derives, both ways), `nth_law` (the same of
+//! an+b alone) and `usable_law` (a list's selectors can be cut out of the text). The grammar stands in specs/Grammar,
+//! specs/Parts and specs/NthGrammar.
 #![tactic(auto)]
 
 mod laws;

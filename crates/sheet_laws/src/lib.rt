@@ -1,5 +1,12 @@
-//! Laws of the reading of style sheets: what `sheet_reader` and `selectors` compute is what CSS Syntax 3 and Selectors 3 say,
-//! in relations from the table of pieces up to the rules and places of a sheet. Nothing here runs.
+//! Laws of the reading of style sheets: what `sheet_reader` and `selectors` compute is what CSS Syntax 3 and Selectors 3 say, in
+//! relations from the table of pieces up to the rules and places of a sheet. Nothing here runs.
+//!
+//! Promise, and way in, are the five laws of src/laws.rt: `cut_law` (one way to cut a text by the table), `prelude_law` (where a
+//! prelude is a selector list), `declaration_law` (what a declaration is, with its `!important`), `place_law` (the places for a
+//! rule) and `reading_law` (each text says one sheet, which is the one that is read).
+//!
+//! They stand in a crate of their own, above the three that they are about, so that none of these is proved anew for them. Their
+//! words are in specs/: solid pieces, values, places and readings.
 #![tactic(auto)]
 
 mod laws;

@@ -26,7 +26,7 @@ abbrev pub entry_of : ℕ → List SheetEntry → Option SheetEntry
 entry_of id [] = None
 entry_of id (e ∷ es) = if id == e.id then Some e else entry_of id es
 
--- its place, from 0
+-- the place of the entry with this id, from 0
 abbrev pub entry_place : ℕ → List SheetEntry → Option ℕ
 entry_place id es = position (nat_eq id) (ids_of es)
 

@@ -26,7 +26,7 @@ closed_by CloseSquare = Some Square
 closed_by CloseCurly = Some Curly
 closed_by _ = None
 
--- both are round, both are square, or both are curly
+-- two brackets are both round, both square, or both curly
 abbrev pub is_same : Bracket → Bracket → Bool
 is_same Round Round = true
 is_same Square Square = true
@@ -68,7 +68,7 @@ until_in stop brackets [] = 0
 until_in stop brackets (t ∷ ts) =
     if is_none_open brackets && stops_at stop t.kind then 0 else suc (until_in stop (open_after brackets t.kind) ts)
 
--- the same from where no bracket is open
+-- how many pieces stand before the first at which component values stop, from where no bracket is open
 abbrev pub until : Stop → List Token → ℕ
 until stop ts = until_in stop [] ts
 
@@ -96,6 +96,6 @@ unfoldable pub nesting_in : List Bracket → List Token → Nesting
 nesting_in brackets [] = nesting_of brackets
 nesting_in brackets (t ∷ ts) = if is_stray brackets t.kind then Stray else nesting_in (open_after brackets t.kind) ts
 
--- the same for a whole list of pieces, with no bracket open before it
+-- how the brackets of a whole list of pieces nest, with none open before it
 abbrev pub nesting : List Token → Nesting
 nesting ts = nesting_in [] ts

@@ -65,7 +65,7 @@ abbrev pub names_important : List ℕ → Word → WordKind → Bool
 names_important text w Ident = bytes_eq (lower_of text w) (codes "important")
 names_important text w _ = false
 
--- both words are there: the first is `!`, and the second is the ident `important` in any case
+-- two words are there: the first is `!`, and the second is the ident `important` in any case
 abbrev pub is_important_by : List ℕ → Option Word → Option Word → Bool
 is_important_by text (Some mark) (Some name) = is_mark 33 mark.kind && names_important text name name.kind
 is_important_by text _ _ = false

@@ -84,7 +84,7 @@ laid_with text within around k [] = []
 laid_with text within around k (p ∷ ps) =
     laid around p ∷ laid_behind text within k (media_form text p) (λ n. laid_with text within around n ps)
 
--- the same, where media rules are followed to this depth
+-- the parts, and behind each media rule what is within, where media rules are followed to this depth
 unfoldable pub laid_to : ℕ → List ℕ → Option ℕ → ℕ → List PartForm → List Laid
 laid_to zero text around k ps = []
 laid_to (suc depth) text around k ps =

@@ -31,7 +31,7 @@ is_blank_part (passed t) = is_blank_piece t
 is_blank_part (at_rule keyword prelude ending) = false
 is_blank_part (qualified prelude ending) = false
 
--- it has its `}`
+-- a block has its `}`
 abbrev pub is_closed_ending : EndingForm → Bool
 is_closed_ending text_end = false
 is_closed_ending (semicolon t) = false

@@ -37,7 +37,7 @@ abbrev pub AreEdgesBehind : List ℕ → ℕ → List ℕ → Type 0
 AreEdgesBehind text place [] = Unit {0}
 AreEdgesBehind text place (edge ∷ edges) = (place < edge) × IsCharBoundary text edge × AreEdgesBehind text edge edges
 
--- the same with no place before them
+-- characters' edges in ascending order, with no place before them
 abbrev pub AreEdges : List ℕ → List ℕ → Type 0
 AreEdges text [] = Unit {0}
 AreEdges text (edge ∷ edges) = IsCharBoundary text edge × AreEdgesBehind text edge edges

@@ -1,7 +1,16 @@
-//! Style sheets and declarations by CSS Syntax 3, section 5, in a profile: what a text says as a sheet and as a body, where
-//! it says it, and a book of sheets that keeps texts and readings together.
+//! Style sheets and declarations by CSS Syntax 3, section 5, in a profile: what a text says as a sheet and as a body, where it
+//! says it, and a book of sheets that keeps texts and readings together.
 //!
 //! Every text has one reading. Places are bytes from 0, unless a name says otherwise.
+//!
+//! Promise: `read_sheet` and `read_style` give exactly that reading; `position` and `byte_at` are the lines and UTF-16 columns
+//! of bytes; a `SheetBook` is the list of its entries, each with the reading of its text.
+//!
+//! Way in: those, `sealed` for a text that may stand between braces, and `lone_rule` for one that is one rule.
+//!
+//! Laws, in src/laws.rt: `grammar_law` (parts and items are as CSS Syntax has them, and in no other way), `nesting_law`,
+//! `position_law` and `usable_law` (every range can be cut out, and they stand in one another as they should). Laws from the
+//! table of pieces up stand in `sheet_laws`.
 #![tactic(auto)]
 
 mod book;

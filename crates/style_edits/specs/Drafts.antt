@@ -20,7 +20,7 @@ pub record IsAt (text : List ℕ) (lines : LineRange) (r : Range) : Type 0 where
   pub start : position_of text r.start ≡ position lines.start_line lines.start_column
   pub end : position_of text r.end ≡ position lines.end_line lines.end_column
 
--- both ranges have the same start and the same end
+-- two ranges have the same start and the same end
 abbrev pub is_same_range : Range → Range → Bool
 is_same_range a b = a.start == b.start && a.end == b.end
 
@@ -32,7 +32,7 @@ pub record IsDraft (e : SheetEntry) (found : Found) (d : Draft) : Type 0 where
   pub entry : d.entry ≡ spliced_entry splice e
   pub back : d.back ≡ back_in splice e
 
--- such a sheet, or the fault that was found, unless memory ran out
+-- the sheet after the splice that was found, or the fault that was found, unless memory ran out
 abbrev pub Drafts : SheetEntry → Found → Result Draft SheetErr → Type 0
 Drafts e found (Ok d) = IsDraft e found d
 Drafts e found (Err (Fault f)) = found ≡ Err f

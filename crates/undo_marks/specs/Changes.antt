@@ -15,7 +15,7 @@ module _ {P E : Type 0} where
   abbrev pub saved_after : List (HistoryEntry P E) → List P
   saved_after g = map (λ e. e.after) g
 
-  -- the same backwards, from its end to its start
+  -- the pages saved before the entries of a group, from its end to its start
   abbrev pub saved_before : List (HistoryEntry P E) → List P
   saved_before g = reverse (map (λ e. e.before) g)
 
@@ -78,7 +78,7 @@ module _ {P E : Type 0} (after : E → P → P) (back : E → P → E) where
   back_all (e ∷ es) page = back e page ∷ back_all es (after e page)
 
 module _ {P E : Type 0} (after : E → P → P) (Takes : E → P → Type 0) where
-  -- none of them meets a fault
+  -- none of the edits meets a fault, each on the page that the ones before it left
   abbrev pub AllTaken : List E → P → Type 0
   AllTaken [] page = Unit {0}
   AllTaken (e ∷ es) page = Takes e page × AllTaken es (after e page)
@@ -147,7 +147,7 @@ module _ {P E : Type 0} (after : E → P → P) (back : E → P → E) (Takes : 
     pub ends : after_all after es page ≡ page_undone m.past page
     pub kept_on : KeptFor (future_pushed (back_all after back es page) (past_popped kept)) (undone m) (page_undone m.past page)
 
-  -- the same of a redo
+  -- what a redo hands out: its edits lead through the pages saved after the entries of the group to the last of them
   pub record IsRedo (es : List E) (kept : Marks E) (m : Marks (HistoryEntry P E)) (page : P) : Type 0 where
     pub taken : AllTaken after Takes es page
     pub through : pages_on after es page ≡ pages_redone m.future
@@ -160,7 +160,7 @@ module _ {P E : Type 0} (after : E → P → P) (back : E → P → E) (Takes : 
     pub stays : undone m ≡ m
     pub kept_stays : past_popped kept ≡ kept
 
-  -- there is nothing to do again
+  -- there is nothing to do again: the lists are empty together, and nothing changes
   pub record IsNoRedo (kept : Marks E) (m : Marks (HistoryEntry P E)) (page : P) : Type 0 where
     pub none_saved : m.future ≡ []
     pub stays : redone m ≡ m

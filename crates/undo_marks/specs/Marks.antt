@@ -36,7 +36,7 @@ module _ {A : Type 0} where
   newest [] = None
   newest (g ∷ gs) = Some g
 
-  -- those before the newest
+  -- the groups before the newest
   abbrev pub older : List (List A) → List (List A)
   older [] = []
   older (g ∷ gs) = gs
@@ -68,7 +68,7 @@ module _ {A : Type 0} where
     crossed = false;
   }
 
-  -- the same with one entry
+  -- the marks after an edit of one entry
   abbrev pub noted : A → Marks A → Marks A
   noted x m = edited (x ∷ []) m
 
@@ -94,7 +94,7 @@ module _ {A : Type 0} where
   taken_back [] m = m
   taken_back (g ∷ gs) m = record { past = gs; future = g ∷ m.future; going = false; crossed = m.crossed }
 
-  -- and back
+  -- the marks after the newest group of the future is done again
   abbrev pub done_again : List (List A) → Marks A → Marks A
   done_again [] m = m
   done_again (g ∷ gs) m = record { past = g ∷ m.past; future = gs; going = false; crossed = m.crossed }

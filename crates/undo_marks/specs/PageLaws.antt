@@ -43,7 +43,7 @@ pub record SavedPagesLaw : Type 0 where
   -- edits kept for a history are kept for it after each change of it: at the start, and after a note, a mark, a crossing, an undo
   -- and a redo; where there is nothing to take back or to do again, nothing changes
   pub keeps_on : (next : ℕ) → KeepsOn page_after way_back (TakesEdit next)
-  -- and so they are under a later next serial
+  -- edits that are kept under a next serial are kept under each later one
   pub later_serials : (next later : ℕ) (kept : Marks Inverse) (m : Marks (HistoryEntry Saved Inverse)) (page : Saved)
       → next ≤ later → KeepsPages next kept m page → KeepsPages later kept m page
   -- what an undo hands out leads back through the pages saved before the entries of the newest group

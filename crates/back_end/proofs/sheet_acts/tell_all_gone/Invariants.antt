@@ -1,6 +1,6 @@
 -- What is sent and the sheets that are left make up the whole.
 use Rattle.std.proofs.Common.{◌≡◌, ◌++◌, map, drop}
-use Rattle.cdp_messages.specs.Moves.{dropped, frames_of_moves}
+use Rattle.client_views.specs.Moves.{dropped, frames_of_moves}
 use Rattle.back_end.proofs.sheet_acts.tell_all_gone.Given as goal
 
 abbrev pub invariant-loop-i : goal.invariant-loop-i

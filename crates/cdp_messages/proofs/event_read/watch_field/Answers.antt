@@ -3,7 +3,8 @@ use Rattle.serde_json.specs.Find.{as_str}
 use Rattle.cdp_json.specs.Kinds.{named}
 use Rattle.cdp_json.specs.Left.{left}
 use Rattle.cdp_json.specs.Rows.{left_with}
-use Rattle.cdp_messages.specs.Events.{watch_name, all_watches}
+use Rattle.node_tree.specs.Watches.{watch_name}
+use Rattle.cdp_messages.specs.Events.{all_watches}
 use Rattle.cdp_messages.proofs.NeedsRead.{need_through}
 use Rattle.cdp_messages.proofs.event_read.watch_field.Goals as goal
 

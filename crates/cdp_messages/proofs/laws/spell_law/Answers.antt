@@ -4,7 +4,8 @@ use Rattle.cdp_messages.proofs.Depths.{replies_are_shallow, events_are_shallow}
 use Rattle.cdp_messages.proofs.Messages.{replies_are_read, events_are_read, refusals_are_read, messages_are_read, faults_are_read}
 use Rattle.cdp_messages.proofs.Messages.{objects_are_empty, results_are_read, messages_are_spelled, results_are_spelled, one_message}
 use Rattle.cdp_messages.proofs.Messages.{one_result, message_again, spellings_are_read}
-use Rattle.cdp_messages.proofs.TellableLaws.{shown_trees_fit, shown_children_fit}
+use Rattle.dom_objects.proofs.TellableLaws.{shown_trees_fit}
+use Rattle.cdp_messages.proofs.NewsLaws.{shown_children_fit}
 use Rattle.cdp_messages.proofs.TextsUtf8.{replies_are_utf8, events_are_utf8}
 use Rattle.cdp_messages.proofs.ZeroFree.{texts_have_no_zero}
 use Rattle.cdp_messages.proofs.laws.spell_law.Goals as goal

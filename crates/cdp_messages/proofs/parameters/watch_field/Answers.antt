@@ -3,7 +3,8 @@ use Rattle.serde_json.specs.Find.{as_str, get_member}
 use Rattle.serde_json.specs.View.{members_view}
 use Rattle.cdp_json.specs.Fields.{field_if}
 use Rattle.cdp_json.specs.Kinds.{named}
-use Rattle.cdp_messages.specs.Events.{watch_name, all_watches}
+use Rattle.node_tree.specs.Watches.{watch_name}
+use Rattle.cdp_messages.specs.Events.{all_watches}
 use Rattle.cdp_messages.proofs.FieldsRead.{field_through}
 use Rattle.cdp_messages.proofs.parameters.watch_field.Goals as goal
 

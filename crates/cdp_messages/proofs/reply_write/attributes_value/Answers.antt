@@ -1,6 +1,6 @@
 use Rattle.std.proofs.Common.{ap, ◌∙◌}
 use Rattle.serde_json.specs.Data.{string}
-use Rattle.cdp_messages.proofs.AttributeLists.{attribute_written, attributes_written}
+use Rattle.dom_objects.proofs.AttributeLists.{attribute_written, attributes_written}
 use Rattle.cdp_messages.proofs.reply_write.attributes_value.Goals as goal
 
 pub loop-pair-preserved : goal.loop-pair-preserved

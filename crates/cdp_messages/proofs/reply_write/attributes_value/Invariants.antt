@@ -1,7 +1,7 @@
 use Rattle.std.proofs.Common.{◌≡◌, map, take}
 use Rattle.serde_json.specs.View.{view}
 use Rattle.serde_json.specs.Data.{string}
-use Rattle.cdp_messages.specs.NodeObject.{flat}
+use Rattle.dom_objects.specs.NodeObject.{flat}
 use Rattle.cdp_messages.proofs.reply_write.attributes_value.Given as goal
 
 abbrev pub invariant-loop-pair : goal.invariant-loop-pair

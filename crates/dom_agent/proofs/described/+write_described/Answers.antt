@@ -4,8 +4,8 @@ use Rattle.node_tree.specs.Labels.{holds}
 use Rattle.page_tree.specs.Pages.{PageRow}
 use Rattle.page_tree.proofs.CursorLemmas.{from-end, child-smaller}
 use Rattle.node_binding.specs.Openings.{less, is_spent}
-use Rattle.cdp_messages.specs.Tokens.{data_tokens}
-use Rattle.cdp_messages.specs.NodeWrites.{told_by}
+use Rattle.dom_objects.specs.Tokens.{data_tokens}
+use Rattle.dom_objects.specs.NodeRows.{told_by}
 use Rattle.dom_agent.specs.Described.{no_ids, shows_children, shown_to, row_to, kids_to}
 use Rattle.dom_agent.proofs.WritingLemmas.{nodes_data, described_written, children_hidden, children_written, left_start, left_turn}
 use Rattle.dom_agent.proofs.WritingLemmas.{left_end}

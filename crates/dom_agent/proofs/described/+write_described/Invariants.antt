@@ -1,6 +1,6 @@
 use Rattle.std.proofs.Common.{◌≡◌, ◌+◌, ◌*◌, ◌++◌}
 use Rattle.node_tree.specs.Nodes.{node_count, branch_count}
-use Rattle.cdp_messages.specs.Tokens.{data_tokens}
+use Rattle.dom_objects.specs.Tokens.{data_tokens}
 use Rattle.dom_agent.specs.Described.{no_ids, shown_to}
 use Rattle.dom_agent.proofs.WritingLemmas.{nodes_data, with_left}
 use Rattle.dom_agent.proofs.described.+write_described.Given as goal

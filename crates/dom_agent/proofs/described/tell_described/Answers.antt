@@ -1,9 +1,9 @@
 use Rattle.std.proofs.Common.{refl, ◌∙◌}
-use Rattle.cdp_messages.specs.NodeData.{tree_data}
+use Rattle.dom_objects.specs.NodeData.{tree_data}
 use Rattle.cdp_messages.specs.declared.down.ReplyBody.TheVariants.{Node}
-use Rattle.cdp_messages.specs.declared.node_writer.NodeMessage.TheVariants as message
+use Rattle.cdp_messages.specs.declared.node_message.NodeMessage.TheVariants as message
 use Rattle.cdp_messages.specs.NodeWrites.{message_with}
-use Rattle.cdp_messages.specs.Moves.{replied}
+use Rattle.client_views.specs.Moves.{replied}
 use Rattle.dom_agent.specs.Described.{described}
 use Rattle.dom_agent.proofs.FrameLemmas.{move_written}
 use Rattle.dom_agent.proofs.described.tell_described.Goals as goal

@@ -1,6 +1,6 @@
-use Rattle.cdp_messages.specs.NodeData.{tree_data}
-use Rattle.cdp_messages.specs.declared.node_writer.NodeMessage.TheVariants as message
-use Rattle.cdp_messages.proofs.TokenLists.{message_written}
+use Rattle.dom_objects.specs.NodeData.{tree_data}
+use Rattle.cdp_messages.specs.declared.node_message.NodeMessage.TheVariants as message
+use Rattle.cdp_messages.proofs.MessageTokens.{message_written}
 use Rattle.dom_agent.specs.Described.{described}
 use Rattle.dom_agent.proofs.described.write_reply.Goals as goal
 

@@ -2,7 +2,7 @@ use Rattle.std.proofs.Common.{◌++◌, ap, ◌∙◌}
 use Rattle.node_tree.specs.Nodes.{Branch}
 use Rattle.page_tree.specs.Pages.{PageRow}
 use Rattle.node_binding.specs.Bindings.{BindingValue}
-use Rattle.cdp_messages.specs.Moves.{frames_of_moves}
+use Rattle.client_views.specs.Moves.{frames_of_moves}
 use Rattle.dom_agent.specs.Edits.{Edited}
 use Rattle.dom_agent.proofs.EditCode.{came_parent, came_child, came_same}
 use Rattle.dom_agent.proofs.edits.attach.Goals as goal

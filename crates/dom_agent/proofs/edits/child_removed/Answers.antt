@@ -1,5 +1,5 @@
 use Rattle.std.proofs.Common.{ap, subst, sym, ◌∙◌, ◌≤◌}
-use Rattle.cdp_messages.specs.Moves.{frames_of_moves}
+use Rattle.client_views.specs.Moves.{frames_of_moves}
 use Rattle.dom_agent.proofs.EditCode.{removed_live, removed_some, removed_counts}
 use Rattle.dom_agent.proofs.edits.child_removed.Goals as goal
 

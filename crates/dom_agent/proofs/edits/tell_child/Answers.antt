@@ -3,7 +3,7 @@ use Rattle.node_tree.specs.Nodes.{Branch}
 use Rattle.page_tree.specs.Pages.{PageRow, node_at}
 use Rattle.page_tree.specs.Edits.{children_at}
 use Rattle.node_binding.specs.Bindings.{BindingValue}
-use Rattle.cdp_messages.specs.Moves.{frames_of_moves}
+use Rattle.client_views.specs.Moves.{frames_of_moves}
 use Rattle.dom_agent.specs.Edits.{Edited}
 use Rattle.dom_agent.proofs.EditCode.{came_shut, inserted_sent}
 use Rattle.dom_agent.proofs.edits.tell_child.Goals as goal

@@ -4,8 +4,8 @@ use Rattle.page_tree.specs.Pages.{PageRow}
 use Rattle.page_tree.proofs.CursorLemmas.{from-end, child-smaller}
 use Rattle.node_binding.specs.Cuts.{opens, cut}
 use Rattle.node_binding.specs.Bindings.{opened_in, id_in}
-use Rattle.cdp_messages.specs.Tokens.{data_tokens}
-use Rattle.cdp_messages.specs.NodeWrites.{told_by}
+use Rattle.dom_objects.specs.Tokens.{data_tokens}
+use Rattle.dom_objects.specs.NodeRows.{told_by}
 use Rattle.dom_agent.specs.Requests.{shown}
 use Rattle.dom_agent.proofs.WritingLemmas.{nodes_data, shown_written, children_hidden, children_written, left_start, left_turn, left_end}
 use Rattle.dom_agent.proofs.told.+write_shown.Goals as goal

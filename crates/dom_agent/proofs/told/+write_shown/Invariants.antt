@@ -2,7 +2,7 @@ use Rattle.std.proofs.Common.{◌≡◌, ◌+◌, ◌*◌, ◌++◌}
 use Rattle.node_tree.specs.Nodes.{node_count, branch_count}
 use Rattle.node_binding.specs.Cuts.{cut}
 use Rattle.node_binding.specs.Bindings.{opened_in, id_in}
-use Rattle.cdp_messages.specs.Tokens.{data_tokens}
+use Rattle.dom_objects.specs.Tokens.{data_tokens}
 use Rattle.dom_agent.proofs.WritingLemmas.{nodes_data, with_left}
 use Rattle.dom_agent.proofs.told.+write_shown.Given as goal
 

@@ -1,10 +1,10 @@
 use Rattle.std.proofs.Common.{refl, ◌∙◌}
 use Rattle.node_binding.specs.Bindings.{opened_in, id_in}
-use Rattle.cdp_messages.specs.Told.{told_branch}
-use Rattle.cdp_messages.specs.NodeData.{tree_data}
-use Rattle.cdp_messages.specs.declared.node_writer.NodeMessage.TheVariants as message
+use Rattle.dom_objects.specs.Told.{told_branch}
+use Rattle.dom_objects.specs.NodeData.{tree_data}
+use Rattle.cdp_messages.specs.declared.node_message.NodeMessage.TheVariants as message
 use Rattle.cdp_messages.specs.NodeWrites.{message_with}
-use Rattle.cdp_messages.specs.Moves.{root}
+use Rattle.client_views.specs.Moves.{root}
 use Rattle.dom_agent.specs.Requests.{shown}
 use Rattle.dom_agent.proofs.FrameLemmas.{move_written}
 use Rattle.dom_agent.proofs.told.tell_root.Goals as goal

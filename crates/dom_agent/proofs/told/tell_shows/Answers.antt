@@ -1,9 +1,9 @@
 use Rattle.std.proofs.Common.{refl, ◌∙◌}
 use Rattle.node_binding.specs.Cuts.{cut}
 use Rattle.node_binding.specs.Bindings.{opened_in, id_in}
-use Rattle.cdp_messages.specs.declared.node_writer.NodeMessage.TheVariants as message
+use Rattle.cdp_messages.specs.declared.node_message.NodeMessage.TheVariants as message
 use Rattle.cdp_messages.specs.NodeWrites.{message_with}
-use Rattle.cdp_messages.specs.Moves.{shows, change}
+use Rattle.client_views.specs.Moves.{shows, change}
 use Rattle.dom_agent.proofs.WritingLemmas.{nodes_data}
 use Rattle.dom_agent.proofs.FrameLemmas.{move_written}
 use Rattle.dom_agent.proofs.told.tell_shows.Goals as goal

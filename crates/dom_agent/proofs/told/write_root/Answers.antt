@@ -1,8 +1,8 @@
 use Rattle.node_binding.specs.Bindings.{opened_in, id_in}
-use Rattle.cdp_messages.specs.Told.{told_branch}
-use Rattle.cdp_messages.specs.NodeData.{tree_data}
-use Rattle.cdp_messages.specs.declared.node_writer.NodeMessage.TheVariants as message
-use Rattle.cdp_messages.proofs.TokenLists.{message_written}
+use Rattle.dom_objects.specs.Told.{told_branch}
+use Rattle.dom_objects.specs.NodeData.{tree_data}
+use Rattle.cdp_messages.specs.declared.node_message.NodeMessage.TheVariants as message
+use Rattle.cdp_messages.proofs.MessageTokens.{message_written}
 use Rattle.dom_agent.specs.Requests.{shown}
 use Rattle.dom_agent.proofs.told.write_root.Goals as goal
 

@@ -1,7 +1,7 @@
 use Rattle.node_binding.specs.Cuts.{cut}
 use Rattle.node_binding.specs.Bindings.{opened_in, id_in}
-use Rattle.cdp_messages.specs.declared.node_writer.NodeMessage.TheVariants as message
-use Rattle.cdp_messages.proofs.TokenLists.{message_written}
+use Rattle.cdp_messages.specs.declared.node_message.NodeMessage.TheVariants as message
+use Rattle.cdp_messages.proofs.MessageTokens.{message_written}
 use Rattle.dom_agent.proofs.WritingLemmas.{nodes_data}
 use Rattle.dom_agent.proofs.told.write_shows.Goals as goal
 

@@ -1,4 +1,4 @@
-use Rattle.cdp_messages.specs.NodeWrites.{told_by}
+use Rattle.dom_objects.specs.NodeRows.{told_by}
 use Rattle.dom_agent.proofs.WritingLemmas.{unopened_written}
 use Rattle.dom_agent.proofs.told.write_unopened.Goals as goal
 

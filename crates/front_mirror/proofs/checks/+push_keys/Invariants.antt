@@ -1,7 +1,7 @@
 use Rattle.std.proofs.Common.{◌≡◌, ◌++◌, drop}
 use Rattle.node_tree.specs.Nodes.{nodes_of, node_count}
 use Rattle.front_mirror.specs.Shown.{told_id, told_serial}
-use Rattle.cdp_messages.specs.Views.{keys}
+use Rattle.client_views.specs.Views.{keys}
 use Rattle.front_mirror.proofs.checks.+push_keys.Given as goal
 
 abbrev pub decreases-push_keys : goal.decreases-push_keys

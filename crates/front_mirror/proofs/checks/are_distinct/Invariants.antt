@@ -1,7 +1,7 @@
 use Rattle.std.proofs.Common.{◌≡◌, ℕ, take, true}
 use Rattle.std.specs.BTreeSet.{contains}
 use Rattle.std.specs.Ordering.{nat_cmp}
-use Rattle.cdp_messages.specs.Views.{is_in, is_distinct}
+use Rattle.client_views.specs.Views.{is_in, is_distinct}
 use Rattle.front_mirror.proofs.checks.are_distinct.Given as goal
 
 abbrev pub invariant-loop-number : goal.invariant-loop-number

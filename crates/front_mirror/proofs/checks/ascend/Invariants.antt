@@ -1,6 +1,6 @@
 -- The numbers so far are distinct, and none is above the last.
 use Rattle.std.proofs.Common.{◌≡◌, ◌≤◌, ℕ, take, true}
-use Rattle.cdp_messages.specs.Views.{is_in, is_distinct}
+use Rattle.client_views.specs.Views.{is_in, is_distinct}
 use Rattle.front_mirror.proofs.checks.ascend.Given as goal
 
 abbrev pub invariant-loop-number : goal.invariant-loop-number

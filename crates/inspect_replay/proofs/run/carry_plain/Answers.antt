@@ -1,5 +1,5 @@
 -- A line that shows no matched styles is carried out, and prints what it prints.
-use Rattle.std.proofs.Common.{refl, ap, subst}
+use Rattle.std.proofs.Common.{rules, refl, ap, subst}
 use Rattle.page_forms.specs.Pages.{loaded_page}
 use Rattle.replay_script.specs.Forms as forms
 use Rattle.replay_script.specs.Forms.{load, ask, up, down, settle, show_front, show_page, show_sheets, show_replies, show_pauses}
@@ -32,139 +32,152 @@ carry_raw-requires-clause-text g c = (subst IsLater (ap seen c.in-Raw.is) c.requ
 pub carry_raw-requires-clause-bare : goal.carry_raw-requires-clause-bare
 carry_raw-requires-clause-bare g c = (subst IsLater (ap seen c.in-Raw.is) c.requires.later).1
 
-pub returns-in-Load-clause-runs : goal.returns-in-Load-clause-runs
-returns-in-Load-clause-runs g c =
-    spend-carries c.load_page.result _ _ _ _ _ _ _ c.args.ends.now c.load_page.new.self
-    (λ w. turned run_turn (loads (loaded_page c.in-Load.page)) w) c.args.number
-    (load (loaded_page c.in-Load.page)) (seen c.args.line) (subst IsLater (ap seen c.in-Load.is) c.requires.later) (λ w. refl) (λ w. refl)
-    (λ w. refl) (λ w. refl) (ap seen c.in-Load.is) c.load_page.ensures.steps
+pub returns-in-Load : goal.returns-in-Load
+returns-in-Load g c = record {
+  honest = search rules;
+  cause = search rules;
+  follows = c.load_page.ensures.follows;
+  some = none-printed c.load_page.result _;
+  runs = spend-carries c.load_page.result _ _ _ _ _ _ _ c.args.ends.now c.load_page.new.self
+      (λ w. turned run_turn (loads (loaded_page c.in-Load.page)) w) c.args.number
+      (load (loaded_page c.in-Load.page)) (seen c.args.line) (subst IsLater (ap seen c.in-Load.is) c.requires.later) (λ w. refl) (λ w. refl)
+      (λ w. refl) (λ w. refl) (ap seen c.in-Load.is) c.load_page.ensures.steps;
+}
 
-pub returns-in-Act-clause-runs : goal.returns-in-Act-clause-runs
-returns-in-Act-clause-runs g c =
-    same-carries c.carry_act.result _ _ _ _ _ _ _ _ c.args.ends.now c.carry_act.new.ends c.args.number (forms.act c.in-Act.act)
-    (seen c.args.line) (ap seen c.in-Act.is) c.carry_act.ensures.runs
+pub returns-in-Act : goal.returns-in-Act
+returns-in-Act g c = record {
+  honest = search rules;
+  cause = search rules;
+  follows = c.carry_act.ensures.follows;
+  some = c.carry_act.ensures.some;
+  runs = same-carries c.carry_act.result _ _ _ _ _ _ _ _ c.args.ends.now c.carry_act.new.ends c.args.number (forms.act c.in-Act.act)
+      (seen c.args.line) (ap seen c.in-Act.is) c.carry_act.ensures.runs;
+}
 
-pub returns-in-Ask-clause-runs : goal.returns-in-Ask-clause-runs
-returns-in-Ask-clause-runs g c =
-    spend-carries c.carry_ask.result _ _ _ _ _ _ _ c.args.ends.now c.carry_ask.new.ends (λ w. sends (seen_ask c.in-Ask.ask) w) c.args.number
-    (ask (seen_ask c.in-Ask.ask)) (seen c.args.line) (subst IsLater (ap seen c.in-Ask.is) c.requires.later) (λ w. refl) (λ w. refl)
-    (λ w. refl) (λ w. refl) (ap seen c.in-Ask.is) c.carry_ask.ensures.steps
+pub returns-in-Ask : goal.returns-in-Ask
+returns-in-Ask g c = record {
+  honest = search rules;
+  cause = search rules;
+  follows = λ state0 up0 down0 run. c.carry_ask.ensures.follows state0 up0 down0
+      (run-fewer state0 up0 down0 _ _ c.args.ends.now run);
+  some = none-printed c.carry_ask.result _;
+  runs = spend-carries c.carry_ask.result _ _ _ _ _ _ _ c.args.ends.now c.carry_ask.new.ends (λ w. sends (seen_ask c.in-Ask.ask) w)
+      c.args.number
+      (ask (seen_ask c.in-Ask.ask)) (seen c.args.line) (subst IsLater (ap seen c.in-Ask.is) c.requires.later) (λ w. refl) (λ w. refl)
+      (λ w. refl) (λ w. refl) (ap seen c.in-Ask.is) c.carry_ask.ensures.steps;
+}
 
-pub returns-in-Raw-clause-runs : goal.returns-in-Raw-clause-runs
-returns-in-Raw-clause-runs g c =
-    spend-carries c.carry_raw.result _ _ _ _ _ _ _ c.args.ends.now c.carry_raw.new.ends (λ w. raw c.in-Raw.text w) c.args.number
-    (forms.raw c.in-Raw.text) (seen c.args.line) (subst IsLater (ap seen c.in-Raw.is) c.requires.later) (λ w. refl) (λ w. refl) (λ w. refl)
-    (λ w. refl) (ap seen c.in-Raw.is) c.carry_raw.ensures.steps
+pub returns-in-Raw : goal.returns-in-Raw
+returns-in-Raw g c = record {
+  honest = search rules;
+  cause = search rules;
+  follows = λ state0 up0 down0 run. c.carry_raw.ensures.follows state0 up0 down0
+      (run-fewer state0 up0 down0 _ _ c.args.ends.now run);
+  some = none-printed c.carry_raw.result _;
+  runs = spend-carries c.carry_raw.result _ _ _ _ _ _ _ c.args.ends.now c.carry_raw.new.ends (λ w. raw c.in-Raw.text w) c.args.number
+      (forms.raw c.in-Raw.text) (seen c.args.line) (subst IsLater (ap seen c.in-Raw.is) c.requires.later) (λ w. refl) (λ w. refl)
+      (λ w. refl)
+      (λ w. refl) (ap seen c.in-Raw.is) c.carry_raw.ensures.steps;
+}
 
-pub returns-in-Up-clause-runs : goal.returns-in-Up-clause-runs
-returns-in-Up-clause-runs g c =
-    move-carries c.deliver_up.result _ _ _ _ _ _ _ c.args.ends.now c.deliver_up.new.self
-    (λ w. delivered_up run_step c.in-Up.n w) c.args.number (up c.in-Up.n) (seen c.args.line)
-    (subst IsLater (ap seen c.in-Up.is) c.requires.later) (λ w. refl) (λ w. refl) (λ w. refl) (λ w. refl)
-    (ap seen c.in-Up.is) c.deliver_up.ensures.steps
+pub returns-in-Up : goal.returns-in-Up
+returns-in-Up g c = record {
+  honest = search rules;
+  cause = search rules;
+  follows = λ state0 up0 down0 run. c.deliver_up.ensures.follows state0 up0 down0
+      (run-fewer state0 up0 down0 _ _ c.args.ends.now run);
+  some = none-printed c.deliver_up.result _;
+  runs = move-carries c.deliver_up.result _ _ _ _ _ _ _ c.args.ends.now c.deliver_up.new.self
+      (λ w. delivered_up run_step c.in-Up.n w) c.args.number (up c.in-Up.n) (seen c.args.line)
+      (subst IsLater (ap seen c.in-Up.is) c.requires.later) (λ w. refl) (λ w. refl) (λ w. refl) (λ w. refl)
+      (ap seen c.in-Up.is) c.deliver_up.ensures.steps;
+}
 
-pub returns-in-Down-clause-runs : goal.returns-in-Down-clause-runs
-returns-in-Down-clause-runs g c =
-    move-carries c.deliver_down.result _ _ _ _ _ _ _ c.args.ends.now c.deliver_down.new.self
-    (λ w. delivered_down c.in-Down.n w) c.args.number (down c.in-Down.n) (seen c.args.line)
-    (subst IsLater (ap seen c.in-Down.is) c.requires.later) (λ w. refl) (λ w. refl) (λ w. refl) (λ w. refl)
-    (ap seen c.in-Down.is) c.deliver_down.ensures.steps
+pub returns-in-Down : goal.returns-in-Down
+returns-in-Down g c = record {
+  honest = search rules;
+  cause = search rules;
+  follows = λ state0 up0 down0 run. c.deliver_down.ensures.follows state0 up0 down0
+      (run-fewer state0 up0 down0 _ _ c.args.ends.now run);
+  some = none-printed c.deliver_down.result _;
+  runs = move-carries c.deliver_down.result _ _ _ _ _ _ _ c.args.ends.now c.deliver_down.new.self
+      (λ w. delivered_down c.in-Down.n w) c.args.number (down c.in-Down.n) (seen c.args.line)
+      (subst IsLater (ap seen c.in-Down.is) c.requires.later) (λ w. refl) (λ w. refl) (λ w. refl) (λ w. refl)
+      (ap seen c.in-Down.is) c.deliver_down.ensures.steps;
+}
 
-pub returns-in-Settle-clause-runs : goal.returns-in-Settle-clause-runs
-returns-in-Settle-clause-runs g c =
-    spend-carries c.settle.result _ _ _ _ _ _ _ c.args.ends.now c.settle.new.self (refreshes front_fetcher) c.args.number settle
-    (seen c.args.line)
-    tt (λ w. refl) refreshed-told (λ w. refl) (λ w. refl) (ap seen c.in-Settle.is)
-    (settles-spend c.settle.result _ _ _ _ _ _ c.args.ends.now c.settle.new.self c.settle.ensures.steps)
+pub returns-in-Settle : goal.returns-in-Settle
+returns-in-Settle g c = record {
+  honest = search rules;
+  cause = search rules;
+  follows = λ state0 up0 down0 run. c.settle.ensures.follows state0 up0 down0
+      (run-fewer state0 up0 down0 _ _ c.args.ends.now run);
+  some = none-printed c.settle.result _;
+  runs = spend-carries c.settle.result _ _ _ _ _ _ _ c.args.ends.now c.settle.new.self (refreshes front_fetcher) c.args.number settle
+      (seen c.args.line)
+      tt (λ w. refl) refreshed-told (λ w. refl) (λ w. refl) (ap seen c.in-Settle.is)
+      (settles-spend c.settle.result _ _ _ _ _ _ c.args.ends.now c.settle.new.self c.settle.ensures.steps);
+}
 
-pub returns-in-ShowFront-clause-runs : goal.returns-in-ShowFront-clause-runs
-returns-in-ShowFront-clause-runs g c =
-    same-carries c.show_front.result _ _ _ _ _ _ _ _ c.args.ends.now c.show_front.new.ends c.args.number show_front (seen c.args.line)
-    (ap seen c.in-ShowFront.is) (c.show_front.ensures.runs c.args.number)
+pub returns-in-ShowFront : goal.returns-in-ShowFront
+returns-in-ShowFront g c = record {
+  honest = search rules;
+  cause = search rules;
+  follows = λ state0 up0 down0 run. c.show_front.ensures.follows state0 up0 down0
+      (run-fewer state0 up0 down0 _ _ c.args.ends.now run);
+  some = c.show_front.ensures.some;
+  runs = same-carries c.show_front.result _ _ _ _ _ _ _ _ c.args.ends.now c.show_front.new.ends c.args.number show_front (seen c.args.line)
+      (ap seen c.in-ShowFront.is) (c.show_front.ensures.runs c.args.number);
+}
 
-pub returns-in-ShowPage-clause-runs : goal.returns-in-ShowPage-clause-runs
-returns-in-ShowPage-clause-runs g c =
-    same-carries c.print_page.result _ _ _ _ _ _ _ _ c.args.ends.now c.args.ends.now c.args.number show_page (seen c.args.line)
-    (ap seen c.in-ShowPage.is)
-    (page-carries c.print_page.result _ _ _ _ _ c.args.ends.now c.args.number c.page.result.now c.page.ensures c.print_page.ensures.never
-    c.print_page.ensures.ok c.print_page.ensures.err)
+pub returns-in-ShowPage : goal.returns-in-ShowPage
+returns-in-ShowPage g c = record {
+  honest = search rules;
+  cause = search rules;
+  follows = λ state0 up0 down0 run.
+      kept-run c.print_page.result state0 up0 down0 _ _ c.args.ends.now c.print_page.ensures.never
+      (run-fewer state0 up0 down0 _ _ c.args.ends.now run);
+  some = some-printed c.print_page.result _ _ _ c.print_page.ensures.ok;
+  runs = same-carries c.print_page.result _ _ _ _ _ _ _ _ c.args.ends.now c.args.ends.now c.args.number show_page (seen c.args.line)
+      (ap seen c.in-ShowPage.is)
+      (page-carries c.print_page.result _ _ _ _ _ c.args.ends.now c.args.number c.page.result.now c.page.ensures c.print_page.ensures.never
+      c.print_page.ensures.ok c.print_page.ensures.err);
+}
 
-pub returns-in-ShowReplies-clause-runs : goal.returns-in-ShowReplies-clause-runs
-returns-in-ShowReplies-clause-runs g c =
-    same-carries c.show_replies.result _ _ _ _ _ _ _ _ c.args.ends.now c.show_replies.new.ends c.args.number show_replies
-    (seen c.args.line) (ap seen c.in-ShowReplies.is) (c.show_replies.ensures.runs c.args.number)
+pub returns-in-ShowReplies : goal.returns-in-ShowReplies
+returns-in-ShowReplies g c = record {
+  honest = search rules;
+  cause = search rules;
+  follows = λ state0 up0 down0 run. c.show_replies.ensures.follows state0 up0 down0
+      (run-fewer state0 up0 down0 _ _ c.args.ends.now run);
+  some = c.show_replies.ensures.some;
+  runs = same-carries c.show_replies.result _ _ _ _ _ _ _ _ c.args.ends.now c.show_replies.new.ends c.args.number show_replies
+      (seen c.args.line) (ap seen c.in-ShowReplies.is) (c.show_replies.ensures.runs c.args.number);
+}
 
-pub returns-in-Load-clause-some : goal.returns-in-Load-clause-some
-returns-in-Load-clause-some g c = none-printed c.load_page.result _
+pub returns-in-ShowSheets : goal.returns-in-ShowSheets
+returns-in-ShowSheets g c = record {
+  honest = search rules;
+  cause = search rules;
+  follows = λ state0 up0 down0 run. c.show_sheets.ensures.follows state0 up0 down0
+      (run-fewer state0 up0 down0 _ _ c.args.ends.now run);
+  some = c.show_sheets.ensures.some;
+  runs = same-carries c.show_sheets.result _ _ _ _ _ _ _ _ c.args.ends.now c.show_sheets.new.ends c.args.number show_sheets
+      (seen c.args.line)
+      (ap seen c.in-ShowSheets.is) (c.show_sheets.ensures.runs c.args.number);
+}
 
-pub returns-in-Ask-clause-some : goal.returns-in-Ask-clause-some
-returns-in-Ask-clause-some g c = none-printed c.carry_ask.result _
-
-pub returns-in-Raw-clause-some : goal.returns-in-Raw-clause-some
-returns-in-Raw-clause-some g c = none-printed c.carry_raw.result _
-
-pub returns-in-Up-clause-some : goal.returns-in-Up-clause-some
-returns-in-Up-clause-some g c = none-printed c.deliver_up.result _
-
-pub returns-in-Down-clause-some : goal.returns-in-Down-clause-some
-returns-in-Down-clause-some g c = none-printed c.deliver_down.result _
-
-pub returns-in-Settle-clause-some : goal.returns-in-Settle-clause-some
-returns-in-Settle-clause-some g c = none-printed c.settle.result _
-
-pub returns-in-ShowPage-clause-some : goal.returns-in-ShowPage-clause-some
-returns-in-ShowPage-clause-some g c = some-printed c.print_page.result _ _ _ c.print_page.ensures.ok
-
-pub returns-in-ShowPage-clause-follows : goal.returns-in-ShowPage-clause-follows
-returns-in-ShowPage-clause-follows g c = λ state0 up0 down0 run.
-    kept-run c.print_page.result state0 up0 down0 _ _ c.args.ends.now c.print_page.ensures.never
-    (run-fewer state0 up0 down0 _ _ c.args.ends.now run)
-
-pub returns-in-Ask-clause-follows : goal.returns-in-Ask-clause-follows
-returns-in-Ask-clause-follows g c = λ state0 up0 down0 run. c.carry_ask.ensures.follows state0 up0 down0
-    (run-fewer state0 up0 down0 _ _ c.args.ends.now run)
-
-pub returns-in-Raw-clause-follows : goal.returns-in-Raw-clause-follows
-returns-in-Raw-clause-follows g c = λ state0 up0 down0 run. c.carry_raw.ensures.follows state0 up0 down0
-    (run-fewer state0 up0 down0 _ _ c.args.ends.now run)
-
-pub returns-in-Up-clause-follows : goal.returns-in-Up-clause-follows
-returns-in-Up-clause-follows g c = λ state0 up0 down0 run. c.deliver_up.ensures.follows state0 up0 down0
-    (run-fewer state0 up0 down0 _ _ c.args.ends.now run)
-
-pub returns-in-Down-clause-follows : goal.returns-in-Down-clause-follows
-returns-in-Down-clause-follows g c = λ state0 up0 down0 run. c.deliver_down.ensures.follows state0 up0 down0
-    (run-fewer state0 up0 down0 _ _ c.args.ends.now run)
-
-pub returns-in-Settle-clause-follows : goal.returns-in-Settle-clause-follows
-returns-in-Settle-clause-follows g c = λ state0 up0 down0 run. c.settle.ensures.follows state0 up0 down0
-    (run-fewer state0 up0 down0 _ _ c.args.ends.now run)
-
-pub returns-in-ShowFront-clause-follows : goal.returns-in-ShowFront-clause-follows
-returns-in-ShowFront-clause-follows g c = λ state0 up0 down0 run. c.show_front.ensures.follows state0 up0 down0
-    (run-fewer state0 up0 down0 _ _ c.args.ends.now run)
-
-pub returns-in-ShowReplies-clause-follows : goal.returns-in-ShowReplies-clause-follows
-returns-in-ShowReplies-clause-follows g c = λ state0 up0 down0 run. c.show_replies.ensures.follows state0 up0 down0
-    (run-fewer state0 up0 down0 _ _ c.args.ends.now run)
-
-pub returns-in-ShowSheets-clause-runs : goal.returns-in-ShowSheets-clause-runs
-returns-in-ShowSheets-clause-runs g c =
-    same-carries c.show_sheets.result _ _ _ _ _ _ _ _ c.args.ends.now c.show_sheets.new.ends c.args.number show_sheets (seen c.args.line)
-    (ap seen c.in-ShowSheets.is) (c.show_sheets.ensures.runs c.args.number)
-
-pub returns-in-ShowSheets-clause-follows : goal.returns-in-ShowSheets-clause-follows
-returns-in-ShowSheets-clause-follows g c = λ state0 up0 down0 run. c.show_sheets.ensures.follows state0 up0 down0
-    (run-fewer state0 up0 down0 _ _ c.args.ends.now run)
-
-pub returns-in-ShowPauses-clause-runs : goal.returns-in-ShowPauses-clause-runs
-returns-in-ShowPauses-clause-runs g c =
-    same-carries c.show_pauses.result _ _ _ _ _ _ _ _ c.args.ends.now c.show_pauses.new.ends c.args.number show_pauses (seen c.args.line)
-    (ap seen c.in-ShowPauses.is) (c.show_pauses.ensures.runs c.args.number)
-
-pub returns-in-ShowPauses-clause-follows : goal.returns-in-ShowPauses-clause-follows
-returns-in-ShowPauses-clause-follows g c = λ state0 up0 down0 run. c.show_pauses.ensures.follows state0 up0 down0
-    (run-fewer state0 up0 down0 _ _ c.args.ends.now run)
+pub returns-in-ShowPauses : goal.returns-in-ShowPauses
+returns-in-ShowPauses g c = record {
+  honest = search rules;
+  cause = search rules;
+  follows = λ state0 up0 down0 run. c.show_pauses.ensures.follows state0 up0 down0
+      (run-fewer state0 up0 down0 _ _ c.args.ends.now run);
+  some = c.show_pauses.ensures.some;
+  runs = same-carries c.show_pauses.result _ _ _ _ _ _ _ _ c.args.ends.now c.show_pauses.new.ends c.args.number show_pauses
+      (seen c.args.line)
+      (ap seen c.in-ShowPauses.is) (c.show_pauses.ensures.runs c.args.number);
+}
 
 pub unreachable-requires : goal.unreachable-requires
 unreachable-requires g c =

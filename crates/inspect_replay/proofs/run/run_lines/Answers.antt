@@ -1,6 +1,6 @@
 -- Each line is carried out in its turn.
 use Rattle.pipe_frames.proofs.WholeLemmas.{Appends-nil}
-use Rattle.std.proofs.Common.{◌≡◌, suc, refl, [], ◌∷◌, ap, arith, length}
+use Rattle.std.proofs.Common.{rules, ◌≡◌, suc, refl, [], ◌∷◌, ap, arith, length}
 use Rattle.replay_script.specs.Seen.{seen}
 use Rattle.inspect_world.specs.Costs.{line_bytes}
 use Rattle.inspect_world.specs.Links.{run_started}
@@ -37,33 +37,72 @@ pub carry_out-carried-requires : goal.carry_out-carried-requires
 carry_out-carried-requires g c = later_line c.loop-text.number c.in-Some.text.now
     (seen c.in-Ok.line) c.in-Ok.ensures.good c.in-Ok.ensures.form
 
-pub returns-in-Err-clause-runs : goal.returns-in-Err-clause-runs
-returns-in-Err-clause-runs g c = λ up0 down0 w play.
-    let stops = read-stops c.in-Err.stop _ up0 down0 _ _ (g.K.Sink.taken c.args.out.now) (g.K.Sink.taken c.loop-text.out)
-    (whole_of c.args.lines w) c.loop-text.number c.in-Some.text.now c.next_line.new.lines c.loop-text.ends
-    (with_lines _ up0 down0 _ _ _ _ _ c.loop-text.number c.loop-text.lines
-    (c.in-Some.text.now ∷ c.next_line.new.lines) c.loop-text.ends c.in-Some.ensures.some
-    (c.loop-text.invariant.5 up0 down0 w play)) c.in-Err.ensures.bad in
-    (tt, stops.0, stops.1)
+pub returns-in-Err : goal.returns-in-Err
+returns-in-Err g c = record {
+  honest = search rules;
+  cause = search rules;
+  follows = λ state0 up0 down0 run.
+      let before = carried-lines state0 up0 down0 (g.L.Link.up c.loop-text.link)
+      (g.L.Link.down c.loop-text.link) c.args.lines c.loop-text.number c.loop-text.lines
+      (c.in-Some.text.now ∷ c.next_line.new.lines) c.loop-text.ends
+      c.in-Some.ensures.some (c.loop-text.invariant.6 state0 up0 down0 run) in (
+        tt,
+        read-folds c.in-Err.stop c.loop-text.number _
+            (fold_since up0 down0 (g.L.Link.up c.loop-text.link) (g.L.Link.down c.loop-text.link)) c.in-Err.ensures.bad
+            (run-good (run_started state0 (length (c.in-Some.text.now ∷ c.next_line.new.lines)) before.shown) up0 down0
+            (g.L.Link.up c.loop-text.link) (g.L.Link.down c.loop-text.link) c.loop-text.ends before.run),
+        read-tells c.in-Err.stop state0 up0 down0 _ _ c.args.lines c.loop-text.number c.in-Some.text.now c.next_line.new.lines
+            c.loop-text.ends before c.in-Err.ensures.bad,
+      );
+  some = tt;
+  runs = λ up0 down0 w play.
+      let stops = read-stops c.in-Err.stop _ up0 down0 _ _ (g.K.Sink.taken c.args.out.now) (g.K.Sink.taken c.loop-text.out)
+      (whole_of c.args.lines w) c.loop-text.number c.in-Some.text.now c.next_line.new.lines c.loop-text.ends
+      (with_lines _ up0 down0 _ _ _ _ _ c.loop-text.number c.loop-text.lines
+      (c.in-Some.text.now ∷ c.next_line.new.lines) c.loop-text.ends c.in-Some.ensures.some
+      (c.loop-text.invariant.5 up0 down0 w play)) c.in-Err.ensures.bad in
+      (tt, stops.0, stops.1);
+}
 
-pub returns-in-Err-carried-clause-runs : goal.returns-in-Err-carried-clause-runs
-returns-in-Err-carried-clause-runs g c = λ up0 down0 w play.
-    let more = c.next_line.new.lines in
-    let running = with_lines (g.L.Link.honest c.loop-text.link) up0 down0 (g.L.Link.up c.loop-text.link) (g.L.Link.down c.loop-text.link)
-    (g.K.Sink.taken c.args.out.now) (g.K.Sink.taken c.loop-text.out) (whole_of c.args.lines w)
-    c.loop-text.number c.loop-text.lines (c.in-Some.text.now ∷ more) c.loop-text.ends c.in-Some.ensures.some
-    (c.loop-text.invariant.5 up0 down0 w play) in
-    let carried = (c.in-Err-carried.ensures {u = tt}).runs up0 down0 (line_bytes more) running.world
-    (run-later _ up0 down0 _ _ c.in-Some.text.now more
-    (seen c.in-Ok.line) running.world c.loop-text.ends c.in-Ok.ensures.form running.in_play) in
-    let stops = run-stops (g.L.Link.honest c.loop-text.link) (g.L.Link.honest c.carry_out-carried.new.link) up0 down0
-    (g.L.Link.up c.loop-text.link) (g.L.Link.down c.loop-text.link)
-    (g.L.Link.up c.carry_out-carried.new.link) (g.L.Link.down c.carry_out-carried.new.link)
-    (g.K.Sink.taken c.args.out.now) (g.K.Sink.taken c.loop-text.out) (g.K.Sink.taken c.carry_out-carried.new.out)
-    (whole_of c.args.lines w) c.loop-text.number c.in-Some.text.now more (seen c.in-Ok.line)
-    c.loop-text.ends c.carry_out-carried.new.ends running c.in-Ok.ensures.good c.in-Ok.ensures.form c.in-Err-carried.stop carried.1
-    carried.2 in
-    (tt, stops.0, stops.1)
+pub returns-in-Err-carried : goal.returns-in-Err-carried
+returns-in-Err-carried g c = record {
+  honest = search rules;
+  cause = search rules;
+  follows = λ state0 up0 down0 run.
+      let more = c.next_line.new.lines in
+      let before = carried-lines state0 up0 down0 (g.L.Link.up c.loop-text.link)
+      (g.L.Link.down c.loop-text.link) c.args.lines c.loop-text.number c.loop-text.lines (c.in-Some.text.now ∷ more) c.loop-text.ends
+      c.in-Some.ensures.some (c.loop-text.invariant.6 state0 up0 down0 run) in
+      let line = run-line state0 before.shown up0 down0 _ _ c.loop-text.ends
+      (c.in-Some.text.now ∷ more) c.in-Some.text.now more refl before.run in
+      let stops = c.in-Err-carried.ensures {u = tt} in (
+        tt,
+        (stops.plays.follows (run_started state0 (length more) before.shown) up0 down0 line).1,
+        line-stops c.in-Err-carried.stop state0 up0 down0 _ _
+            (fold_since up0 down0 (g.L.Link.up c.carry_out-carried.new.link)
+            (g.L.Link.down c.carry_out-carried.new.link)) c.args.lines c.loop-text.number
+            c.in-Some.text.now more (seen c.in-Ok.line) c.loop-text.ends before c.in-Ok.ensures.good c.in-Ok.ensures.form
+            (stops.tells (run_started state0 (length more) before.shown) up0 down0 line),
+      );
+  some = tt;
+  runs = λ up0 down0 w play.
+      let more = c.next_line.new.lines in
+      let running = with_lines (g.L.Link.honest c.loop-text.link) up0 down0 (g.L.Link.up c.loop-text.link) (g.L.Link.down c.loop-text.link)
+      (g.K.Sink.taken c.args.out.now) (g.K.Sink.taken c.loop-text.out) (whole_of c.args.lines w)
+      c.loop-text.number c.loop-text.lines (c.in-Some.text.now ∷ more) c.loop-text.ends c.in-Some.ensures.some
+      (c.loop-text.invariant.5 up0 down0 w play) in
+      let carried = (c.in-Err-carried.ensures {u = tt}).plays.runs up0 down0 (line_bytes more) running.world
+      (run-later _ up0 down0 _ _ c.in-Some.text.now more
+      (seen c.in-Ok.line) running.world c.loop-text.ends c.in-Ok.ensures.form running.in_play) in
+      let stops = run-stops (g.L.Link.honest c.loop-text.link) (g.L.Link.honest c.carry_out-carried.new.link) up0 down0
+      (g.L.Link.up c.loop-text.link) (g.L.Link.down c.loop-text.link)
+      (g.L.Link.up c.carry_out-carried.new.link) (g.L.Link.down c.carry_out-carried.new.link)
+      (g.K.Sink.taken c.args.out.now) (g.K.Sink.taken c.loop-text.out) (g.K.Sink.taken c.carry_out-carried.new.out)
+      (whole_of c.args.lines w) c.loop-text.number c.in-Some.text.now more (seen c.in-Ok.line)
+      c.loop-text.ends c.carry_out-carried.new.ends running c.in-Ok.ensures.good c.in-Ok.ensures.form c.in-Err-carried.stop carried.1
+      carried.2 in
+      (tt, stops.0, stops.1);
+}
 
 pub loop-text-preserved : goal.loop-text-preserved
 loop-text-preserved g c =
@@ -73,9 +112,9 @@ loop-text-preserved g c =
     let carried = c.in-Ok-carried.ensures {u = c.in-Ok-carried.field-0} in (
       omega (arith, c.loop-text.invariant.0),
       omega (arith, c.loop-text.invariant.1, count),
-      (λ h. c.carry_out-carried.ensures.honest (c.loop-text.invariant.2 h)),
-      omega (arith, c.loop-text.invariant.3, carried.cause.sink_later),
-      omega (arith, c.loop-text.invariant.4, carried.cause.link_later),
+      (λ h. c.carry_out-carried.ensures.plays.honest (c.loop-text.invariant.2 h)),
+      omega (arith, c.loop-text.invariant.3, carried.plays.cause.sink_later),
+      omega (arith, c.loop-text.invariant.4, carried.plays.cause.link_later),
       λ up0 down0 w play.
           run-on (g.L.Link.honest c.loop-text.link) (g.L.Link.honest c.carry_out-carried.new.link) up0 down0
           (g.L.Link.up c.loop-text.link) (g.L.Link.down c.loop-text.link) (g.L.Link.up c.carry_out-carried.new.link)
@@ -84,7 +123,7 @@ loop-text-preserved g c =
           c.in-Some.text.now more form c.loop-text.ends c.carry_out-carried.new.ends
           (with_lines _ up0 down0 _ _ _ _ _ c.loop-text.number c.loop-text.lines
           (c.in-Some.text.now ∷ more) c.loop-text.ends c.in-Some.ensures.some (c.loop-text.invariant.5 up0 down0 w play))
-          c.in-Ok.ensures.good c.in-Ok.ensures.form carried.runs,
+          c.in-Ok.ensures.good c.in-Ok.ensures.form carried.plays.runs,
       λ state0 up0 down0 run.
           let before = carried-lines state0 up0 down0 (g.L.Link.up c.loop-text.link)
           (g.L.Link.down c.loop-text.link) c.args.lines c.loop-text.number c.loop-text.lines
@@ -97,57 +136,28 @@ loop-text-preserved g c =
           (moment (g.L.Link.honest c.carry_out-carried.new.link) (g.L.Link.up c.carry_out-carried.new.link)
           (g.L.Link.down c.carry_out-carried.new.link) c.carry_out-carried.new.ends)
           c.args.lines c.loop-text.number c.in-Some.text.now more form before c.in-Ok.ensures.good c.in-Ok.ensures.form
-          (carried.follows (run_started state0 (length more) before.shown) up0 down0 line).0
+          (carried.plays.follows (run_started state0 (length more) before.shown) up0 down0 line).0
           (ok-lacks c.loop-text.number _ (carried.tells (run_started state0 (length more) before.shown) up0 down0 line).0),
-      more-printed _ (g.K.Sink.taken c.loop-text.out) _ c.loop-text.invariant.7 carried.some,
+      more-printed _ (g.K.Sink.taken c.loop-text.out) _ c.loop-text.invariant.7 carried.plays.some,
     )
 
-pub returns-clause-runs : goal.returns-clause-runs
-returns-clause-runs g c = λ up0 down0 w play.
-    lines-done (g.L.Link.honest c.loop-text.link) up0 down0 (g.L.Link.up c.loop-text.link) (g.L.Link.down c.loop-text.link)
-    (g.K.Sink.taken c.args.out.now) (g.K.Sink.taken c.loop-text.out) _ c.loop-text.number c.loop-text.lines c.loop-text.ends
-    (c.loop-text.invariant.5 up0 down0 w play) ((c.in_default.ensures {u = tt}).none refl)
-
-pub returns-in-Err-clause-follows : goal.returns-in-Err-clause-follows
-returns-in-Err-clause-follows g c = λ state0 up0 down0 run.
-    let before = carried-lines state0 up0 down0 (g.L.Link.up c.loop-text.link)
-    (g.L.Link.down c.loop-text.link) c.args.lines c.loop-text.number c.loop-text.lines
-    (c.in-Some.text.now ∷ c.next_line.new.lines) c.loop-text.ends
-    c.in-Some.ensures.some (c.loop-text.invariant.6 state0 up0 down0 run) in (
-      tt,
-      read-folds c.in-Err.stop c.loop-text.number _
-          (fold_since up0 down0 (g.L.Link.up c.loop-text.link) (g.L.Link.down c.loop-text.link)) c.in-Err.ensures.bad
-          (run-good (run_started state0 (length (c.in-Some.text.now ∷ c.next_line.new.lines)) before.shown) up0 down0
-          (g.L.Link.up c.loop-text.link) (g.L.Link.down c.loop-text.link) c.loop-text.ends before.run),
-      read-tells c.in-Err.stop state0 up0 down0 _ _ c.args.lines c.loop-text.number c.in-Some.text.now c.next_line.new.lines
-          c.loop-text.ends before c.in-Err.ensures.bad,
-    )
-
-pub returns-in-Err-carried-clause-follows : goal.returns-in-Err-carried-clause-follows
-returns-in-Err-carried-clause-follows g c = λ state0 up0 down0 run.
-    let more = c.next_line.new.lines in
-    let before = carried-lines state0 up0 down0 (g.L.Link.up c.loop-text.link)
-    (g.L.Link.down c.loop-text.link) c.args.lines c.loop-text.number c.loop-text.lines (c.in-Some.text.now ∷ more) c.loop-text.ends
-    c.in-Some.ensures.some (c.loop-text.invariant.6 state0 up0 down0 run) in
-    let line = run-line state0 before.shown up0 down0 _ _ c.loop-text.ends
-    (c.in-Some.text.now ∷ more) c.in-Some.text.now more refl before.run in
-    let stops = c.in-Err-carried.ensures {u = tt} in (
-      tt,
-      (stops.follows (run_started state0 (length more) before.shown) up0 down0 line).1,
-      line-stops c.in-Err-carried.stop state0 up0 down0 _ _
-          (fold_since up0 down0 (g.L.Link.up c.carry_out-carried.new.link)
-          (g.L.Link.down c.carry_out-carried.new.link)) c.args.lines c.loop-text.number
-          c.in-Some.text.now more (seen c.in-Ok.line) c.loop-text.ends before c.in-Ok.ensures.good c.in-Ok.ensures.form
-          (stops.tells (run_started state0 (length more) before.shown) up0 down0 line),
-    )
-
-pub returns-clause-follows : goal.returns-clause-follows
-returns-clause-follows g c = λ state0 up0 down0 run.
-    let new = moment (g.L.Link.honest c.loop-text.link) (g.L.Link.up c.loop-text.link) (g.L.Link.down c.loop-text.link) c.loop-text.ends in
-    let all = carried-all state0 up0 down0 new c.args.lines c.loop-text.number c.loop-text.lines
-    ((c.in_default.ensures {u = tt}).none refl) (c.loop-text.invariant.6 state0 up0 down0 run) in (
-      all,
-      run-good (run_started state0 0 all.shown) up0 down0 (g.L.Link.up c.loop-text.link)
-          (g.L.Link.down c.loop-text.link) c.loop-text.ends all.run,
-      carried-tells state0 up0 down0 new c.args.lines all,
-    )
+pub returns : goal.returns
+returns g c = record {
+  honest = search rules;
+  cause = search rules;
+  follows = λ state0 up0 down0 run.
+      let new = record (moment (g.L.Link.honest c.loop-text.link) (g.L.Link.up c.loop-text.link) (g.L.Link.down c.loop-text.link)
+      c.loop-text.ends) { faults = g.L.Link.faults c.loop-text.link } in
+      let all = carried-all state0 up0 down0 new c.args.lines c.loop-text.number c.loop-text.lines
+      ((c.in_default.ensures {u = tt}).none refl) (c.loop-text.invariant.6 state0 up0 down0 run) in (
+        all,
+        run-good (run_started state0 0 all.shown) up0 down0 (g.L.Link.up c.loop-text.link)
+            (g.L.Link.down c.loop-text.link) c.loop-text.ends all.run,
+        carried-tells state0 up0 down0 new c.args.lines all,
+      );
+  some = c.loop-text.invariant.7;
+  runs = λ up0 down0 w play.
+      lines-done (g.L.Link.honest c.loop-text.link) up0 down0 (g.L.Link.up c.loop-text.link) (g.L.Link.down c.loop-text.link)
+      (g.K.Sink.taken c.args.out.now) (g.K.Sink.taken c.loop-text.out) _ c.loop-text.number c.loop-text.lines c.loop-text.ends
+      (c.loop-text.invariant.5 up0 down0 w play) ((c.in_default.ensures {u = tt}).none refl);
+}

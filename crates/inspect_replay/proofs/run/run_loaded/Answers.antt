@@ -16,20 +16,9 @@ pub returns-in-Ok-clause-took : goal.returns-in-Ok-clause-took
 returns-in-Ok-clause-took g c = λ honest up_level down_level.
     let page = loaded_page c.args.form in
     let w = loaded_world page in
-    let first = c.in_ok-ends.ensures in
     let run = begins (g.L.Link.honest c.args.link.now) (g.L.Link.up c.args.link.now)
     (g.L.Link.down c.args.link.now) page c.in_ok-ends.ends honest c.requires.can c.requires.texts up_level down_level
-    (record {
-      page_is = first.page;
-      sheets_are = first.sheets;
-      next_is = first.numbers;
-      off = first.off;
-      css = first.css;
-      agent_is = first.agent;
-      watches_are = first.watches;
-      history_is = first.history;
-    })
-    first.splitter first.front first.up first.down first.told first.told_pauses in
+    c.in_ok-ends.ensures in
     let play = play-begins (g.L.Link.honest c.args.link.now) (g.L.Link.up c.args.link.now) (g.L.Link.down c.args.link.now) page
     (line_bytes c.args.lines) c.in_ok-ends.ends c.requires.can c.requires.texts c.requires.short run in
     let ran = (c.in-Ok.ensures {u = c.in-Ok.field-0}).runs (g.L.Link.up c.args.link.now) (g.L.Link.down c.args.link.now) w play in
@@ -42,20 +31,9 @@ pub returns-clause-took : goal.returns-clause-took
 returns-clause-took g c = λ honest up_level down_level.
     let page = loaded_page c.args.form in
     let w = loaded_world page in
-    let first = c.in_ok-ends.ensures in
     let run = begins (g.L.Link.honest c.args.link.now) (g.L.Link.up c.args.link.now)
     (g.L.Link.down c.args.link.now) page c.in_ok-ends.ends honest c.requires.can c.requires.texts up_level down_level
-    (record {
-      page_is = first.page;
-      sheets_are = first.sheets;
-      next_is = first.numbers;
-      off = first.off;
-      css = first.css;
-      agent_is = first.agent;
-      watches_are = first.watches;
-      history_is = first.history;
-    })
-    first.splitter first.front first.up first.down first.told first.told_pauses in
+    c.in_ok-ends.ensures in
     let play = play-begins (g.L.Link.honest c.args.link.now) (g.L.Link.up c.args.link.now) (g.L.Link.down c.args.link.now) page
     (line_bytes c.args.lines) c.in_ok-ends.ends c.requires.can c.requires.texts c.requires.short run in
     let ran = (c.in-Err.ensures {u = tt}).runs (g.L.Link.up c.args.link.now) (g.L.Link.down c.args.link.now) w play in
@@ -67,19 +45,9 @@ returns-in-Ok-clause-refused g c =
     let up = g.L.Link.up c.args.link.now in
     let down = g.L.Link.down c.args.link.now in
     let page = loaded_page c.args.form in
-    let first = c.in_ok-ends.ensures in
-    let start = run-first up down page (length c.args.lines) c.in_ok-ends.ends c.requires.can c.requires.texts c.requires.few
-    (record {
-      page_is = first.page;
-      sheets_are = first.sheets;
-      next_is = first.numbers;
-      off = first.off;
-      css = first.css;
-      agent_is = first.agent;
-      watches_are = first.watches;
-      history_is = first.history;
-    })
-    first.splitter first.front first.up first.down first.told first.told_pauses in
+    let start = run-first up down page (length c.args.lines) c.in_ok-ends.ends (g.L.Link.within_up c.args.link.now)
+    (g.L.Link.within_down c.args.link.now) c.requires.can c.requires.texts c.requires.few
+    c.in_ok-ends.ensures in
     let ran = c.in-Ok.ensures {u = c.in-Ok.field-0} in
     let carried = (ran.follows (loaded_state page) up down start).0 in
     let shown = c.close.ensures.shown (run_started (loaded_state page) 0 carried.shown) up down carried.run in
@@ -90,19 +58,9 @@ returns-in-Ok-clause-closes g c =
     let up = g.L.Link.up c.args.link.now in
     let down = g.L.Link.down c.args.link.now in
     let page = loaded_page c.args.form in
-    let first = c.in_ok-ends.ensures in
-    let start = run-first up down page (length c.args.lines) c.in_ok-ends.ends c.requires.can c.requires.texts c.requires.few
-    (record {
-      page_is = first.page;
-      sheets_are = first.sheets;
-      next_is = first.numbers;
-      off = first.off;
-      css = first.css;
-      agent_is = first.agent;
-      watches_are = first.watches;
-      history_is = first.history;
-    })
-    first.splitter first.front first.up first.down first.told first.told_pauses in
+    let start = run-first up down page (length c.args.lines) c.in_ok-ends.ends (g.L.Link.within_up c.args.link.now)
+    (g.L.Link.within_down c.args.link.now) c.requires.can c.requires.texts c.requires.few
+    c.in_ok-ends.ensures in
     let ran = c.in-Ok.ensures {u = c.in-Ok.field-0} in
     let carried = (ran.follows (loaded_state page) up down start).0 in
     let shown = c.close.ensures.shown (run_started (loaded_state page) 0 carried.shown) up down carried.run in
@@ -115,19 +73,9 @@ returns-in-Ok-clause-replies g c =
     let up = g.L.Link.up c.args.link.now in
     let down = g.L.Link.down c.args.link.now in
     let page = loaded_page c.args.form in
-    let first = c.in_ok-ends.ensures in
-    let start = run-first up down page (length c.args.lines) c.in_ok-ends.ends c.requires.can c.requires.texts c.requires.few
-    (record {
-      page_is = first.page;
-      sheets_are = first.sheets;
-      next_is = first.numbers;
-      off = first.off;
-      css = first.css;
-      agent_is = first.agent;
-      watches_are = first.watches;
-      history_is = first.history;
-    })
-    first.splitter first.front first.up first.down first.told first.told_pauses in
+    let start = run-first up down page (length c.args.lines) c.in_ok-ends.ends (g.L.Link.within_up c.args.link.now)
+    (g.L.Link.within_down c.args.link.now) c.requires.can c.requires.texts c.requires.few
+    c.in_ok-ends.ensures in
     let ran = c.in-Ok.ensures {u = c.in-Ok.field-0} in
     let carried = (ran.follows (loaded_state page) up down start).0 in
     let shown = c.close.ensures.shown (run_started (loaded_state page) 0 carried.shown) up down carried.run in
@@ -140,19 +88,9 @@ returns-clause-refused g c =
     let up = g.L.Link.up c.args.link.now in
     let down = g.L.Link.down c.args.link.now in
     let page = loaded_page c.args.form in
-    let first = c.in_ok-ends.ensures in
-    let start = run-first up down page (length c.args.lines) c.in_ok-ends.ends c.requires.can c.requires.texts c.requires.few
-    (record {
-      page_is = first.page;
-      sheets_are = first.sheets;
-      next_is = first.numbers;
-      off = first.off;
-      css = first.css;
-      agent_is = first.agent;
-      watches_are = first.watches;
-      history_is = first.history;
-    })
-    first.splitter first.front first.up first.down first.told first.told_pauses in
+    let start = run-first up down page (length c.args.lines) c.in_ok-ends.ends (g.L.Link.within_up c.args.link.now)
+    (g.L.Link.within_down c.args.link.now) c.requires.can c.requires.texts c.requires.few
+    c.in_ok-ends.ensures in
     ((c.in-Err.ensures {u = tt}).follows (loaded_state page) up down start).1
 
 pub returns-in-Ok-clause-tells : goal.returns-in-Ok-clause-tells
@@ -160,19 +98,9 @@ returns-in-Ok-clause-tells g c =
     let up = g.L.Link.up c.args.link.now in
     let down = g.L.Link.down c.args.link.now in
     let page = loaded_page c.args.form in
-    let first = c.in_ok-ends.ensures in
-    let start = run-first up down page (length c.args.lines) c.in_ok-ends.ends c.requires.can c.requires.texts c.requires.few
-    (record {
-      page_is = first.page;
-      sheets_are = first.sheets;
-      next_is = first.numbers;
-      off = first.off;
-      css = first.css;
-      agent_is = first.agent;
-      watches_are = first.watches;
-      history_is = first.history;
-    })
-    first.splitter first.front first.up first.down first.told first.told_pauses in
+    let start = run-first up down page (length c.args.lines) c.in_ok-ends.ends (g.L.Link.within_up c.args.link.now)
+    (g.L.Link.within_down c.args.link.now) c.requires.can c.requires.texts c.requires.few
+    c.in_ok-ends.ensures in
     let ran = c.in-Ok.ensures {u = c.in-Ok.field-0} in
     let carried = (ran.follows (loaded_state page) up down start).0 in
     let shown = c.close.ensures.shown (run_started (loaded_state page) 0 carried.shown) up down carried.run in
@@ -183,39 +111,18 @@ returns-clause-tells g c =
     let up = g.L.Link.up c.args.link.now in
     let down = g.L.Link.down c.args.link.now in
     let page = loaded_page c.args.form in
-    let first = c.in_ok-ends.ensures in
-    let start = run-first up down page (length c.args.lines) c.in_ok-ends.ends c.requires.can c.requires.texts c.requires.few
-    (record {
-      page_is = first.page;
-      sheets_are = first.sheets;
-      next_is = first.numbers;
-      off = first.off;
-      css = first.css;
-      agent_is = first.agent;
-      watches_are = first.watches;
-      history_is = first.history;
-    })
-    first.splitter first.front first.up first.down first.told first.told_pauses in
+    let start = run-first up down page (length c.args.lines) c.in_ok-ends.ends (g.L.Link.within_up c.args.link.now)
+    (g.L.Link.within_down c.args.link.now) c.requires.can c.requires.texts c.requires.few
+    c.in_ok-ends.ensures in
     ((c.in-Err.ensures {u = tt}).follows (loaded_state page) up down start).2
 
 pub returns-in-Ok-clause-stops : goal.returns-in-Ok-clause-stops
 returns-in-Ok-clause-stops g c = λ honest up_level down_level.
     let page = loaded_page c.args.form in
     let w = loaded_world page in
-    let first = c.in_ok-ends.ensures in
     let run = begins (g.L.Link.honest c.args.link.now) (g.L.Link.up c.args.link.now)
     (g.L.Link.down c.args.link.now) page c.in_ok-ends.ends honest c.requires.can c.requires.texts up_level down_level
-    (record {
-      page_is = first.page;
-      sheets_are = first.sheets;
-      next_is = first.numbers;
-      off = first.off;
-      css = first.css;
-      agent_is = first.agent;
-      watches_are = first.watches;
-      history_is = first.history;
-    })
-    first.splitter first.front first.up first.down first.told first.told_pauses in
+    c.in_ok-ends.ensures in
     let play = play-begins (g.L.Link.honest c.args.link.now) (g.L.Link.up c.args.link.now) (g.L.Link.down c.args.link.now) page
     (line_bytes c.args.lines) c.in_ok-ends.ends c.requires.can c.requires.texts c.requires.short run in
     let ran = (c.in-Ok.ensures {u = c.in-Ok.field-0}).runs (g.L.Link.up c.args.link.now) (g.L.Link.down c.args.link.now) w play in
@@ -225,20 +132,9 @@ pub returns-clause-stops : goal.returns-clause-stops
 returns-clause-stops g c = λ honest up_level down_level.
     let page = loaded_page c.args.form in
     let w = loaded_world page in
-    let first = c.in_ok-ends.ensures in
     let run = begins (g.L.Link.honest c.args.link.now) (g.L.Link.up c.args.link.now)
     (g.L.Link.down c.args.link.now) page c.in_ok-ends.ends honest c.requires.can c.requires.texts up_level down_level
-    (record {
-      page_is = first.page;
-      sheets_are = first.sheets;
-      next_is = first.numbers;
-      off = first.off;
-      css = first.css;
-      agent_is = first.agent;
-      watches_are = first.watches;
-      history_is = first.history;
-    })
-    first.splitter first.front first.up first.down first.told first.told_pauses in
+    c.in_ok-ends.ensures in
     let play = play-begins (g.L.Link.honest c.args.link.now) (g.L.Link.up c.args.link.now) (g.L.Link.down c.args.link.now) page
     (line_bytes c.args.lines) c.in_ok-ends.ends c.requires.can c.requires.texts c.requires.short run in
     ((c.in-Err.ensures {u = tt}).runs (g.L.Link.up c.args.link.now) (g.L.Link.down c.args.link.now) w play).2

@@ -1,5 +1,5 @@
 -- After a settle the sheets are those of the page.
-use Rattle.std.proofs.Common.{ap}
+use Rattle.std.proofs.Common.{rules, ap}
 use Rattle.front_mirror.specs.Front.{FrontState}
 use Rattle.replay_script.specs.Forms.{show_sheets}
 use Rattle.inspect_replay.specs.Prints.{numbered_line}
@@ -7,24 +7,30 @@ use Rattle.inspect_replay.proofs.RunLemmas.{sheets-carries, show-stops}
 use Rattle.inspect_replay.proofs.FollowLemmas.{kept-run, some-printed}
 use Rattle.inspect_replay.proofs.run.show_sheets.Goals as goal
 
-pub returns-in-Ok-clause-runs : goal.returns-in-Ok-clause-runs
-returns-in-Ok-clause-runs g c = λ number.
-    sheets-carries c.print_sheets.result _ _ _ _ _ _ _ _ c.args.ends.now c.settle.new.self number c.front.result.now.value.sheets
-    (λ up0 down0 w left run. (c.in-Ok.ensures.steps up0 down0 w left run).1)
-    (ap (λ (f : FrontState). f.value.sheets) c.front.ensures) c.print_sheets.ensures.never c.print_sheets.ensures.ok
-    c.print_sheets.ensures.err
+pub returns-in-Ok : goal.returns-in-Ok
+returns-in-Ok g c = record {
+  honest = search rules;
+  cause = search rules;
+  follows = λ state0 up0 down0 run.
+      kept-run c.print_sheets.result state0 up0 down0 _ _ c.settle.new.self c.print_sheets.ensures.never
+      (c.in-Ok.ensures.follows state0 up0 down0 run).0;
+  some = some-printed c.print_sheets.result _ _ _ c.print_sheets.ensures.ok;
+  runs = λ number.
+      sheets-carries c.print_sheets.result _ _ _ _ _ _ _ _ c.args.ends.now c.settle.new.self number c.front.result.now.value.sheets
+      (λ up0 down0 w left run. (c.in-Ok.ensures.steps up0 down0 w left run).1)
+      (ap (λ (f : FrontState). f.value.sheets) c.front.ensures) c.print_sheets.ensures.never c.print_sheets.ensures.ok
+      c.print_sheets.ensures.err;
+}
 
-pub returns-in-Err-clause-runs : goal.returns-in-Err-clause-runs
-returns-in-Err-clause-runs g c = λ number.
-    show-stops c.in-Err.stop (g.L.Link.honest c.args.link.now) (g.L.Link.honest c.settle.new.link) (g.L.Link.up c.args.link.now)
-    (g.L.Link.down c.args.link.now) (g.L.Link.up c.settle.new.link) (g.L.Link.down c.settle.new.link)
-    (g.K.Sink.taken c.args.out.now) c.args.ends.now c.settle.new.self (numbered_line number show_sheets)
-    (λ up0 down0 w left run. (c.in-Err.ensures.steps up0 down0 w left run).0)
-
-pub returns-in-Ok-clause-follows : goal.returns-in-Ok-clause-follows
-returns-in-Ok-clause-follows g c = λ state0 up0 down0 run.
-    kept-run c.print_sheets.result state0 up0 down0 _ _ c.settle.new.self c.print_sheets.ensures.never
-    (c.in-Ok.ensures.follows state0 up0 down0 run).0
-
-pub returns-in-Ok-clause-some : goal.returns-in-Ok-clause-some
-returns-in-Ok-clause-some g c = some-printed c.print_sheets.result _ _ _ c.print_sheets.ensures.ok
+pub returns-in-Err : goal.returns-in-Err
+returns-in-Err g c = record {
+  honest = search rules;
+  cause = search rules;
+  follows = c.in-Err.ensures.follows;
+  some = tt;
+  runs = λ number.
+      show-stops c.in-Err.stop (g.L.Link.honest c.args.link.now) (g.L.Link.honest c.settle.new.link) (g.L.Link.up c.args.link.now)
+      (g.L.Link.down c.args.link.now) (g.L.Link.up c.settle.new.link) (g.L.Link.down c.settle.new.link)
+      (g.K.Sink.taken c.args.out.now) c.args.ends.now c.settle.new.self (numbered_line number show_sheets)
+      (λ up0 down0 w left run. (c.in-Err.ensures.steps up0 down0 w left run).0);
+}

@@ -1,6 +1,6 @@
 use Rattle.inspect_world.proofs.Inputs.{inputs-fit}
 use Rattle.inspect_world.proofs.Scripts.{lines-fit, bare-frames-fit, turns-fit, deliveries-fit, settled-shows}
-use Rattle.inspect_world.proofs.FetchesFit.{fresh-lines, fresh-inputs, refreshed-all}
+use Rattle.inspect_world.proofs.FetchesFit.{fresh-lines, fresh-inputs, refreshed-all, inputs-show-texts}
 use Rattle.inspect_world.proofs.RestoreLemmas.{restores-in-runs}
 use Rattle.inspect_world.proofs.laws.fits_law.Goals as goal
 
@@ -16,4 +16,5 @@ returns c = record {
   fresh_lines = fresh-lines;
   fresh_inputs = fresh-inputs;
   refreshed = refreshed-all;
+  texts = inputs-show-texts;
 }

@@ -1,194 +1,21 @@
--- Each part of the seat answers its commands; where it leaves the history alone, what is kept is kept on.
-use Rattle.std.proofs.Common.{◌≡◌, true, sym, ap, subst, ◌∙◌}
-use Rattle.std.proofs.Math.Logic.{∥∥₁_map}
-use Rattle.serde_json.specs.View.{view}
-use Rattle.cdp_messages.specs.Asked.{fits_command}
-use Rattle.cdp_messages.specs.declared.command.Command.{Command}
-use Rattle.cdp_messages.specs.declared.command.Command.TheVariants as commands
-use Rattle.back_end.proofs.KeepSeats.{enables-alone, css-enables-alone, css-disables-alone, styles-alone, watches-alone, unwatches-alone}
-use Rattle.back_end.proofs.KeepSeats.{agent-alone, plain-both, part-both, part-sent}
+-- A command is refused while a domain is off that it needs, and served else.
+use Rattle.std.proofs.Common.{◌++◌, sym, ap, subst, ◌∙◌}
+use Rattle.client_views.specs.Moves.{frames_of_moves}
+use Rattle.back_end.specs.Steps.{Step}
+use Rattle.back_end.specs.Seats.{BothStandFor}
+use Rattle.back_end.proofs.SeatLemmas.{on_ok}
+use Rattle.back_end.proofs.ScriptLemmas.{in_any}
+use Rattle.back_end.proofs.DomainLemmas.{missing-is}
 use Rattle.back_end.proofs.desk.Desk.answer.Goals as goal
 
-pub ask_agent-requires-clause-ask : goal.ask_agent-requires-clause-ask
-ask_agent-requires-clause-ask c = subst (λ (x : Command). fits_command x ≡ true) c.in-AskDom.is c.requires.command
+pub returns-in-Some-clause-stands : goal.returns-in-Some-clause-stands
+returns-in-Some-clause-stands c = λ state both.
+    in_any c.refuse.result _
+    (subst (λ (done : Step). BothStandFor c.args.self.now c.args.history.now c.args.side.now done.state)
+    (sym (missing-is c.args.self.now c.args.side.now state c.args.id c.args.command c.in-Some.why both.stands c.in-Some.ensures)) both)
 
-pub ask_agent-requires-clause-standing : goal.ask_agent-requires-clause-standing
-ask_agent-requires-clause-standing c = ∥∥₁_map c.requires.standing (λ p. (p.0, p.1.stands))
-
-pub returns-in-DomEnable-clause-stands : goal.returns-in-DomEnable-clause-stands
-returns-in-DomEnable-clause-stands c = λ state both.
-    plain-both c.enable.result c.args.self.now c.enable.new.self c.args.side.now c.enable.new.side c.args.history.now state c.args.id
-    commands.DomEnable c.args.command (sym c.in-DomEnable.is) enables-alone both
-    (c.enable.ensures.stands state both.stands)
-
-pub returns-in-DomEnable-clause-sent : goal.returns-in-DomEnable-clause-sent
-returns-in-DomEnable-clause-sent c = λ state both.
-    part-sent c.enable.result state c.args.id commands.DomEnable c.args.command c.args.out.now.items c.enable.new.out.items
-    (sym c.in-DomEnable.is) (c.enable.ensures.sent state)
-
-pub returns-in-CssEnable-clause-stands : goal.returns-in-CssEnable-clause-stands
-returns-in-CssEnable-clause-stands c = λ state both.
-    plain-both c.enable_css.result c.args.self.now c.enable_css.new.self c.args.side.now c.enable_css.new.side c.args.history.now state
-    c.args.id commands.CssEnable c.args.command (sym c.in-CssEnable.is) css-enables-alone both
-    (c.enable_css.ensures.stands state both.stands)
-
-pub returns-in-CssEnable-clause-sent : goal.returns-in-CssEnable-clause-sent
-returns-in-CssEnable-clause-sent c = λ state both.
-    part-sent c.enable_css.result state c.args.id commands.CssEnable c.args.command c.args.out.now.items c.enable_css.new.out.items
-    (sym c.in-CssEnable.is) (c.enable_css.ensures.sent state both.stands)
-
-pub returns-in-CssDisable-clause-stands : goal.returns-in-CssDisable-clause-stands
-returns-in-CssDisable-clause-stands c = λ state both.
-    plain-both c.disable_css.result c.args.self.now c.disable_css.new.self c.args.side.now c.disable_css.new.side c.args.history.now state
-    c.args.id commands.CssDisable c.args.command (sym c.in-CssDisable.is) css-disables-alone both
-    (c.disable_css.ensures.stands state both.stands)
-
-pub returns-in-CssDisable-clause-sent : goal.returns-in-CssDisable-clause-sent
-returns-in-CssDisable-clause-sent c = λ state both.
-    part-sent c.disable_css.result state c.args.id commands.CssDisable
-    c.args.command c.args.out.now.items c.disable_css.new.out.items (sym c.in-CssDisable.is)
-    (c.disable_css.ensures.sent state both.stands)
-
-pub returns-in-AskCss-clause-stands : goal.returns-in-AskCss-clause-stands
-returns-in-AskCss-clause-stands c = λ state both.
-    plain-both c.answer_styles.result c.args.self.now c.answer_styles.new.self c.args.side.now c.answer_styles.new.side c.args.history.now
-    state c.args.id (commands.AskCss c.in-AskCss.ask) c.args.command (sym c.in-AskCss.is)
-    (styles-alone c.in-AskCss.ask) both
-    (c.answer_styles.ensures.stands state both.stands)
-
-pub returns-in-AskCss-clause-sent : goal.returns-in-AskCss-clause-sent
-returns-in-AskCss-clause-sent c = λ state both.
-    part-sent c.answer_styles.result state c.args.id (commands.AskCss c.in-AskCss.ask)
-    c.args.command c.args.out.now.items c.answer_styles.new.out.items (sym c.in-AskCss.is)
-    (c.answer_styles.ensures.sent state both.stands)
-
-pub returns-in-SetBreakpoint-clause-stands : goal.returns-in-SetBreakpoint-clause-stands
-returns-in-SetBreakpoint-clause-stands c = λ state both.
-    plain-both c.watch.result c.args.self.now c.watch.new.self c.args.side.now c.watch.new.side c.args.history.now state c.args.id
-    (commands.SetBreakpoint c.in-SetBreakpoint.node c.in-SetBreakpoint.kind) c.args.command (sym c.in-SetBreakpoint.is)
-    (watches-alone c.in-SetBreakpoint.node c.in-SetBreakpoint.kind) both
-    (c.watch.ensures.stands state both.stands)
-
-pub returns-in-SetBreakpoint-clause-sent : goal.returns-in-SetBreakpoint-clause-sent
-returns-in-SetBreakpoint-clause-sent c = λ state both.
-    part-sent c.watch.result state c.args.id (commands.SetBreakpoint c.in-SetBreakpoint.node c.in-SetBreakpoint.kind)
-    c.args.command c.args.out.now.items c.watch.new.out.items (sym c.in-SetBreakpoint.is)
-    (c.watch.ensures.sent state both.stands)
-
-pub returns-in-RemoveBreakpoint-clause-stands : goal.returns-in-RemoveBreakpoint-clause-stands
-returns-in-RemoveBreakpoint-clause-stands c = λ state both.
-    plain-both c.unwatch.result c.args.self.now c.unwatch.new.self c.args.side.now c.unwatch.new.side c.args.history.now state c.args.id
-    (commands.RemoveBreakpoint c.in-RemoveBreakpoint.node c.in-RemoveBreakpoint.kind) c.args.command (sym c.in-RemoveBreakpoint.is)
-    (unwatches-alone c.in-RemoveBreakpoint.node c.in-RemoveBreakpoint.kind) both
-    (c.unwatch.ensures.stands state both.stands)
-
-pub returns-in-RemoveBreakpoint-clause-sent : goal.returns-in-RemoveBreakpoint-clause-sent
-returns-in-RemoveBreakpoint-clause-sent c = λ state both.
-    part-sent c.unwatch.result state c.args.id (commands.RemoveBreakpoint c.in-RemoveBreakpoint.node c.in-RemoveBreakpoint.kind)
-    c.args.command c.args.out.now.items c.unwatch.new.out.items (sym c.in-RemoveBreakpoint.is)
-    (c.unwatch.ensures.sent state both.stands)
-
-pub returns-in-AskDom-clause-stands : goal.returns-in-AskDom-clause-stands
-returns-in-AskDom-clause-stands c = λ state both.
-    plain-both c.ask_agent.result c.args.self.now c.ask_agent.new.self c.args.side.now c.ask_agent.new.side
-    c.args.history.now state c.args.id (commands.AskDom c.in-AskDom.ask) c.args.command
-    (sym c.in-AskDom.is) (agent-alone c.in-AskDom.ask) both
-    (c.ask_agent.ensures.stands state both.stands)
-
-pub returns-in-AskDom-clause-sent : goal.returns-in-AskDom-clause-sent
-returns-in-AskDom-clause-sent c = λ state both.
-    part-sent c.ask_agent.result state c.args.id (commands.AskDom c.in-AskDom.ask)
-    c.args.command c.args.out.now.items c.ask_agent.new.out.items (sym c.in-AskDom.is)
-    (c.ask_agent.ensures.sent state both.stands)
-
-pub returns-in-DomDisable-clause-stands : goal.returns-in-DomDisable-clause-stands
-returns-in-DomDisable-clause-stands c = λ state both.
-    part-both c.disable.result c.disable.new.self c.disable.new.side c.disable.new.history state c.args.id commands.DomDisable
-    c.args.command (sym c.in-DomDisable.is) (c.disable.ensures.stands state both)
-
-pub returns-in-DomDisable-clause-sent : goal.returns-in-DomDisable-clause-sent
-returns-in-DomDisable-clause-sent c = λ state both.
-    part-sent c.disable.result state c.args.id commands.DomDisable c.args.command c.args.out.now.items c.disable.new.out.items
-    (sym c.in-DomDisable.is) (c.disable.ensures.sent state both.stands)
-
-pub returns-in-EditDom-clause-stands : goal.returns-in-EditDom-clause-stands
-returns-in-EditDom-clause-stands c = λ state both.
-    part-both c.answer_tree_edit.result c.answer_tree_edit.new.self c.answer_tree_edit.new.side c.answer_tree_edit.new.history state
-    c.args.id (commands.EditDom c.in-EditDom.edit) c.args.command (sym c.in-EditDom.is)
-    (c.answer_tree_edit.ensures.stands state both)
-
-pub returns-in-EditDom-clause-sent : goal.returns-in-EditDom-clause-sent
-returns-in-EditDom-clause-sent c = λ state both.
-    part-sent c.answer_tree_edit.result state c.args.id (commands.EditDom c.in-EditDom.edit)
-    c.args.command c.args.out.now.items c.answer_tree_edit.new.out.items (sym c.in-EditDom.is)
-    (c.answer_tree_edit.ensures.sent state both.stands)
-
-pub returns-in-EditCss-clause-stands : goal.returns-in-EditCss-clause-stands
-returns-in-EditCss-clause-stands c = λ state both.
-    part-both c.answer_sheet_edit.result c.answer_sheet_edit.new.self c.answer_sheet_edit.new.side c.answer_sheet_edit.new.history state
-    c.args.id (commands.EditCss c.in-EditCss.edit) c.args.command (sym c.in-EditCss.is)
-    (c.answer_sheet_edit.ensures.stands state both)
-
-pub returns-in-EditCss-clause-sent : goal.returns-in-EditCss-clause-sent
-returns-in-EditCss-clause-sent c = λ state both.
-    part-sent c.answer_sheet_edit.result state c.args.id (commands.EditCss c.in-EditCss.edit)
-    c.args.command c.args.out.now.items c.answer_sheet_edit.new.out.items (sym c.in-EditCss.is)
-    (c.answer_sheet_edit.ensures.sent state both.stands)
-
-pub returns-in-MarkUndoableState-clause-stands : goal.returns-in-MarkUndoableState-clause-stands
-returns-in-MarkUndoableState-clause-stands c = λ state both.
-    part-both c.end_group.result c.end_group.new.self c.end_group.new.side c.end_group.new.history state c.args.id
-    commands.MarkUndoableState c.args.command (sym c.in-MarkUndoableState.is) (c.end_group.ensures.stands state both)
-
-pub returns-in-MarkUndoableState-clause-sent : goal.returns-in-MarkUndoableState-clause-sent
-returns-in-MarkUndoableState-clause-sent c = λ state both.
-    part-sent c.end_group.result state c.args.id commands.MarkUndoableState c.args.command c.args.out.now.items c.end_group.new.out.items
-    (sym c.in-MarkUndoableState.is) (c.end_group.ensures.sent state both.stands)
-
-pub returns-in-Undo-clause-stands : goal.returns-in-Undo-clause-stands
-returns-in-Undo-clause-stands c = λ state both.
-    part-both c.undo.result c.undo.new.self c.undo.new.side c.undo.new.history state c.args.id commands.Undo c.args.command
-    (sym c.in-Undo.is) (c.undo.ensures.stands state both)
-
-pub returns-in-Undo-clause-sent : goal.returns-in-Undo-clause-sent
-returns-in-Undo-clause-sent c = λ state both.
-    part-sent c.undo.result state c.args.id commands.Undo c.args.command c.args.out.now.items c.undo.new.out.items
-    (sym c.in-Undo.is) (c.undo.ensures.sent state both)
-
-pub returns-in-Redo-clause-stands : goal.returns-in-Redo-clause-stands
-returns-in-Redo-clause-stands c = λ state both.
-    part-both c.redo.result c.redo.new.self c.redo.new.side c.redo.new.history state c.args.id commands.Redo c.args.command
-    (sym c.in-Redo.is) (c.redo.ensures.stands state both)
-
-pub returns-in-Redo-clause-sent : goal.returns-in-Redo-clause-sent
-returns-in-Redo-clause-sent c = λ state both.
-    part-sent c.redo.result state c.args.id commands.Redo c.args.command c.args.out.now.items c.redo.new.out.items
-    (sym c.in-Redo.is) (c.redo.ensures.sent state both)
-
-pub returns-in-ReplayLoad-clause-stands : goal.returns-in-ReplayLoad-clause-stands
-returns-in-ReplayLoad-clause-stands c = λ state both.
-    part-both c.answer_load.result c.answer_load.new.self c.answer_load.new.side c.answer_load.new.history state c.args.id
-    (commands.ReplayLoad (view c.as_value.result.now)) c.args.command
-    (ap (λ params. commands.ReplayLoad params) c.as_value.ensures ∙ sym c.in-ReplayLoad.is)
-    (c.answer_load.ensures.stands state both)
-
-pub returns-in-ReplayLoad-clause-sent : goal.returns-in-ReplayLoad-clause-sent
-returns-in-ReplayLoad-clause-sent c = λ state both.
-    part-sent c.answer_load.result state c.args.id (commands.ReplayLoad (view c.as_value.result.now))
-    c.args.command c.args.out.now.items c.answer_load.new.out.items
-    (ap (λ params. commands.ReplayLoad params) c.as_value.ensures ∙ sym c.in-ReplayLoad.is)
-    (c.answer_load.ensures.sent state both.stands)
-
-pub returns-in-ReplayAct-clause-stands : goal.returns-in-ReplayAct-clause-stands
-returns-in-ReplayAct-clause-stands c = λ state both.
-    part-both c.answer_act.result c.answer_act.new.self c.answer_act.new.side c.answer_act.new.history state c.args.id
-    (commands.ReplayAct (view c.as_value-in-ReplayAct.result.now)) c.args.command
-    (ap (λ params. commands.ReplayAct params) c.as_value-in-ReplayAct.ensures ∙ sym c.in-ReplayAct.is)
-    (c.answer_act.ensures.stands state both)
-
-pub returns-in-ReplayAct-clause-sent : goal.returns-in-ReplayAct-clause-sent
-returns-in-ReplayAct-clause-sent c = λ state both.
-    part-sent c.answer_act.result state c.args.id (commands.ReplayAct (view c.as_value-in-ReplayAct.result.now))
-    c.args.command c.args.out.now.items c.answer_act.new.out.items
-    (ap (λ params. commands.ReplayAct params) c.as_value-in-ReplayAct.ensures ∙ sym c.in-ReplayAct.is)
-    (c.answer_act.ensures.sent state both.stands)
+pub returns-in-Some-clause-sent : goal.returns-in-Some-clause-sent
+returns-in-Some-clause-sent c = λ state both.
+    on_ok c.refuse.result _ _ (c.refuse.ensures state)
+    (λ sent. sent ∙ ap (λ (done : Step). c.args.out.now.items ++ frames_of_moves done.moves)
+    (sym (missing-is c.args.self.now c.args.side.now state c.args.id c.args.command c.in-Some.why both.stands c.in-Some.ensures)))

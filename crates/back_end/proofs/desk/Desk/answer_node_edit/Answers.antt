@@ -1,7 +1,7 @@
 -- An edit that the page takes is carried out and answered; one that it does not is refused.
 use Rattle.std.proofs.Common.{◌≡◌, Some, None, ◌++◌, sym, ap, ◌∙◌}
 use Rattle.page_tree.specs.Pages.{PageValue}
-use Rattle.cdp_messages.specs.Moves.{frames_of_moves}
+use Rattle.client_views.specs.Moves.{frames_of_moves}
 use Rattle.back_end.specs.Plans.{node_edit_fault, node_put}
 use Rattle.back_end.specs.Steps.{refusing}
 use Rattle.back_end.proofs.SeatLemmas.{on_ok}

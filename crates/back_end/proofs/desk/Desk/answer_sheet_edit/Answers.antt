@@ -1,55 +1,28 @@
 -- A client's edit of sheets is carried out by the CSS agent, while both domains are on, or else refused.
-use Rattle.std.proofs.Common.{Err, refl, sym, ap, ◌∙◌}
-use Rattle.cdp_messages.specs.declared.command.Command.TheVariants.{EditCss}
+use Rattle.std.proofs.Common.{Err, refl, ap, ◌∙◌}
 use Rattle.back_end.proofs.SeatLemmas.{on_ok}
-use Rattle.back_end.proofs.SheetSeats.{dom-off-sent, css-off-sent}
 use Rattle.back_end.proofs.ScriptLemmas.{in_any}
-use Rattle.back_end.proofs.KeepSeats.{off-both, css-off-both}
 use Rattle.back_end.proofs.SpliceSeats.{restyled-both, restyled-sent, unrestyled-both, unrestyled-sent, why-sent, in_fault}
 use Rattle.back_end.proofs.desk.Desk.answer_sheet_edit.Goals as goal
-
-pub returns-then-not-self-clause-stands : goal.returns-then-not-self-clause-stands
-returns-then-not-self-clause-stands c = λ state both.
-    in_any c.refuse.result _ (off-both c.args.self.now c.args.history.now c.args.side.now state c.args.id
-    (EditCss c.args.edit.now) refl both c.if-not-self.true)
-
-pub returns-then-not-is_on-clause-stands : goal.returns-then-not-is_on-clause-stands
-returns-then-not-is_on-clause-stands c = λ state both.
-    in_any c.refuse-then-not-is_on.result _
-    (css-off-both c.args.self.now c.args.history.now c.args.side.now state c.args.id
-    (EditCss c.args.edit.now) refl both c.if-not-self.false (sym c.if-not-is_on.ensures))
 
 pub returns-in-Err-Fault-clause-stands : goal.returns-in-Err-Fault-clause-stands
 returns-in-Err-Fault-clause-stands c = λ state both.
     let is = c.in-Err-Fault.is ∙ ap (λ e. Err e) c.in-Err-Fault.field-0-is in
-    in_any c.refuse-in-Err-Fault.result _
+    in_any c.refuse.result _
     (unrestyled-both c.args.self.now c.args.history.now c.args.side.now
     (record { page = c.args.side.now.page; sheets = c.edit.new.self }) state c.args.id c.args.edit.now c.in-Err-Fault.fault both
-    c.if-not-self.false (sym c.if-not-is_on.ensures) (in_fault c.edit.result c.in-Err-Fault.fault _ is c.edit.ensures.fault) refl
+    c.requires.on c.requires.css (in_fault c.edit.result c.in-Err-Fault.fault _ is c.edit.ensures.fault) refl
     (in_fault c.edit.result c.in-Err-Fault.fault _ is c.edit.ensures.unchanged))
-
-pub returns-then-not-self-clause-sent : goal.returns-then-not-self-clause-sent
-returns-then-not-self-clause-sent c = λ state stands.
-    on_ok c.refuse.result _ _ (c.refuse.ensures state)
-    (dom-off-sent c.args.self.now c.args.side.now state c.args.id
-    (EditCss c.args.edit.now) c.args.out.now.items c.refuse.new.out.items refl stands c.if-not-self.true)
-
-pub returns-then-not-is_on-clause-sent : goal.returns-then-not-is_on-clause-sent
-returns-then-not-is_on-clause-sent c = λ state stands.
-    on_ok c.refuse-then-not-is_on.result _ _ (c.refuse-then-not-is_on.ensures state)
-    (css-off-sent c.args.self.now c.args.side.now state c.args.id
-    (EditCss c.args.edit.now) c.args.out.now.items c.refuse-then-not-is_on.new.out.items refl stands
-    c.if-not-self.false (sym c.if-not-is_on.ensures))
 
 pub returns-in-Err-Fault-clause-sent : goal.returns-in-Err-Fault-clause-sent
 returns-in-Err-Fault-clause-sent c = λ state stands.
-    on_ok c.refuse-in-Err-Fault.result _ _ (c.refuse-in-Err-Fault.ensures state)
+    on_ok c.refuse.result _ _ (c.refuse.ensures state)
     (λ sent. let is = c.in-Err-Fault.is ∙ ap (λ e. Err e) c.in-Err-Fault.field-0-is in
     unrestyled-sent c.args.self.now c.args.side.now state c.args.id c.args.edit.now c.in-Err-Fault.fault c.args.out.now.items
-    c.refuse-in-Err-Fault.new.out.items stands
-    c.if-not-self.false (sym c.if-not-is_on.ensures) (in_fault c.edit.result c.in-Err-Fault.fault _ is c.edit.ensures.fault)
+    c.refuse.new.out.items stands
+    c.requires.on c.requires.css (in_fault c.edit.result c.in-Err-Fault.fault _ is c.edit.ensures.fault)
     (why-sent c.args.id state c.sheet_why.result c.in-Err-Fault.fault c.edit.new.out.items c.args.out.now.items
-    c.refuse-in-Err-Fault.new.out.items c.sheet_why.ensures
+    c.refuse.new.out.items c.sheet_why.ensures
     (in_fault c.edit.result c.in-Err-Fault.fault _ is c.edit.ensures.unsent) sent))
 
 pub returns-in-Ok-clause-stands : goal.returns-in-Ok-clause-stands
@@ -57,11 +30,11 @@ returns-in-Ok-clause-stands c = λ state both.
     on_ok c.note_splices.result _ _ c.note_splices.ensures
     (restyled-both c.args.self.now c.args.history.now c.note_splices.new.history c.args.side.now
     (record { page = c.args.side.now.page; sheets = c.edit.new.self }) state c.args.id c.args.edit.now c.in-Ok.backs.items both
-    c.requires.room c.requires.texts c.if-not-self.false (sym c.if-not-is_on.ensures) c.in-Ok.ensures.done refl c.in-Ok.ensures.next)
+    c.requires.room c.requires.texts c.requires.on c.requires.css c.in-Ok.ensures.done refl c.in-Ok.ensures.next)
 
 pub returns-in-Ok-clause-sent : goal.returns-in-Ok-clause-sent
 returns-in-Ok-clause-sent c = λ state stands.
     in_any c.note_splices.result _
     (restyled-sent c.args.self.now c.args.side.now state c.args.id c.args.edit.now c.edit.new.self.entries c.in-Ok.backs.items
     c.args.out.now.items c.edit.new.out.items stands
-    c.requires.room c.requires.texts c.if-not-self.false (sym c.if-not-is_on.ensures) c.in-Ok.ensures.done c.in-Ok.ensures.sent)
+    c.requires.room c.requires.texts c.requires.on c.requires.css c.in-Ok.ensures.done c.in-Ok.ensures.sent)

@@ -1,28 +1,14 @@
 -- A client's edit of the tree is refused while DOM is off, and where a node is not known.
-use Rattle.std.proofs.Common.{◌++◌, refl, sym, ap, subst, ◌∙◌, Err}
-use Rattle.cdp_messages.specs.Moves.{frames_of_moves}
+use Rattle.std.proofs.Common.{◌++◌, sym, ap, subst, ◌∙◌, Err}
+use Rattle.client_views.specs.Moves.{frames_of_moves}
 use Rattle.std.specs.FinMap as map
-use Rattle.cdp_messages.specs.declared.command.Command.TheVariants.{EditDom}
 use Rattle.back_end.specs.Texts.{HasTreeTexts}
 use Rattle.back_end.specs.Steps.{Step, edit_named}
 use Rattle.back_end.proofs.SeatLemmas.{on_ok}
-use Rattle.back_end.proofs.SheetSeats.{dom-off-sent}
 use Rattle.back_end.proofs.TreeSteps.{named-plain, lowered-texts}
 use Rattle.back_end.proofs.ScriptLemmas.{in_any}
-use Rattle.back_end.proofs.KeepSeats.{off-both}
 use Rattle.back_end.proofs.TreeSeats.{edit-is, named-both, unnamed-both, edited-sent}
 use Rattle.back_end.proofs.desk.Desk.answer_tree_edit.Goals as goal
-
-pub returns-then-not-self-clause-stands : goal.returns-then-not-self-clause-stands
-returns-then-not-self-clause-stands c = λ state both.
-    in_any c.refuse.result _ (off-both c.args.self.now c.args.history.now c.args.side.now state c.args.id
-    (EditDom c.args.edit) refl both c.if-not-self.true)
-
-pub returns-then-not-self-clause-sent : goal.returns-then-not-self-clause-sent
-returns-then-not-self-clause-sent c = λ state stands.
-    on_ok c.refuse.result _ _ (c.refuse.ensures state)
-    (dom-off-sent c.args.self.now c.args.side.now state c.args.id
-    (EditDom c.args.edit) c.args.out.now.items c.refuse.new.out.items refl stands c.if-not-self.true)
 
 pub answer_node_edit-requires-clause-plain : goal.answer_node_edit-requires-clause-plain
 answer_node_edit-requires-clause-plain c =
@@ -34,25 +20,25 @@ returns-in-Ok-clause-stands c = λ state both.
     let named = c.in-Ok.ensures ∙ ap (edit_named (map.get c.args.self.now.agent.serials)) c.in_ok-edit.ensures in
     named-both c.answer_node_edit.result c.args.self.now c.answer_node_edit.new.self c.args.history.now c.answer_node_edit.new.history
     c.args.side.now c.answer_node_edit.new.side state c.args.id c.args.edit c.in-Ok.edit
-    both.stands c.if-not-self.false named (c.answer_node_edit.ensures.stands state both)
+    both.stands c.requires.on named (c.answer_node_edit.ensures.stands state both)
 
 pub returns-in-Ok-clause-sent : goal.returns-in-Ok-clause-sent
 returns-in-Ok-clause-sent c = λ state stands.
     let named = c.in-Ok.ensures ∙ ap (edit_named (map.get c.args.self.now.agent.serials)) c.in_ok-edit.ensures in
     edited-sent c.answer_node_edit.result c.args.self.now c.args.side.now state c.args.id c.args.edit c.in-Ok.edit c.args.out.now.items
-    c.answer_node_edit.new.out.items stands c.if-not-self.false named
+    c.answer_node_edit.new.out.items stands c.requires.on named
     (c.answer_node_edit.ensures.sent state stands)
 
 pub returns-in-Err-clause-stands : goal.returns-in-Err-clause-stands
 returns-in-Err-clause-stands c = λ state both.
     let named = c.in-Err.ensures ∙ ap (edit_named (map.get c.args.self.now.agent.serials)) c.in_ok-edit.ensures in
-    in_any c.refuse-in-Err.result _
-    (unnamed-both c.args.self.now c.args.history.now c.args.side.now state c.args.id c.args.edit c.in-Err.why both c.if-not-self.false
+    in_any c.refuse.result _
+    (unnamed-both c.args.self.now c.args.history.now c.args.side.now state c.args.id c.args.edit c.in-Err.why both c.requires.on
     named)
 
 pub returns-in-Err-clause-sent : goal.returns-in-Err-clause-sent
 returns-in-Err-clause-sent c = λ state stands.
     let named = c.in-Err.ensures ∙ ap (edit_named (map.get c.args.self.now.agent.serials)) c.in_ok-edit.ensures in
-    on_ok c.refuse-in-Err.result _ _ (c.refuse-in-Err.ensures state)
+    on_ok c.refuse.result _ _ (c.refuse.ensures state)
     (λ sent. sent ∙ ap (λ (done : Step). c.args.out.now.items ++ frames_of_moves done.moves)
-    (edit-is c.args.self.now c.args.side.now state c.args.id c.args.edit (Err c.in-Err.why) stands c.if-not-self.false named))
+    (edit-is c.args.self.now c.args.side.now state c.args.id c.args.edit (Err c.in-Err.why) stands c.requires.on named))

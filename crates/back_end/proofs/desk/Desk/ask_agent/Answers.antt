@@ -1,14 +1,8 @@
 -- What the agent is asked is carried out, or refused since DOM is off.
 use Rattle.std.proofs.Common.{refl}
-use Rattle.back_end.proofs.SeatLemmas.{on_ok, asked-stands, asked-sent, refused-sent}
+use Rattle.back_end.proofs.SeatLemmas.{asked-stands, asked-sent}
 use Rattle.back_end.proofs.AskCounts.{ask-few}
 use Rattle.back_end.proofs.desk.Desk.ask_agent.Goals as goal
-
-pub returns-then-is_refused-clause-sent : goal.returns-then-is_refused-clause-sent
-returns-then-is_refused-clause-sent c = λ state stands.
-    on_ok c.refuse.result _ _ (c.refuse.ensures state)
-    (refused-sent c.args.self.now c.args.side.now state c.args.id c.args.ask.now c.args.out.now.items c.refuse.new.out.items
-    c.if-is_refused.ensures stands)
 
 pub returns-clause-stands : goal.returns-clause-stands
 returns-clause-stands c = λ state stands.
@@ -19,12 +13,12 @@ returns-clause-stands c = λ state stands.
       agent = _;
       watches = _;
     }) c.args.side.now c.args.side.now state c.args.id c.args.ask.now c.page.result.now
-    c.requires.ask c.if-is_refused.ensures stands refl refl c.page.ensures c.is_on_after-self.ensures refl refl c.in_ok-ask.ensures.known
+    c.requires.ask (sym c.requires.on) stands refl refl c.page.ensures c.is_on_after-self.ensures refl refl c.in_ok-ask.ensures.known
 
 pub returns-clause-sent : goal.returns-clause-sent
 returns-clause-sent c = λ state stands.
     asked-sent c.args.self.now c.args.side.now state c.args.id c.args.ask.now c.page.result.now c.args.out.now.items c.ask.new.out.items
-    c.requires.ask c.if-is_refused.ensures stands c.page.ensures c.in_ok-ask.ensures.sent
+    c.requires.ask (sym c.requires.on) stands c.page.ensures c.in_ok-ask.ensures.sent
 
 pub ask-requires-clause-few : goal.ask-requires-clause-few
 ask-requires-clause-few c =

@@ -1,25 +1,11 @@
 -- The group that is handed out is carried out, and what leads back is kept.
-use Rattle.std.proofs.Common.{Some, refl, sym, ap, ◌∙◌, arith}
+use Rattle.std.proofs.Common.{Some, sym, ap, ◌∙◌, arith}
 use Rattle.undo_marks.specs.Marks.{past_pushed}
-use Rattle.cdp_messages.specs.declared.command.Command.TheVariants.{Redo}
 use Rattle.back_end.proofs.SeatLemmas.{on_ok}
 use Rattle.back_end.proofs.ScriptLemmas.{in_any}
-use Rattle.back_end.proofs.SheetSeats.{dom-off-sent}
-use Rattle.back_end.proofs.KeepSeats.{off-both}
 use Rattle.back_end.proofs.UndoSeats.{handed-few, redo-taken, redo-takes, redone-both, redone-sent, unredone-both, unredone-sent}
 use Rattle.back_end.proofs.UndoSeats.{barred-redo-both, barred-redo-sent}
 use Rattle.back_end.proofs.desk.Desk.redo.Goals as goal
-
-pub returns-then-not-self-clause-stands : goal.returns-then-not-self-clause-stands
-returns-then-not-self-clause-stands c = λ state both.
-    in_any c.refuse.result _ (off-both c.args.self.now c.args.history.now c.args.side.now state c.args.id Redo refl both
-    c.if-not-self.true)
-
-pub returns-then-not-self-clause-sent : goal.returns-then-not-self-clause-sent
-returns-then-not-self-clause-sent c = λ state both.
-    on_ok c.refuse.result _ _ (c.refuse.ensures state)
-    (dom-off-sent c.args.self.now c.args.side.now state c.args.id Redo c.args.out.now.items c.refuse.new.out.items refl both.stands
-    c.if-not-self.true)
 
 pub apply_all-requires-clause-taken : goal.apply_all-requires-clause-taken
 apply_all-requires-clause-taken c =
@@ -38,7 +24,7 @@ returns-in_ok-push_redone-in-Group-clause-stands c = λ state both.
     let out = (c.in-Group.ensures {u = tt}).popped ∙ ap (λ es. Some es) (sym c.into_vec.ensures) in
     in_any c.write_reply.result _
     (redone-both c.args.self.now c.apply_all.new.self c.args.history.now c.push_redone.new.self c.args.side.now c.apply_all.new.side state
-    c.args.id es c.in_ok-backs-in-Group.backs.items both c.if-not-self.false out
+    c.args.id es c.in_ok-backs-in-Group.backs.items both c.requires.on out
     (c.in_ok-backs-in-Group.ensures.stands state both.stands
     (redo-takes c.args.self.now c.args.history.now c.args.side.now state es out both))
     c.in_ok-backs-in-Group.ensures.saved c.in_ok-backs-in-Group.ensures.next c.in_ok-backs-in-Group.ensures.backs
@@ -50,7 +36,7 @@ returns-in_ok-push_redone-in-Group-clause-sent c = λ state both.
     let out = (c.in-Group.ensures {u = tt}).popped ∙ ap (λ es. Some es) (sym c.into_vec.ensures) in
     on_ok c.write_reply.result _ _ c.write_reply.ensures.ok
     (redone-sent c.args.self.now c.args.history.now c.args.side.now state c.args.id es c.args.out.now.items c.apply_all.new.out.items
-    c.write_reply.new.out.items both c.if-not-self.false out
+    c.write_reply.new.out.items both c.requires.on out
     (c.in_ok-backs-in-Group.ensures.sent state both.stands
     (redo-takes c.args.self.now c.args.history.now c.args.side.now state es out both)))
 
@@ -58,26 +44,26 @@ pub returns-in-Nothing-clause-stands : goal.returns-in-Nothing-clause-stands
 returns-in-Nothing-clause-stands c = λ state both.
     let p = (c.in-Nothing.ensures {u = tt}).popped in
     in_any c.write_reply-in-Nothing.result _
-    (unredone-both c.args.self.now c.args.history.now c.pop_redo.new.self c.args.side.now state c.args.id both c.if-not-self.false p.0 p.1
+    (unredone-both c.args.self.now c.args.history.now c.pop_redo.new.self c.args.side.now state c.args.id both c.requires.on p.0 p.1
     c.pop_redo.ensures.after)
 
 pub returns-in-Nothing-clause-sent : goal.returns-in-Nothing-clause-sent
 returns-in-Nothing-clause-sent c = λ state both.
     let p = (c.in-Nothing.ensures {u = tt}).popped in
     on_ok c.write_reply-in-Nothing.result _ _ c.write_reply-in-Nothing.ensures.ok
-    (unredone-sent c.args.self.now c.args.history.now c.pop_redo.new.self c.args.side.now state c.args.id both c.if-not-self.false p.0 p.1
+    (unredone-sent c.args.self.now c.args.history.now c.pop_redo.new.self c.args.side.now state c.args.id both c.requires.on p.0 p.1
     c.args.out.now.items c.write_reply-in-Nothing.new.out.items)
 
 pub returns-in-Crossed-clause-stands : goal.returns-in-Crossed-clause-stands
 returns-in-Crossed-clause-stands c = λ state both.
     let p = (c.in-Crossed.ensures {u = tt}).popped in
-    in_any c.refuse-in-Crossed.result _
-    (barred-redo-both c.args.self.now c.args.history.now c.pop_redo.new.self c.args.side.now state c.args.id both c.if-not-self.false p.0
+    in_any c.refuse.result _
+    (barred-redo-both c.args.self.now c.args.history.now c.pop_redo.new.self c.args.side.now state c.args.id both c.requires.on p.0
     p.1 c.pop_redo.ensures.after)
 
 pub returns-in-Crossed-clause-sent : goal.returns-in-Crossed-clause-sent
 returns-in-Crossed-clause-sent c = λ state both.
     let p = (c.in-Crossed.ensures {u = tt}).popped in
-    on_ok c.refuse-in-Crossed.result _ _ (c.refuse-in-Crossed.ensures state)
-    (barred-redo-sent c.args.self.now c.args.history.now c.pop_redo.new.self c.args.side.now state c.args.id both c.if-not-self.false p.0
-    p.1 c.args.out.now.items c.refuse-in-Crossed.new.out.items)
+    on_ok c.refuse.result _ _ (c.refuse.ensures state)
+    (barred-redo-sent c.args.self.now c.args.history.now c.pop_redo.new.self c.args.side.now state c.args.id both c.requires.on p.0
+    p.1 c.args.out.now.items c.refuse.new.out.items)

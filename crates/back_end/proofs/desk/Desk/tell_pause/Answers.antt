@@ -1,5 +1,5 @@
 -- A pause by each kind of watch is told.
-use Rattle.dom_breakpoints.specs.declared.pauses.WatchKind.TheVariants.{Subtree, Attribute, Removed}
+use Rattle.node_tree.specs.declared.watches.WatchKind.TheVariants.{Subtree, Attribute, Removed}
 use Rattle.back_end.proofs.SeatLemmas.{on_ok}
 use Rattle.back_end.proofs.PauseSeats.{watched-can, attribute-is, removal-is, subtree-is, told-stands, told-sent}
 use Rattle.back_end.proofs.desk.Desk.tell_pause.Goals as goal

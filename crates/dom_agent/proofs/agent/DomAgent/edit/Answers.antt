@@ -2,7 +2,7 @@ use Rattle.std.proofs.Common.{◌++◌, ap, ◌∙◌}
 use Rattle.node_tree.specs.Nodes.{alone}
 use Rattle.page_tree.specs.declared.edits.TreeEdit.TheVariants.{SetAttr, DropAttr, SetText, Attach, Detach}
 use Rattle.node_binding.specs.Bindings.{BindingValue}
-use Rattle.cdp_messages.specs.Moves.{frames_of_moves}
+use Rattle.client_views.specs.Moves.{frames_of_moves}
 use Rattle.dom_agent.specs.Edits.{Edited}
 use Rattle.dom_agent.proofs.EditCode.{on_ok, event_sent, by_agent}
 use Rattle.dom_agent.proofs.agent.DomAgent.edit.Goals as goal

@@ -1,5 +1,5 @@
 use Rattle.std.proofs.Common.{rules, ◌≡◌, true, codes, Some, sym, ap, ◌∙◌}
-use Rattle.cdp_messages.specs.NodeData.{fits_tree}
+use Rattle.dom_objects.specs.NodeData.{fits_tree}
 use Rattle.cdp_messages.specs.declared.down.ReplyBody.TheVariants.{Root}
 use Rattle.cdp_messages.specs.Replies.{reply, body_data, down_of}
 use Rattle.front_mirror.specs.Known.{known_value}

@@ -1,7 +1,7 @@
 -- The slots of the root and of all below it keep its tree.
 use Rattle.std.proofs.Common.{ℕ, List, [], ◌∷◌, ◌++◌, ap, ◌∙◌}
 use Rattle.node_tree.specs.Nodes.{Branch}
-use Rattle.cdp_messages.specs.Told.{Told, seen_branch}
+use Rattle.dom_objects.specs.Told.{Told, seen_branch}
 use Rattle.front_mirror.proofs.ViewLemmas.{mirror_of_root}
 use Rattle.front_mirror.proofs.EditTableLemmas.{root_kept}
 use Rattle.front_mirror.proofs.mirror.Mirror.of_root.Goals as goal

@@ -2,7 +2,7 @@
 use Rattle.std.proofs.Common.{◌≡◌, ◌-◌, ◌++◌, ℕ, suc, refl, ap, ◌∙◌, arith}
 use Rattle.node_tree.specs.Nodes.{Nodes}
 use Rattle.node_tree.specs.Seen.{Seen, seen_id}
-use Rattle.cdp_messages.specs.Views.{keys}
+use Rattle.client_views.specs.Views.{keys}
 use Rattle.front_mirror.specs.Tables.{table_trees}
 use Rattle.front_mirror.proofs.WalkLemmas.{said_turn, said_end, keys-beside}
 use Rattle.front_mirror.proofs.table.Table.+listing.Goals as goal

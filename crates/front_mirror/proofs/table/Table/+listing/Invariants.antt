@@ -1,7 +1,7 @@
 -- The ids so far, before those of the nodes that are left.
 use Rattle.std.proofs.Common.{◌≡◌, ◌+◌, ◌-◌, ◌*◌, ◌<◌, ◌++◌, suc, drop}
 use Rattle.node_tree.specs.Seen.{seen_id}
-use Rattle.cdp_messages.specs.Views.{keys}
+use Rattle.client_views.specs.Views.{keys}
 use Rattle.front_mirror.specs.Tables.{table_trees}
 use Rattle.front_mirror.proofs.table.Table.+listing.Given as goal
 

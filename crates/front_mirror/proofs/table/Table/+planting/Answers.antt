@@ -1,7 +1,7 @@
 -- A node comes in with what is below it, and one tree more.
 use Rattle.std.proofs.Common.{◌+◌, ◌*◌, ◌<◌, ℕ, ap, subst, arith}
 use Rattle.node_tree.specs.Nodes.{Nodes, Branch, nodes_of, node_count, branch_count}
-use Rattle.cdp_messages.specs.Told.{Told, seen_nodes}
+use Rattle.dom_objects.specs.Told.{Told, seen_nodes}
 use Rattle.front_mirror.specs.Shown.{shown_of}
 use Rattle.front_mirror.specs.Tables.{table_slots}
 use Rattle.front_mirror.proofs.TableLemmas.{plant_slots, on_ok}

@@ -2,7 +2,7 @@
 use Rattle.std.proofs.Common.{◌++◌, refl, ap, ◌∙◌}
 use Rattle.node_tree.specs.Seen.{seen_id}
 use Rattle.node_tree.specs.Levels.{most_levels}
-use Rattle.cdp_messages.specs.Views.{keys}
+use Rattle.client_views.specs.Views.{keys}
 use Rattle.front_mirror.specs.Tables.{without_child_id, without_slots, table_slots, table_trees}
 use Rattle.front_mirror.proofs.TurnLemmas.{listed_turned}
 use Rattle.front_mirror.proofs.table.Table.cut.Goals as goal

@@ -1,6 +1,6 @@
 use Rattle.std.proofs.Common.{subst}
 use Rattle.node_tree.specs.Nodes.{Branch}
-use Rattle.cdp_messages.specs.Told.{Told}
+use Rattle.dom_objects.specs.Told.{Told}
 use Rattle.front_mirror.specs.Tables.{TableTurned, with_child_id}
 use Rattle.front_mirror.proofs.table.Table.insert.Goals as goal
 

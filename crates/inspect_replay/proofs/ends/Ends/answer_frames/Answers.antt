@@ -1,5 +1,5 @@
 -- Each frame that is answered takes the run on.
-use Rattle.std.proofs.Common.{◌∷◌, arith, refl, sym, ap, ◌∙◌, Err, Ok}
+use Rattle.std.proofs.Common.{rules, ◌∷◌, arith, refl, sym, ap, ◌∙◌, Err, Ok}
 use Rattle.pipe_frames.specs.Frames.{Frames}
 use Rattle.inspect_world.specs.World.{answered}
 use Rattle.inspect_world.specs.RunStates.{run_step}
@@ -7,48 +7,55 @@ use Rattle.inspect_replay.proofs.EndLemmas.{answer_turn}
 use Rattle.inspect_replay.proofs.FollowLemmas.{follow_turn, follow_end}
 use Rattle.inspect_replay.proofs.ends.Ends.answer_frames.Goals as goal
 
-pub returns-in-Err-clause-steps : goal.returns-in-Err-clause-steps
-returns-in-Err-clause-steps g c = λ up0 down0 w run.
-    let both = answer_turn {T = Unit {0}} (Err c.in-Err.stop) (g.L.Link.honest c.loop-frame.link)
-    (g.L.Link.honest c.answer.new.link) up0 down0 (g.L.Link.up c.loop-frame.link) (g.L.Link.down c.loop-frame.link)
-    (g.L.Link.up c.answer.new.link) (g.L.Link.down c.answer.new.link)
-    (answered run_step c.args.self.now.splitter.whole w) c.loop-frame.self c.answer.new.self c.next.new.self
-    c.deref.result.now (c.loop-frame.invariant.2 up0 down0 w run)
-    (c.in-Some.ensures.first ∙ ap (λ f. f ∷ c.next.new.self.whole) (sym c.deref.ensures.value)) c.in-Some.ensures.rest
-    c.in-Err.ensures.steps c.answer.ensures.same in
-    (both.0, tt)
+pub returns-in-Err : goal.returns-in-Err
+returns-in-Err g c = record {
+  honest = search rules;
+  cause = search rules;
+  follows = λ state0 up0 down0 f.
+      follow_turn {T = Unit {0}} (Err c.in-Err.stop) state0 up0 down0 (g.L.Link.up c.loop-frame.link) (g.L.Link.down c.loop-frame.link)
+      (g.L.Link.up c.answer.new.link) (g.L.Link.down c.answer.new.link)
+      c.loop-frame.self c.answer.new.self c.next.new.self c.deref.result.now (c.loop-frame.invariant.3 state0 up0 down0 f)
+      (c.in-Some.ensures.first ∙ ap (λ f. f ∷ c.next.new.self.whole) (sym c.deref.ensures.value)) c.in-Some.ensures.rest
+      c.in-Err.ensures.goes.follows;
+  steps = λ up0 down0 w run.
+      let both = answer_turn {T = Unit {0}} (Err c.in-Err.stop) (g.L.Link.honest c.loop-frame.link)
+      (g.L.Link.honest c.answer.new.link) up0 down0 (g.L.Link.up c.loop-frame.link) (g.L.Link.down c.loop-frame.link)
+      (g.L.Link.up c.answer.new.link) (g.L.Link.down c.answer.new.link)
+      (answered run_step c.args.self.now.splitter.whole w) c.loop-frame.self c.answer.new.self c.next.new.self
+      c.deref.result.now (c.loop-frame.invariant.2 up0 down0 w run)
+      (c.in-Some.ensures.first ∙ ap (λ f. f ∷ c.next.new.self.whole) (sym c.deref.ensures.value)) c.in-Some.ensures.rest
+      c.in-Err.ensures.goes.steps c.answer.ensures.same in
+      (both.0, tt);
+}
 
 pub loop-frame-preserved : goal.loop-frame-preserved
 loop-frame-preserved g c = (
-  λ h. c.answer.ensures.honest (c.loop-frame.invariant.0 h),
-  omega (arith, c.loop-frame.invariant.1, c.answer.ensures.cause.link_later),
+  λ h. c.answer.ensures.goes.honest (c.loop-frame.invariant.0 h),
+  omega (arith, c.loop-frame.invariant.1, c.answer.ensures.goes.cause.link_later),
   λ up0 down0 w run.
       let both = answer_turn (Ok c.in-Ok.field-0) _ _ up0 down0 (g.L.Link.up c.loop-frame.link) (g.L.Link.down c.loop-frame.link)
       (g.L.Link.up c.answer.new.link) (g.L.Link.down c.answer.new.link)
       (answered run_step c.args.self.now.splitter.whole w) c.loop-frame.self c.answer.new.self c.next.new.self
       c.deref.result.now (c.loop-frame.invariant.2 up0 down0 w run)
       (c.in-Some.ensures.first ∙ ap (λ f. f ∷ c.next.new.self.whole) (sym c.deref.ensures.value)) c.in-Some.ensures.rest
-      (c.in-Ok.ensures {u = c.in-Ok.field-0}).steps c.answer.ensures.same in
+      (c.in-Ok.ensures {u = c.in-Ok.field-0}).goes.steps c.answer.ensures.same in
       both.1,
   λ state0 up0 down0 f.
       (follow_turn (Ok c.in-Ok.field-0) state0 up0 down0 (g.L.Link.up c.loop-frame.link) (g.L.Link.down c.loop-frame.link)
       (g.L.Link.up c.answer.new.link) (g.L.Link.down c.answer.new.link)
       c.loop-frame.self c.answer.new.self c.next.new.self c.deref.result.now (c.loop-frame.invariant.3 state0 up0 down0 f)
       (c.in-Some.ensures.first ∙ ap (λ f. f ∷ c.next.new.self.whole) (sym c.deref.ensures.value)) c.in-Some.ensures.rest
-      (c.in-Ok.ensures {u = c.in-Ok.field-0}).follows).0,
+      (c.in-Ok.ensures {u = c.in-Ok.field-0}).goes.follows).0,
 )
 
-pub returns-in-Err-clause-follows : goal.returns-in-Err-clause-follows
-returns-in-Err-clause-follows g c = λ state0 up0 down0 f.
-    follow_turn {T = Unit {0}} (Err c.in-Err.stop) state0 up0 down0 (g.L.Link.up c.loop-frame.link) (g.L.Link.down c.loop-frame.link)
-    (g.L.Link.up c.answer.new.link) (g.L.Link.down c.answer.new.link)
-    c.loop-frame.self c.answer.new.self c.next.new.self c.deref.result.now (c.loop-frame.invariant.3 state0 up0 down0 f)
-    (c.in-Some.ensures.first ∙ ap (λ f. f ∷ c.next.new.self.whole) (sym c.deref.ensures.value)) c.in-Some.ensures.rest
-    c.in-Err.ensures.follows
-
-pub returns-clause-follows : goal.returns-clause-follows
-returns-clause-follows g c = λ state0 up0 down0 f.
-    let last = c.in_default.ensures {u = tt} in
-    follow_end state0 up0 down0 (g.L.Link.up c.loop-frame.link) (g.L.Link.down c.loop-frame.link) c.loop-frame.self _
-    (c.loop-frame.invariant.3 state0 up0 down0 f) last.unchanged (ap (λ (s : Frames). s.whole) last.unchanged ∙ last.none.0 refl)
-    (λ rest. refl)
+pub returns : goal.returns
+returns g c = record {
+  honest = search rules;
+  cause = search rules;
+  follows = λ state0 up0 down0 f.
+      let last = c.in_default.ensures {u = tt} in
+      follow_end state0 up0 down0 (g.L.Link.up c.loop-frame.link) (g.L.Link.down c.loop-frame.link) c.loop-frame.self _
+      (c.loop-frame.invariant.3 state0 up0 down0 f) last.unchanged (ap (λ (s : Frames). s.whole) last.unchanged ∙ last.none.0 refl)
+      (λ rest. refl);
+  steps = search rules;
+}

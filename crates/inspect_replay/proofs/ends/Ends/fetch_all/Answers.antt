@@ -1,5 +1,5 @@
 -- Each text that is fetched takes the run on.
-use Rattle.std.proofs.Common.{get_or, arith, refl, Ok, Err, [], drop}
+use Rattle.std.proofs.Common.{rules, get_or, arith, refl, Ok, Err, [], drop}
 use Rattle.std.proofs.lemmas.List.{drop_all}
 use Rattle.front_mirror.specs.Front.{first_value}
 use Rattle.inspect_world.specs.Fetches.{all_fetched}
@@ -9,15 +9,21 @@ use Rattle.inspect_replay.proofs.EndLemmas.{fetch_turn, fetch_end}
 use Rattle.inspect_replay.proofs.FollowLemmas.{kept-run}
 use Rattle.inspect_replay.proofs.ends.Ends.fetch_all.Goals as goal
 
-pub returns-in-Err-clause-steps : goal.returns-in-Err-clause-steps
-returns-in-Err-clause-steps g c = λ up0 down0 w few run.
-    let both = fetch_turn {T = Unit {0}} (Err c.in-Err.stop) (g.L.Link.honest c.loop-number.link)
-    (g.L.Link.honest c.fetch_if_known.new.link) up0 down0 (g.L.Link.up c.loop-number.link) (g.L.Link.down c.loop-number.link)
-    (g.L.Link.up c.fetch_if_known.new.link) (g.L.Link.down c.fetch_if_known.new.link)
-    (all_fetched replay front_fetcher (first_value []) c.args.numbers.now w) c.args.numbers.now c.loop-number.number-index
-    (get_or c.args.numbers.now c.loop-number.number-index 0) c.loop-number.self c.fetch_if_known.new.self
-    c.loop-number-test.true refl (c.loop-number.invariant.2 up0 down0 w few run) c.in-Err.ensures.steps in
-    (both.0, tt)
+pub returns-in-Err : goal.returns-in-Err
+returns-in-Err g c = record {
+  honest = search rules;
+  cause = search rules;
+  follows = λ state0 up0 down0 f.
+      c.in-Err.ensures.follows state0 up0 down0 (c.loop-number.invariant.3 state0 up0 down0 f);
+  steps = λ up0 down0 w few run.
+      let both = fetch_turn {T = Unit {0}} (Err c.in-Err.stop) (g.L.Link.honest c.loop-number.link)
+      (g.L.Link.honest c.fetch_if_known.new.link) up0 down0 (g.L.Link.up c.loop-number.link) (g.L.Link.down c.loop-number.link)
+      (g.L.Link.up c.fetch_if_known.new.link) (g.L.Link.down c.fetch_if_known.new.link)
+      (all_fetched replay front_fetcher (first_value []) c.args.numbers.now w) c.args.numbers.now c.loop-number.number-index
+      (get_or c.args.numbers.now c.loop-number.number-index 0) c.loop-number.self c.fetch_if_known.new.self
+      c.loop-number-test.true refl (c.loop-number.invariant.2 up0 down0 w few run) c.in-Err.ensures.steps in
+      (both.0, tt);
+}
 
 pub loop-number-preserved : goal.loop-number-preserved
 loop-number-preserved g c = (
@@ -33,20 +39,18 @@ loop-number-preserved g c = (
   λ state0 up0 down0 f. ((c.in-Ok.ensures {u = c.in-Ok.field-0}).follows state0 up0 down0 (c.loop-number.invariant.3 state0 up0 down0 f)).0,
 )
 
-pub returns-in-Err-clause-follows : goal.returns-in-Err-clause-follows
-returns-in-Err-clause-follows g c = λ state0 up0 down0 f.
-    c.in-Err.ensures.follows state0 up0 down0 (c.loop-number.invariant.3 state0 up0 down0 f)
-
-pub returns-clause-follows : goal.returns-clause-follows
-returns-clause-follows g c = λ state0 up0 down0 f.
-    kept-run {T = Unit {0}} (Ok tt) state0 up0 down0 (g.L.Link.up c.loop-number.link)
-    (g.L.Link.down c.loop-number.link) c.loop-number.self tt (c.loop-number.invariant.3 state0 up0 down0 f)
-
-pub returns-clause-steps : goal.returns-clause-steps
-returns-clause-steps g c = λ up0 down0 w few run. (
-  tt,
-  fetch_end (g.L.Link.honest c.loop-number.link) up0 down0 (g.L.Link.up c.loop-number.link) (g.L.Link.down c.loop-number.link)
-      (all_fetched replay front_fetcher (first_value []) c.args.numbers.now w)
-      (drop c.loop-number.number-index c.args.numbers.now) c.loop-number.self
-      (drop_all c.loop-number.number-index c.args.numbers.now c.loop-number-test.false) (c.loop-number.invariant.2 up0 down0 w few run),
-)
+pub returns : goal.returns
+returns g c = record {
+  honest = search rules;
+  cause = search rules;
+  follows = λ state0 up0 down0 f.
+      kept-run {T = Unit {0}} (Ok tt) state0 up0 down0 (g.L.Link.up c.loop-number.link)
+      (g.L.Link.down c.loop-number.link) c.loop-number.self tt (c.loop-number.invariant.3 state0 up0 down0 f);
+  steps = λ up0 down0 w few run. (
+    tt,
+    fetch_end (g.L.Link.honest c.loop-number.link) up0 down0 (g.L.Link.up c.loop-number.link) (g.L.Link.down c.loop-number.link)
+        (all_fetched replay front_fetcher (first_value []) c.args.numbers.now w)
+        (drop c.loop-number.number-index c.args.numbers.now) c.loop-number.self
+        (drop_all c.loop-number.number-index c.args.numbers.now c.loop-number-test.false) (c.loop-number.invariant.2 up0 down0 w few run),
+  );
+}

@@ -1,4 +1,5 @@
 -- The seat of a page that was just loaded stands for its state.
+use Rattle.std.proofs.Common.{refl, rules}
 use Rattle.page_forms.specs.Pages.{loaded_page}
 use Rattle.inspect_replay.proofs.RunLemmas.{seated-first}
 use Rattle.inspect_replay.proofs.ends.Ends.new.Goals as goal
@@ -15,4 +16,24 @@ invariant_of-result c = record {
     watches_are = c.new-2.ensures.watches;
     history_is = c.new-2.ensures.history;
   });
+}
+
+pub returns : goal.returns
+returns c = record {
+  side = record {
+    page_is = (c.in_ok-new.ensures {u = tt}).page;
+    sheets_are = (c.in_ok-new.ensures {u = tt}).sheets;
+    next_is = (c.in_ok-new.ensures {u = tt}).next;
+    off = c.new-2.ensures.off;
+    css = c.new-2.ensures.css;
+    agent_is = c.new-2.ensures.agent;
+    watches_are = c.new-2.ensures.watches;
+    history_is = c.new-2.ensures.history;
+  };
+  splitter = search rules;
+  front = search rules;
+  up = refl;
+  down = refl;
+  told = refl;
+  told_pauses = refl;
 }

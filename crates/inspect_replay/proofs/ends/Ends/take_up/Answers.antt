@@ -1,34 +1,36 @@
 -- Bytes that come up are cut into the frames that become whole.
-use Rattle.std.proofs.Common.{◌≡◌, ◌≤◌, ◌+◌, ◌-◌, length, arith, ap, ◌∙◌, refl}
+use Rattle.std.proofs.Common.{rules, ◌≡◌, ◌≤◌, ◌+◌, ◌-◌, length, arith, ap, ◌∙◌, refl}
 use Rattle.pipe_frames.specs.Frames.{continued}
 use Rattle.inspect_replay.specs.Runs.{ends_of}
 use Rattle.inspect_replay.proofs.EndLemmas.{given_in}
 use Rattle.inspect_replay.proofs.FollowLemmas.{given-follows, follows-good}
 use Rattle.inspect_replay.proofs.ends.Ends.take_up.Goals as goal
 
-pub returns-in_ok-take-in-Ok-clause-steps : goal.returns-in_ok-take-in-Ok-clause-steps
-returns-in_ok-take-in-Ok-clause-steps g c = λ up0 down0 w run.
-    let e = ends_of c.args.self.now in
-    let left : c.saturating_sub-self.result
-    ≡ c.args.self.now.up_there - length c.in-Ok.piece.items = omega
-    (arith, c.saturating_sub-self.ensures, c.len.ensures, c.in-Ok.piece.ok) in
-    let all = given_in up0 down0 _ _ _ _ w e c.args.n _ c.min.result c.in-Ok.piece.items c.args.self.now.splitter c.take.new.self
-    run.so_far.in_world run.none_whole refl c.min.ensures (c.in-Ok.ensures.all run.so_far.is_honest)
-    (c.in-Ok.ensures.up.0, c.in-Ok.ensures.up.1) c.receive_up.ensures.down left
-    (c.in_ok-take-in-Ok.ensures.ok ∙ ap (continued c.args.self.now.splitter) c.deref.ensures.value) in
-    (tt, (record { is_honest = c.receive_up.ensures.honest run.so_far.is_honest; in_world = all.0 }, all.1))
-
-pub returns-in_ok-take-in-Ok-clause-follows : goal.returns-in_ok-take-in-Ok-clause-follows
-returns-in_ok-take-in-Ok-clause-follows g c = λ state0 up0 down0 run.
-    let most : length c.in-Ok.piece.items ≤ c.min.result = c.in-Ok.ensures.up.2 in
-    let left : c.saturating_sub-self.result + length c.in-Ok.piece.items
-    ≡ c.args.self.now.up_there = omega (arith, c.saturating_sub-self.ensures, c.len.ensures, c.in-Ok.piece.ok, most, c.min.ensures) in
-    let after = given-follows state0 up0 down0 (g.L.Link.up c.args.link.now) (g.L.Link.down c.args.link.now)
-    (g.L.Link.up c.receive_up.new.link) (g.L.Link.down c.receive_up.new.link)
-    (ends_of c.args.self.now) c.args.self.now.splitter c.take.new.self c.deref.result.now c.in-Ok.piece.items c.saturating_sub-self.result
-    run.so_far left (c.in-Ok.ensures.up.0, c.in-Ok.ensures.up.1) c.receive_up.ensures.down c.deref.ensures.value
-    c.in_ok-take-in-Ok.ensures.ok in (
-      after,
-      follows-good state0 up0 down0 (g.L.Link.up c.receive_up.new.link)
-          (g.L.Link.down c.receive_up.new.link) c.take.new.self.whole _ after,
-    )
+pub returns-in_ok-take-in-Ok : goal.returns-in_ok-take-in-Ok
+returns-in_ok-take-in-Ok g c = record {
+  honest = search rules;
+  cause = search rules;
+  follows = λ state0 up0 down0 run.
+      let most : length c.in-Ok.piece.items ≤ c.min.result = c.in-Ok.ensures.up.2 in
+      let left : c.saturating_sub-self.result + length c.in-Ok.piece.items
+      ≡ c.args.self.now.up_there = omega (arith, c.saturating_sub-self.ensures, c.len.ensures, c.in-Ok.piece.ok, most, c.min.ensures) in
+      let after = given-follows state0 up0 down0 (g.L.Link.up c.args.link.now) (g.L.Link.down c.args.link.now)
+      (g.L.Link.up c.receive_up.new.link) (g.L.Link.down c.receive_up.new.link)
+      (ends_of c.args.self.now) c.args.self.now.splitter c.take.new.self c.deref.result.now c.in-Ok.piece.items c.saturating_sub-self.result
+      run.so_far left (c.in-Ok.ensures.up.0, c.in-Ok.ensures.up.1) c.receive_up.ensures.down c.deref.ensures.value
+      c.in_ok-take-in-Ok.ensures.ok in (
+        after,
+        follows-good state0 up0 down0 (g.L.Link.up c.receive_up.new.link)
+            (g.L.Link.down c.receive_up.new.link) c.take.new.self.whole _ after,
+      );
+  steps = λ up0 down0 w run.
+      let e = ends_of c.args.self.now in
+      let left : c.saturating_sub-self.result
+      ≡ c.args.self.now.up_there - length c.in-Ok.piece.items = omega
+      (arith, c.saturating_sub-self.ensures, c.len.ensures, c.in-Ok.piece.ok) in
+      let all = given_in up0 down0 _ _ _ _ w e c.args.n _ c.min.result c.in-Ok.piece.items c.args.self.now.splitter c.take.new.self
+      run.so_far.in_world run.none_whole refl c.min.ensures (c.in-Ok.ensures.all run.so_far.is_honest)
+      (c.in-Ok.ensures.up.0, c.in-Ok.ensures.up.1) c.receive_up.ensures.down left
+      (c.in_ok-take-in-Ok.ensures.ok ∙ ap (continued c.args.self.now.splitter) c.deref.ensures.value) in
+      (tt, (record { is_honest = c.receive_up.ensures.honest run.so_far.is_honest; in_world = all.0 }, all.1));
+}

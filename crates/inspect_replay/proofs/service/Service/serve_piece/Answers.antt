@@ -1,5 +1,5 @@
 -- A piece is no longer than what it was read into.
-use Rattle.std.proofs.Common.{length, ◌≤◌, arith}
+use Rattle.std.proofs.Common.{arith}
 use Rattle.std.proofs.lemmas.List.{length-take}
 use Rattle.inspect_replay.proofs.ServeRoom.{fewer-left}
 use Rattle.inspect_replay.proofs.service.Service.serve_piece.Goals as goal

@@ -1,0 +1,101 @@
+// Tokens taken one by one, each of the kind that is meant to come next.
+ghost use Rattle.std.specs.Prelude.{◌≡◌, ◌∷◌, IfOk, OnOk};
+ghost use Rattle.json.specs.Token.{begin_object, end_object, begin_array, key, string};
+
+use json::{Reader, Token};
+use std::alloc::{AllocError, AllocFailed};
+use thiserror::Error;
+
+/// Why a value is not read off its tokens.
+#[derive(Clone, Copy, Debug, Error)]
+pub enum ScanErr {
+    /// They are not of the usual form. They may spell a value all the same, or one that is refused.
+    #[error("the text is not in its usual form")]
+    OtherForm,
+    #[error("out of memory")]
+    Memory,
+}
+
+impl From<AllocError> for ScanErr {
+    ghost use Rattle.std.specs.Prelude.{◌≡◌};
+    ghost use Rattle.cdp_json.specs.declared.tokens.ScanErr.TheVariants.{Memory};
+
+    ghost from_gives = { λ _ e. e ≡ Memory };
+
+    fn from(_: AllocError) -> ScanErr {
+        ScanErr::Memory
+    }
+}
+
+impl<T: Drop> From<AllocFailed<T>> for ScanErr {
+    ghost use Rattle.std.specs.Prelude.{◌≡◌};
+    ghost use Rattle.cdp_json.specs.declared.tokens.ScanErr.TheVariants.{Memory};
+
+    ghost from_gives = { λ _ e. e ≡ Memory };
+
+    fn from(_: AllocFailed<T>) -> ScanErr {
+        ScanErr::Memory
+    }
+}
+
+/// The beginning of an object. Each of these answers `OtherForm` exactly where another token comes next, or none.
+pub fn take_begin_object(reader: &mut Reader<'_>) -> Result<(), ScanErr>
+    ensures { OnOk result (reader.old ≡ begin_object ∷ reader.new) }
+{
+    match reader.next() {
+        Some(Token::BeginObject) => Ok(()),
+        _ => Err(ScanErr::OtherForm),
+    }
+}
+
+/// The end of an object.
+pub fn take_end_object(reader: &mut Reader<'_>) -> Result<(), ScanErr>
+    ensures { OnOk result (reader.old ≡ end_object ∷ reader.new) }
+{
+    match reader.next() {
+        Some(Token::EndObject) => Ok(()),
+        _ => Err(ScanErr::OtherForm),
+    }
+}
+
+/// The beginning of an array.
+pub fn take_begin_array(reader: &mut Reader<'_>) -> Result<(), ScanErr>
+    ensures { OnOk result (reader.old ≡ begin_array ∷ reader.new) }
+{
+    match reader.next() {
+        Some(Token::BeginArray) => Ok(()),
+        _ => Err(ScanErr::OtherForm),
+    }
+}
+
+/// The name of a member, whatever it is.
+pub fn take_any_key<'a>(reader: &mut Reader<'a>) -> Result<&'a str, ScanErr>
+    ensures { IfOk result (λ name. reader.old ≡ key name.now ∷ reader.new) }
+{
+    match reader.next() {
+        Some(Token::Key(name)) => Ok(name),
+        _ => Err(ScanErr::OtherForm),
+    }
+}
+
+/// The name of a member, which has to be this one.
+pub fn take_key(reader: &mut Reader<'_>, name: &str) -> Result<(), ScanErr>
+    ensures { OnOk result (reader.old ≡ key name.now ∷ reader.new) }
+{
+    let found = take_any_key(reader)?;
+    if found == name {
+        Ok(())
+    } else {
+        Err(ScanErr::OtherForm)
+    }
+}
+
+/// A text.
+pub fn take_text<'a>(reader: &mut Reader<'a>) -> Result<&'a str, ScanErr>
+    ensures { IfOk result (λ text. reader.old ≡ string text.now ∷ reader.new) }
+{
+    match reader.next() {
+        Some(Token::String(text)) => Ok(text),
+        _ => Err(ScanErr::OtherForm),
+    }
+}

@@ -1,0 +1,6 @@
+use Rattle.std.proofs.Common.{ap}
+use Rattle.cdp_messages.specs.Methods.{MethodSaid}
+use Rattle.cdp_messages.proofs.method.Method.as_str.Goals as goal
+
+pub returns : goal.returns
+returns c = ap (λ (r : MethodSaid). r.name) c.row.ensures

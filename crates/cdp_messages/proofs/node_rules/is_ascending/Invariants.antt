@@ -1,7 +1,0 @@
-use Rattle.std.proofs.Common.{◌≡◌, drop}
-use Rattle.node_tree.specs.Labels.{is_ascending}
-use Rattle.cdp_messages.proofs.Rules.{follows}
-use Rattle.cdp_messages.proofs.node_rules.is_ascending.Given as goal
-
-abbrev pub invariant-loop-pair : goal.invariant-loop-pair
-invariant-loop-pair l = follows l.last (drop l.pair-index l.pairs) ≡ is_ascending l.pairs

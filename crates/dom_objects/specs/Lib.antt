@@ -1,0 +1,10 @@
+pub mod Told
+pub mod NodeObject
+pub mod NodeData
+pub mod NodeKinds
+pub mod NodeTexts
+pub mod Tokens
+pub mod NodeRows
+pub mod Raw
+pub mod Answers
+pub mod Tellable

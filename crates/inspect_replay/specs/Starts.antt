@@ -1,0 +1,33 @@
+-- Ends of a page that was just loaded, before anything was sent.
+use Rattle.std.specs.Prelude.{◌≡◌, ◌+◌, [], false, length}
+use Rattle.node_binding.specs.Bindings.{empty_from}
+use Rattle.dom_breakpoints.specs.Watched.{unwatched}
+use Rattle.undo_marks.specs.Marks.{no_marks}
+use Rattle.page_tree.specs.Pages.{loaded}
+use Rattle.page_forms.specs.Pages.{LoadedPage}
+use Rattle.front_mirror.specs.Front.{first_state}
+use Rattle.back_end.specs.Sheets.{as_book, numbered_sheets}
+use Rattle.back_end.specs.declared.seat.Seat.{Seat}
+use Rattle.back_end.specs.declared.side.PageSide.{PageSide}
+use Rattle.inspect_replay.specs.declared.ends.Ends.{Ends}
+
+-- a side of this page that was just loaded, with serials and numbers of sheets from 1 on, and a seat at which nothing was asked
+pub record IsNewSide (seat : Seat) (side : PageSide) (page : LoadedPage) : Type 0 where
+  pub page_is : side.page ≡ loaded 1 page.nodes
+  pub sheets_are : side.sheets.entries ≡ as_book (numbered_sheets 1 page.sheets)
+  pub next_is : side.sheets.next ≡ 1 + length page.sheets
+  pub off : seat.desk.is_on ≡ false
+  pub css : seat.desk.css ≡ false
+  pub agent_is : seat.desk.agent ≡ empty_from 1
+  pub watches_are : seat.desk.watches ≡ unwatched
+  pub history_is : seat.history ≡ no_marks
+
+-- the ends of it: nothing was sent, given or told
+pub record IsNew (e : Ends) (page : LoadedPage) : Type 0 where
+  pub side : IsNewSide e.seat e.side page
+  pub splitter : e.splitter ≡ record { whole = []; rest = [] }
+  pub front : e.front ≡ first_state []
+  pub up : e.up_there ≡ 0
+  pub down : e.down_there ≡ 0
+  pub told : e.told ≡ 0
+  pub told_pauses : e.told_pauses ≡ 0
