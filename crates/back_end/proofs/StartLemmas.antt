@@ -7,7 +7,8 @@ use Rattle.node_binding.specs.Sessions.{begun}
 use Rattle.node_binding.proofs.SessionLemmas.{IsSession-begun}
 use Rattle.node_binding.proofs.StandsLemmas.{Stands-begun}
 use Rattle.back_end.specs.States.{page_nodes, loaded_state, new_client, HoldsNow}
-use Rattle.back_end.specs.Starts.{StartIsState, NewSeatsStand}
+use Rattle.back_end.specs.Starts.{StartIsState, NewSeatsStand, SheetNumbersDiffer}
+use Rattle.back_end.proofs.SheetLemmas.{ascend-distinct}
 use Rattle.back_end.proofs.StepLemmas.{loaded-is}
 use Rattle.back_end.proofs.WatchedLemmas.{none-set}
 
@@ -50,3 +51,7 @@ stands-first seat side page can texts new =
       };
       kept = record { edits = new.history_is; history = is.history };
     }
+
+-- numbers that ascend differ
+pub numbers-differ : SheetNumbersDiffer
+numbers-differ state is = ascend-distinct 1 state.side.next_sheet state.side.sheets is.now.sheets.numbers

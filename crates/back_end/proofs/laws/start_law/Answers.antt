@@ -1,5 +1,5 @@
 -- Nothing was done so far.
-use Rattle.back_end.proofs.StartLemmas.{IsState-first, stands-first}
+use Rattle.back_end.proofs.StartLemmas.{IsState-first, stands-first, numbers-differ}
 use Rattle.back_end.proofs.laws.start_law.Goals as goal
 
 pub returns-clause-valid : goal.returns-clause-valid
@@ -7,3 +7,6 @@ returns-clause-valid c = IsState-first
 
 pub returns-clause-stands : goal.returns-clause-stands
 returns-clause-stands c = stands-first
+
+pub returns-clause-numbers : goal.returns-clause-numbers
+returns-clause-numbers c = numbers-differ
