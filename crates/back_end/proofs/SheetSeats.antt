@@ -33,7 +33,7 @@ use Rattle.cascade_match.proofs.MatchLemmas.{drop-at}
 use Rattle.cdp_messages.specs.declared.css_ask.CssAsk.{CssAsk}
 use Rattle.cdp_messages.specs.declared.css_ask.CssAsk.TheVariants as css
 use Rattle.css_agent.specs.Told.{told_origin, told_header, added_message, turn_messages, event_messages, message_frame, message_frames}
-use Rattle.css_agent.specs.Asks.{sheet_named, if_sheet, css_outcome, answer_move}
+use Rattle.css_agent.specs.Asks.{sheet_named, if_sheet, styled_page, css_outcome, answer_move}
 use Rattle.dom_agent.specs.Keepers.{session_keeper, binding_keeper}
 use Rattle.dom_agent.specs.Requests.{known_node}
 use Rattle.back_end.specs.declared.desk.Desk.{Desk}
@@ -42,7 +42,7 @@ use Rattle.back_end.specs.declared.faults.ActFault.{ActFault}
 use Rattle.back_end.specs.declared.faults.ActFault.TheVariants.{Sheet}
 use Rattle.style_edits.specs.declared.faults.SheetFault.TheVariants.{TooBig}
 use Rattle.back_end.specs.Sheets.{origin_in_book, entry_of_sheet, as_book, numbered_sheets, SheetChange, leaves, comes, NumberedBook}
-use Rattle.back_end.specs.States.{State, page_nodes, book_in}
+use Rattle.back_end.specs.States.{State, page_nodes, book_in, first_medium, styled_in}
 use Rattle.back_end.specs.Plans.{Deed, restyles, size_fault, drop_fault, replace_fault, dropping, replacing}
 use Rattle.dom_breakpoints.specs.Watched.{unwatched}
 use Rattle.cdp_messages.specs.declared.command.Command.{Command}
@@ -247,11 +247,14 @@ same-node page w b (Some serial) = refl
 -- an ask that names no node
 plain-asked : (d : Desk) (s : PageSide) (state : State) (id : ℕ) (ask : CssAsk) (page : PageValue) (book : List SheetEntry)
     (old new : List ℕ) → DeskStandsFor d s state
-    → page ≡ s.page → book ≡ s.sheets.entries → new ≡ old ++ frames_of_moves (answer_move id (css_outcome page.tree book 0 ask) ∷ [])
-    → new ≡ old ++ frames_of_moves (answer_move id (css_outcome state.side.page.tree (book_in state) 0 ask) ∷ [])
+    → page ≡ s.page → book ≡ s.sheets.entries → new ≡ old ++ frames_of_moves
+    (answer_move id (css_outcome (styled_page page.tree book first_medium) 0 ask) ∷ [])
+    → new ≡ old ++ frames_of_moves (answer_move id (css_outcome (styled_in state) 0 ask) ∷ [])
 plain-asked d s state id ask page book old new stands page_is book_is sent =
-    sent ∙ ap (λ (p : PageValue). old ++ frames_of_moves (answer_move id (css_outcome p.tree book 0 ask) ∷ [])) (page_is ∙ stands.page_is)
-    ∙ ap (λ (b : List SheetEntry). old ++ frames_of_moves (answer_move id (css_outcome state.side.page.tree b 0 ask) ∷ []))
+    sent ∙ ap (λ (p : PageValue). old ++ frames_of_moves
+    (answer_move id (css_outcome (styled_page p.tree book first_medium) 0 ask) ∷ [])) (page_is ∙ stands.page_is)
+    ∙ ap (λ (b : List SheetEntry). old ++ frames_of_moves
+    (answer_move id (css_outcome (styled_page state.side.page.tree b first_medium) 0 ask) ∷ []))
     (book_is ∙ stands.sheets_are)
 
 -- the ask names no node
@@ -261,7 +264,7 @@ NamesNone (css.GetStyleSheetText sheet) = Unit {0}
 NamesNone (css.CollectClassNames sheet) = Unit {0}
 
 plain-frames : (id : ℕ) (ask : CssAsk) (state : State) → NamesNone ask
-    → frames_of_moves (answer_move id (css_outcome state.side.page.tree (book_in state) 0 ask) ∷ [])
+    → frames_of_moves (answer_move id (css_outcome (styled_in state) 0 ask) ∷ [])
     ≡ frames_of_moves (css_step id ask state).moves
 plain-frames id (css.GetMatchedStyles target) state none = absurd none
 plain-frames id (css.GetStyleSheetText sheet) state none = text-frames id (sheet_named sheet (book_in state))
@@ -271,7 +274,7 @@ pub plain-sent : (d : Desk) (s : PageSide) (state : State) (id : ℕ) (ask : Css
     (old new : List ℕ) → DeskStandsFor d s state
     → ((x : List ℕ) × (ask ≡ css.GetStyleSheetText x)) ⊎ ((x : List ℕ) × (ask ≡ css.CollectClassNames x)) → page ≡ s.page
     → book ≡ s.sheets.entries
-    → new ≡ old ++ frames_of_moves (answer_move id (css_outcome page.tree book 0 ask) ∷ [])
+    → new ≡ old ++ frames_of_moves (answer_move id (css_outcome (styled_page page.tree book first_medium) 0 ask) ∷ [])
     → new ≡ old ++ frames_of_moves (css_step id ask state).moves
 plain-sent d s state id ask page book old new stands is page_is book_is sent =
     plain-asked d s state id ask page book old new stands page_is book_is sent ∙ ap (λ (bs : List ℕ). old ++ bs)
@@ -298,13 +301,16 @@ element-is d s state page named r stands page_is is =
 pub node-asked : (d : Desk) (s : PageSide) (state : State) (id named serial : ℕ) (page : PageValue) (book : List SheetEntry)
     (old new : List ℕ) → DeskStandsFor d s state
     → page ≡ s.page → book ≡ s.sheets.entries → element_named named state ≡ Ok serial
-    → new ≡ old ++ frames_of_moves (answer_move id (css_outcome page.tree book serial (css.GetMatchedStyles named)) ∷ [])
+    → new ≡ old ++ frames_of_moves
+    (answer_move id (css_outcome (styled_page page.tree book first_medium) serial (css.GetMatchedStyles named)) ∷ [])
     → new ≡ old ++ frames_of_moves (css_step id (css.GetMatchedStyles named) state).moves
 node-asked d s state id named serial page book old new stands page_is book_is is sent =
     sent ∙ ap (λ (p : PageValue). old
-    ++ frames_of_moves (answer_move id (css_outcome p.tree book serial (css.GetMatchedStyles named)) ∷ [])) (page_is ∙ stands.page_is)
+    ++ frames_of_moves
+    (answer_move id (css_outcome (styled_page p.tree book first_medium) serial (css.GetMatchedStyles named)) ∷ [])) (page_is ∙ stands.page_is)
     ∙ ap (λ (b : List SheetEntry). old
-    ++ frames_of_moves (answer_move id (css_outcome state.side.page.tree b serial (css.GetMatchedStyles named)) ∷ []))
+    ++ frames_of_moves
+    (answer_move id (css_outcome (styled_page state.side.page.tree b first_medium) serial (css.GetMatchedStyles named)) ∷ []))
     (book_is ∙ stands.sheets_are)
     ∙ ap (λ (r : Result ℕ Why). old ++ frames_of_moves (node_answer id (css.GetMatchedStyles named) r state ∷ [])) (sym is)
 

@@ -15,6 +15,9 @@ use Rattle.undo_marks.specs.declared.inverse_lists.Inverse.{Inverse}
 use Rattle.dom_agent.specs.Laws.{RowsHaveUtf8, session_view as seen_by}
 use Rattle.page_forms.specs.Pages.{LoadedPage}
 use Rattle.sheet_reader.specs.declared.book.SheetEntry.{SheetEntry}
+use Rattle.media_rules.specs.declared.medium.Medium.{Medium}
+use Rattle.media_rules.specs.declared.medium.MediumKind.TheVariants.{Screen}
+use Rattle.css_agent.specs.Asks.{StyledPage, styled_page}
 use Rattle.back_end.specs.Sheets.{as_book, numbered_sheets, AreSheetsBelow}
 use Rattle.back_end.specs.Texts.{KeptHasTexts}
 
@@ -48,6 +51,14 @@ page_nodes state = alone state.side.page.tree
 -- the page's sheets as a book
 abbrev pub book_in : State → List SheetEntry
 book_in state = as_book state.side.sheets
+
+-- the medium that every page is shown on: a screen of 1280 pixels
+abbrev pub first_medium : Medium
+first_medium = record { kind = Screen; width = 1280 }
+
+-- the page as its styles are told
+abbrev pub styled_in : State → StyledPage
+styled_in state = styled_page state.side.page.tree (book_in state) first_medium
 
 -- the sheets that the client was told of: the page's while the domain CSS is on
 abbrev pub sheets_shown : State → List ShownSheet

@@ -61,7 +61,7 @@ use Rattle.cdp_messages.specs.declared.dom_edit.DomEdit.TheVariants as tree
 use Rattle.back_end.specs.declared.node_edits.NodeEdit.{NodeEdit}
 use Rattle.back_end.specs.declared.node_edits.NodeEdit.TheVariants.{One, MoveNode, CopyNode}
 use Rattle.back_end.specs.Sheets.{shown_sheet, SheetChange, leaves, comes}
-use Rattle.back_end.specs.States.{Side, Client, State, page_nodes, book_in, loaded_side, saved_now}
+use Rattle.back_end.specs.States.{Side, Client, State, page_nodes, book_in, styled_in, loaded_side, saved_now}
 use Rattle.back_end.specs.Plans.{Plan, node_edit_fault, node_edit_plan, node_put, Deed, edits, restyles, one_edit, edit_fault, act_fault}
 use Rattle.back_end.specs.Plans.{act_plan}
 use Rattle.back_end.specs.OwnMethods.{edit_why, sheet_why, load_asked, act_judged, act_asked}
@@ -465,7 +465,7 @@ element_named node state =
 -- the move that answers an ask of the node that was named, or the refusal
 abbrev pub node_answer : ℕ → CssAsk → Result ℕ Why → State → Move
 node_answer id ask (Err why) state = failed (record { id = Some id; why = why })
-node_answer id ask (Ok serial) state = answer_move id (css_outcome state.side.page.tree (book_in state) serial ask)
+node_answer id ask (Ok serial) state = answer_move id (css_outcome (styled_in state) serial ask)
 
 -- the move that answers an ask for the text of a sheet
 abbrev pub text_answer : ℕ → Option SheetEntry → Move
@@ -477,7 +477,7 @@ abbrev pub css_answer : ℕ → CssAsk → State → Move
 css_answer id (css.GetMatchedStyles node) state = node_answer id (css.GetMatchedStyles node) (element_named node state) state
 css_answer id (css.GetStyleSheetText sheet) state = text_answer id (sheet_named sheet (book_in state))
 css_answer id (css.CollectClassNames sheet) state =
-    answer_move id (css_outcome state.side.page.tree (book_in state) 0 (css.CollectClassNames sheet))
+    answer_move id (css_outcome (styled_in state) 0 (css.CollectClassNames sheet))
 
 -- the step on what the CSS AskDom is asked
 abbrev pub css_step : ℕ → CssAsk → State → Step

@@ -16,9 +16,16 @@ ghost use Rattle.back_end.specs.Seats.{DeskStandsFor};
 use crate::desk::Desk;
 use crate::side::PageSide;
 use cdp_messages::{CssAsk, ReplyBody, Why, write_reply};
+use media_rules::{Medium, MediumKind};
 use node_binding::find_in;
 use page_tree::{Kind, Page};
 use std::alloc::AllocError;
+
+/// The medium that every page is shown on.
+const FIRST_MEDIUM: Medium = Medium {
+    kind: MediumKind::Screen,
+    width: 1280,
+};
 
 fn is_element(kind: Kind) -> bool
     ensures { result ≡ is_element kind }
@@ -102,9 +109,15 @@ impl Desk {
     {
         let ask = CssAsk::GetMatchedStyles { node };
         match self.element_named(side.page(), node) {
-            Ok(serial) => self
-                .css
-                .ask(side.page(), side.book(), serial, id, &ask, out),
+            Ok(serial) => self.css.ask(
+                side.page(),
+                side.book(),
+                serial,
+                id,
+                &ask,
+                out,
+                &FIRST_MEDIUM,
+            ),
             Err(why) => self.refuse(id, why, out),
         }
     }
@@ -123,7 +136,8 @@ impl Desk {
         match ask {
             CssAsk::GetMatchedStyles { node } => self.answer_matched(side, id, *node, out),
             CssAsk::GetStyleSheetText { .. } | CssAsk::CollectClassNames { .. } => {
-                self.css.ask(side.page(), side.book(), 0, id, ask, out)
+                self.css
+                    .ask(side.page(), side.book(), 0, id, ask, out, &FIRST_MEDIUM)
             }
         }
     }

@@ -1,8 +1,9 @@
-//! Rows of the cascade: `node [SHEETS,PAGE,SERIAL,STYLE]`, where a sheet is `[ID,ORIGIN,TEXT]`, tells the rules that match the
-//! node, as sheet, rule and the places of their selectors, and then of each declaration of these rules and of the inline
-//! style whether it wins.
+//! Rows of the cascade: `node [SHEETS,PAGE,SERIAL,STYLE,TYPE,WIDTH]`, where a sheet is `[ID,ORIGIN,TEXT]`, tells the rules that
+//! match the node in the medium of that type and width, as sheet, rule and the places of their selectors, and then of each
+//! declaration of these rules and of the inline style whether it wins.
 
 use crate::match_rows::page_at;
+use crate::media_rows::medium_at;
 use crate::row_parts::{Answer, list_at, number_or_zero, text_or_empty};
 use crate::sheet_rows::{origin_of, put_sheet};
 use cascade_match::{Block, Decl, Declarations, Hit, matched, winners};
@@ -56,7 +57,7 @@ fn push_node(
         answer.push("no node");
         return Ok(());
     }
-    let hits = matched(alloc, page, book, serial)?;
+    let hits = matched(alloc, page, book, serial, &medium_at(args, 4))?;
     push_rules(hits.as_slice(), answer);
     push_winners(alloc, book, hits.as_slice(), text_or_empty(args, 3), answer)
 }

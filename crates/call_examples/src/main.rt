@@ -10,6 +10,7 @@ mod front_rows;
 mod inspect_rows;
 mod load_rows;
 mod match_rows;
+mod media_rows;
 mod message_rows;
 mod page_rows;
 mod row_parts;
@@ -100,6 +101,10 @@ fn tell_value(
         "front" => front_rows::told(alloc, args, answer),
         "inspect" => inspect_rows::told(alloc, word, args, answer),
         "match" => match_rows::told(alloc, word, args, answer),
+        "media" => {
+            media_rows::told(word, args, answer);
+            Ok(())
+        }
         "selector" => selector_rows::told(alloc, word, args, answer),
         "sheet" => sheet_rows::told(alloc, word, args, answer),
         "style" => style_rows::told(alloc, word, args, answer),

@@ -1,4 +1,4 @@
-//! Rows of the reader of sheets: `read [TEXT]` tells the rules and places of a sheet, `long [COUNT]` the same of one with so
+//! Rows of the reader of sheets: `read [TEXT]` tells the rules of a sheet, its places and its media rules, `long [COUNT]` the same of one with so
 //! many pieces of 16 bytes, `style [TEXT]` the properties of a body, `sealed [TEXT]` whether a text is sealed,
 //! `at [TEXT,LINE,COLUMN]` the byte there with that byte's line and column, and `book [STEP,..]` what steps on a book come to:
 //! `["put",ID,TEXT]`, `["copy",PLACE]`, `["change",ID,TEXT]`, `["place",ID]`, `["get",ID]`, `["remove",ID]` and `["len"]`.
@@ -7,8 +7,8 @@ use crate::row_parts::{Answer, number_or_zero, push_layers, text_or_empty, value
 use node_tree::Text;
 use serde_json::Value;
 use sheet_reader::{
-    Origin, Property, Sheet, SheetBook, SheetEntry, StyleRule, byte_at, position, read_sheet,
-    read_style, sealed,
+    MediaRule, Origin, Property, Sheet, SheetBook, SheetEntry, StyleRule, byte_at, position,
+    read_sheet, read_style, sealed,
 };
 use std::alloc::{AllocError, Global};
 
@@ -77,17 +77,34 @@ pub(crate) fn push_properties(properties: &[Property], answer: &mut Answer) {
     }
 }
 
-/// A rule as its prelude, body and properties.
+/// The place of the media rule around something, where there is one.
+fn push_around(around: Option<usize>, answer: &mut Answer) {
+    if let Some(place) = around {
+        answer.push("^");
+        answer.push_number(place as u64);
+    }
+}
+
+/// A rule as its prelude, body and properties, and the media rule around it.
 fn push_rule(rule: &StyleRule, answer: &mut Answer) {
     let (prelude, body) = (rule.prelude, rule.body);
     answer.push_range(prelude.start, prelude.end);
     answer.push("{");
     answer.push_range(body.start, body.end);
     push_properties(rule.properties.as_slice(), answer);
-    answer.push("} ");
+    answer.push("}");
+    push_around(rule.media, answer);
+    answer.push(" ");
 }
 
-/// Each rule, and then the places where a rule may be added.
+/// A media rule as its prelude and the media rule around it.
+fn push_media(rule: &MediaRule, answer: &mut Answer) {
+    answer.push(" media ");
+    answer.push_range(rule.prelude.start, rule.prelude.end);
+    push_around(rule.inside, answer);
+}
+
+/// Each rule, then the places where a rule may be added, and then the media rules.
 fn push_sheet(sheet: &Sheet, answer: &mut Answer) {
     for rule in sheet.rules.as_slice() {
         push_rule(rule, answer);
@@ -96,6 +113,9 @@ fn push_sheet(sheet: &Sheet, answer: &mut Answer) {
     for place in sheet.places.as_slice() {
         answer.push(" ");
         answer.push_number(*place as u64);
+    }
+    for rule in sheet.media.as_slice() {
+        push_media(rule, answer);
     }
 }
 

@@ -7,6 +7,7 @@ use crate::match_rows::page_of;
 use crate::row_parts::{Answer, number_or_zero, text_or_empty, value_of};
 use cdp_messages::{CssAsk, Text};
 use css_agent::CssAgent;
+use media_rules::{Medium, MediumKind};
 use page_tree::Page;
 use serde_json::Value;
 use sheet_reader::{Origin, SheetBook};
@@ -15,6 +16,12 @@ use style_edits::add_sheet;
 
 /// The nodes of the page: the document is 1, html 2 and p 3.
 const NODES: &str = r#"[{"e":"html","c":[{"e":"p","a":["class","c","style","color:blue"]}]}]"#;
+
+/// The medium of all rows.
+const MEDIUM: Medium = Medium {
+    kind: MediumKind::Screen,
+    width: 1280,
+};
 
 /// What a row comes to.
 pub(crate) fn told(
@@ -97,7 +104,7 @@ fn answer_ask(
     answer: &mut Answer,
 ) -> Result<(), AllocError> {
     if page.live(node) {
-        return CssAgent::new(alloc).ask(page, book, node, 6, ask, answer.bytes());
+        return CssAgent::new(alloc).ask(page, book, node, 6, ask, answer.bytes(), &MEDIUM);
     }
     Ok(())
 }

@@ -1,5 +1,6 @@
 pub mod MatchLemmas
 pub mod TopLemmas
 pub mod OrderLemmas
+pub mod HeldForms
 pub mod StandingLemmas
 pub mod WinnerLemmas

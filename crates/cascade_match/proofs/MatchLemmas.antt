@@ -12,6 +12,8 @@ use Rattle.select_match.specs.Matches.{selector_matches}
 use Rattle.sheet_reader.specs.declared.book.SheetEntry.{SheetEntry}
 use Rattle.sheet_reader.specs.declared.sheet.StyleRule.{StyleRule}
 use Rattle.sheet_reader.specs.Forms.{RuleForm, rule_seen}
+use Rattle.sheet_reader.specs.Sheets.{sheet_of}
+use Rattle.media_rules.specs.declared.medium.Medium.{Medium}
 use Rattle.cascade_match.specs.declared.keys.Key.{Key}
 use Rattle.cascade_match.specs.declared.hits.Hit.{Hit}
 use Rattle.cascade_match.specs.Precedence.{key_cmp, greater}
@@ -79,11 +81,12 @@ rules-step from rs z i r old new at e =
     ap (λ (l : List (Key × Hit)). all_entered l rest) e ∙ sym (put_all-append old (option_to_list (keyed_rule from i r z)) rest) ∙ sym
     (ap (λ (l : List RuleForm). all_entered old (entries_of_rules from i l z)) at)
 
-pub sheets-step : (book : List SheetEntry) (z : Zipper) (i : ℕ) (s : SheetEntry) (old new : List (Key × Hit)) → slice_get book i ≡ Some s
-    → new ≡ all_entered old (entries_of_rules (source_of i s) 0 s.reading.rules z)
-    → all_entered new (entries_of_sheets (i + 1) (drop (i + 1) book) z) ≡ all_entered old (entries_of_sheets i (drop i book) z)
-sheets-step book z i s old new at e =
-    let rest = entries_of_sheets (i + 1) (drop (i + 1) book) z in
+pub sheets-step : (m : Medium) (book : List SheetEntry) (z : Zipper) (i : ℕ) (s : SheetEntry) (old new : List (Key × Hit))
+    → slice_get book i ≡ Some s
+    → new ≡ all_entered old (entries_of_rules (source_of m i s) 0 (sheet_of s.text).rules z)
+    → all_entered new (entries_of_sheets m (i + 1) (drop (i + 1) book) z) ≡ all_entered old (entries_of_sheets m i (drop i book) z)
+sheets-step m book z i s old new at e =
+    let rest = entries_of_sheets m (i + 1) (drop (i + 1) book) z in
     ap (λ (l : List (Key × Hit)). all_entered l rest) e ∙ sym
-    (put_all-append old (entries_of_rules (source_of i s) 0 s.reading.rules z) rest)
-    ∙ sym (ap (λ (l : List SheetEntry). all_entered old (entries_of_sheets i l z)) (drop-at book i s at))
+    (put_all-append old (entries_of_rules (source_of m i s) 0 (sheet_of s.text).rules z) rest)
+    ∙ sym (ap (λ (l : List SheetEntry). all_entered old (entries_of_sheets m i l z)) (drop-at book i s at))

@@ -11,6 +11,7 @@ use Rattle.std.specs.Map.{keys_of}
 use Rattle.std.specs.BTreeMap.{insert_entry}
 use Rattle.page_tree.specs.Zippers.{Zipper}
 use Rattle.sheet_reader.specs.declared.book.SheetEntry.{SheetEntry}
+use Rattle.media_rules.specs.declared.medium.Medium.{Medium}
 use Rattle.cascade_match.specs.declared.keys.Key.{Key}
 use Rattle.cascade_match.specs.declared.hits.Hit.{Hit}
 use Rattle.cascade_match.specs.Precedence.{key_cmp}
@@ -66,5 +67,6 @@ no_keys : IsStrictlySortedBy key_cmp []
 unfolding IsStrictlySortedBy
 no_keys = tt
 
-pub sorted-matched : (book : List SheetEntry) (z : Zipper) → IsStrictlySortedBy key_cmp (map (λ e. e.0) (matched_entries book z))
-sorted-matched book z = sorted-put_all [] (entries_of_sheets 0 book z) no_keys
+pub sorted-matched : (m : Medium) (book : List SheetEntry) (z : Zipper)
+    → IsStrictlySortedBy key_cmp (map (λ e. e.0) (matched_entries m book z))
+sorted-matched m book z = sorted-put_all [] (entries_of_sheets m 0 book z) no_keys

@@ -16,12 +16,17 @@ use Rattle.selectors.specs.Forms.{SelectorForm}
 use Rattle.select_match.specs.Matches.{selector_matches, list_matches}
 use Rattle.sheet_reader.specs.declared.book.SheetEntry.{SheetEntry}
 use Rattle.sheet_reader.specs.Forms.{RuleForm}
+use Rattle.sheet_reader.specs.Sheets.{sheet_of}
+use Rattle.sheet_reader.specs.Around.{held_at, AllHold}
+use Rattle.media_rules.specs.declared.medium.Medium.{Medium}
 use Rattle.cascade_match.specs.declared.keys.Key.{Key}
 use Rattle.cascade_match.specs.declared.hits.Hit.{Hit}
 use Rattle.cascade_match.specs.Precedence.{key_of, key_cmp}
 use Rattle.cascade_match.specs.Matched.{places_from, places_matching, greatest, Source, source_of, entry_by, keyed_rule, entries_of_rules}
 use Rattle.cascade_match.specs.Matched.{entries_of_sheets, all_entered, matched_entries}
+use Rattle.cascade_match.specs.MediaHeld.{media_holds, media_held}
 use Rattle.cascade_match.specs.Standing.{PlacedRule, Applies, standing}
+use Rattle.cascade_match.proofs.HeldForms.{held-all, all-held}
 
 -- ---- places of selectors
 
@@ -97,16 +102,27 @@ has_made : (from : Source) (rule : ℕ) (weight : Spec) (ps : List ℕ) (e : Key
 has_made from rule weight [] e at = absurd (cc)
 has_made from rule weight (p ∷ ps) e at = refl
 
--- a rule that some selector matches has an entry
-pub entry-made : (place rule : ℕ) (s : SheetEntry) (r : RuleForm) (z : Zipper) → list_matches r.selectors z ≡ true
-    → keyed_rule (source_of place s) rule r z ≡ Some (standing (record { sheet = place; entry = s; rule = rule; form = r }) z)
-entry-made place rule s r z e = made (source_of place s) rule (greatest r.selectors z) (places_matching r.selectors z)
-    (sym (some_place 0 r.selectors z) ∙ e)
-
-entry_matches : (from : Source) (rule : ℕ) (r : RuleForm) (z : Zipper) (e : Key × Hit) → keyed_rule from rule r z ≡ Some e
+-- a rule that some selector matches, and around which every media rule holds, has an entry
+pub entry-made : (m : Medium) (place rule : ℕ) (s : SheetEntry) (r : RuleForm) (z : Zipper) → held_at (media_held m s.text) r.media ≡ true
     → list_matches r.selectors z ≡ true
-entry_matches from rule r z e at = some_place 0 r.selectors z ∙ has_made from rule (greatest r.selectors z)
-    (places_matching r.selectors z) e at
+    → keyed_rule (source_of m place s) rule r z ≡ Some (standing (record { sheet = place; entry = s; rule = rule; form = r }) z)
+entry-made m place rule s r z held e =
+    let from = source_of m place s in
+    ap (λ (b : Bool). cond b (entry_by from rule (greatest r.selectors z) (places_matching r.selectors z)) None) held
+    ∙ made from rule (greatest r.selectors z) (places_matching r.selectors z) (sym (some_place 0 r.selectors z) ∙ e)
+
+if_some : (b : Bool) (o : Option (Key × Hit)) (e : Key × Hit) → cond b o None ≡ Some e → (b ≡ true) × (o ≡ Some e)
+if_some true o e at = (refl, at)
+if_some false o e at = absurd (cc)
+
+-- an entry's rule has media rules around it that hold, and a selector that matches
+entry_says : (from : Source) (rule : ℕ) (r : RuleForm) (z : Zipper) (e : Key × Hit) → keyed_rule from rule r z ≡ Some e
+    → (held_at from.held r.media ≡ true) × (list_matches r.selectors z ≡ true)
+entry_says from rule r z e at =
+    let weight = greatest r.selectors z in
+    let ps = places_matching r.selectors z in
+    let both = if_some (held_at from.held r.media) (entry_by from rule weight ps) e at in
+    (both.0, some_place 0 r.selectors z ∙ has_made from rule weight ps e both.1)
 
 same_some : {A : Type 0} (x y : A) → Some x ≡ Some y → x ≡ y
 same_some x y e = cc
@@ -166,79 +182,84 @@ rules-of from i zero n (x ∷ rs) z r e is at made =
 rules-of from i (suc k) n (x ∷ rs) z r e is at made = IsIn-append_right (option_to_list (keyed_rule from i x z))
     (rules-of from (i + 1) k n rs z r e (omega arith) at made)
 
-pub record SheetFrom (i : ℕ) (book : List SheetEntry) (z : Zipper) (e : Key × Hit) : Type 0 where
+pub record SheetFrom (m : Medium) (i : ℕ) (book : List SheetEntry) (z : Zipper) (e : Key × Hit) : Type 0 where
   pub offset : ℕ
   pub entry : SheetEntry
   pub there : slice_get book offset ≡ Some entry
-  pub rules : IsIn e (entries_of_rules (source_of (i + offset) entry) 0 entry.reading.rules z)
+  pub rules : IsIn e (entries_of_rules (source_of m (i + offset) entry) 0 (sheet_of entry.text).rules z)
 
-further_sheet : (i : ℕ) (s : SheetEntry) (book : List SheetEntry) (z : Zipper) (e : Key × Hit) → SheetFrom (i + 1) book z e
-    → SheetFrom i (s ∷ book) z e
-further_sheet i s book z e h =
+further_sheet : (m : Medium) (i : ℕ) (s : SheetEntry) (book : List SheetEntry) (z : Zipper) (e : Key × Hit) → SheetFrom m (i + 1) book z e
+    → SheetFrom m i (s ∷ book) z e
+further_sheet m i s book z e h =
     let at : i + 1 + h.offset ≡ i + suc h.offset = omega arith in
     record {
       offset = suc h.offset;
       entry = h.entry;
       there = h.there;
-      rules = subst (λ (n : ℕ). IsIn e (entries_of_rules (source_of n h.entry) 0 h.entry.reading.rules z)) at h.rules;
+      rules = subst (λ (n : ℕ). IsIn e (entries_of_rules (source_of m n h.entry) 0 (sheet_of h.entry.text).rules z)) at h.rules;
     }
 
-first_sheet : (i : ℕ) (s : SheetEntry) (book : List SheetEntry) (z : Zipper) (e : Key × Hit)
-    → IsIn e (entries_of_rules (source_of i s) 0 s.reading.rules z) → SheetFrom i (s ∷ book) z e
-first_sheet i s book z e j =
+first_sheet : (m : Medium) (i : ℕ) (s : SheetEntry) (book : List SheetEntry) (z : Zipper) (e : Key × Hit)
+    → IsIn e (entries_of_rules (source_of m i s) 0 (sheet_of s.text).rules z) → SheetFrom m i (s ∷ book) z e
+first_sheet m i s book z e j =
     let first : i ≡ i + 0 = omega arith in
     record {
       offset = 0;
       entry = s;
       there = refl;
-      rules = subst (λ (n : ℕ). IsIn e (entries_of_rules (source_of n s) 0 s.reading.rules z)) first j;
+      rules = subst (λ (n : ℕ). IsIn e (entries_of_rules (source_of m n s) 0 (sheet_of s.text).rules z)) first j;
     }
 
-sheets-from : (i : ℕ) (book : List SheetEntry) (z : Zipper) (e : Key × Hit) → IsIn e (entries_of_sheets i book z) → SheetFrom i book z e
-sheets-from i [] z e there = elim there [ ]
-sheets-from i (s ∷ book) z e there =
-    elim (IsIn-append (entries_of_rules (source_of i s) 0 s.reading.rules z) (entries_of_sheets (i + 1) book z) there) [
-      | inl j ↦ first_sheet i s book z e j
-      | inr j ↦ further_sheet i s book z e (sheets-from (i + 1) book z e j)
+sheets-from : (m : Medium) (i : ℕ) (book : List SheetEntry) (z : Zipper) (e : Key × Hit) → IsIn e (entries_of_sheets m i book z) → SheetFrom m i book z e
+sheets-from m i [] z e there = elim there [ ]
+sheets-from m i (s ∷ book) z e there =
+    elim (IsIn-append (entries_of_rules (source_of m i s) 0 (sheet_of s.text).rules z) (entries_of_sheets m (i + 1) book z) there) [
+      | inl j ↦ first_sheet m i s book z e j
+      | inr j ↦ further_sheet m i s book z e (sheets-from m (i + 1) book z e j)
     ]
 
-sheets-of : (i k n : ℕ) (book : List SheetEntry) (z : Zipper) (s : SheetEntry) (e : Key × Hit) → n ≡ i + k → slice_get book k ≡ Some s
-    → IsIn e (entries_of_rules (source_of n s) 0 s.reading.rules z) → IsIn e (entries_of_sheets i book z)
-sheets-of i k n [] z s e is at made = absurd (cc)
-sheets-of i zero n (x ∷ book) z s e is at made =
+sheets-of : (m : Medium) (i k n : ℕ) (book : List SheetEntry) (z : Zipper) (s : SheetEntry) (e : Key × Hit) → n ≡ i + k → slice_get book k ≡ Some s
+    → IsIn e (entries_of_rules (source_of m n s) 0 (sheet_of s.text).rules z) → IsIn e (entries_of_sheets m i book z)
+sheets-of m i k n [] z s e is at made = absurd (cc)
+sheets-of m i zero n (x ∷ book) z s e is at made =
     let same : s ≡ x = cc in
     let here : n ≡ i = omega arith in
-    IsIn-append_left _ (subst (λ (t : SheetEntry). IsIn e (entries_of_rules (source_of i t) 0 t.reading.rules z)) same
-    (subst (λ (m : ℕ). IsIn e (entries_of_rules (source_of m s) 0 s.reading.rules z)) here made))
-sheets-of i (suc k) n (x ∷ book) z s e is at made = IsIn-append_right (entries_of_rules (source_of i x) 0 x.reading.rules z)
-    (sheets-of (i + 1) k n book z s e (omega arith) at made)
+    IsIn-append_left _ (subst (λ (t : SheetEntry). IsIn e (entries_of_rules (source_of m i t) 0 (sheet_of t.text).rules z)) same
+    (subst (λ (k : ℕ). IsIn e (entries_of_rules (source_of m k s) 0 (sheet_of s.text).rules z)) here made))
+sheets-of m i (suc k) n (x ∷ book) z s e is at made = IsIn-append_right (entries_of_rules (source_of m i x) 0 (sheet_of x.text).rules z)
+    (sheets-of m (i + 1) k n book z s e (omega arith) at made)
 
 -- the rule of which an entry is
-pub record Stands (book : List SheetEntry) (z : Zipper) (e : Key × Hit) : Type 0 where
+pub record Stands (m : Medium) (book : List SheetEntry) (z : Zipper) (e : Key × Hit) : Type 0 where
   pub placed : PlacedRule
-  pub applies : Applies book z placed
+  pub applies : Applies m book z placed
   pub is : e ≡ standing placed z
 
-pub stands-from : (book : List SheetEntry) (z : Zipper) (e : Key × Hit) → IsIn e (entries_of_sheets 0 book z) → Stands book z e
-stands-from book z e there =
-    let s = sheets-from 0 book z e there in
-    let r = rules-from (source_of (0 + s.offset) s.entry) 0 s.entry.reading.rules z e s.rules in
+pub stands-from : (m : Medium) (book : List SheetEntry) (z : Zipper) (e : Key × Hit) → IsIn e (entries_of_sheets m 0 book z) → Stands m book z e
+stands-from m book z e there =
+    let s = sheets-from m 0 book z e there in
+    let r = rules-from (source_of m (0 + s.offset) s.entry) 0 (sheet_of s.entry.text).rules z e s.rules in
     let sheet : 0 + s.offset ≡ s.offset = omega arith in
     let rule : 0 + r.offset ≡ r.offset = omega arith in
-    let matches = entry_matches (source_of (0 + s.offset) s.entry) (0 + r.offset) r.form z e r.entry in
-    let entry = sym (ap (λ (n : ℕ). keyed_rule (source_of n s.entry) (0 + r.offset) r.form z) sheet ∙ ap
-    (λ (n : ℕ). keyed_rule (source_of s.offset s.entry) n r.form z) rule) ∙ r.entry in
+    let says = entry_says (source_of m (0 + s.offset) s.entry) (0 + r.offset) r.form z e r.entry in
+    let entry = sym (ap (λ (n : ℕ). keyed_rule (source_of m n s.entry) (0 + r.offset) r.form z) sheet ∙ ap
+    (λ (n : ℕ). keyed_rule (source_of m s.offset s.entry) n r.form z) rule) ∙ r.entry in
     record {
       placed = record { sheet = s.offset; entry = s.entry; rule = r.offset; form = r.form };
-      applies = record { sheet = s.there; rule = r.there; matches = matches };
-      is = same_some e _ (sym entry ∙ entry-made s.offset r.offset s.entry r.form z matches);
+      applies = record {
+        sheet = s.there;
+        rule = r.there;
+        matches = says.1;
+        media = held-all m s.entry.text r.offset r.form r.there says.0;
+      };
+      is = same_some e _ (sym entry ∙ entry-made m s.offset r.offset s.entry r.form z says.0 says.1);
     }
 
-pub stands-of : (book : List SheetEntry) (z : Zipper) (p : PlacedRule) → Applies book z p → IsIn (standing p z) (entries_of_sheets 0 book z)
-stands-of book z p applies =
-    sheets-of 0 p.sheet p.sheet book z p.entry (standing p z) (omega arith) applies.sheet
-    (rules-of (source_of p.sheet p.entry) 0 p.rule p.rule p.entry.reading.rules z p.form (standing p z) (omega arith) applies.rule
-    (entry-made p.sheet p.rule p.entry p.form z applies.matches))
+pub stands-of : (m : Medium) (book : List SheetEntry) (z : Zipper) (p : PlacedRule) → Applies m book z p → IsIn (standing p z) (entries_of_sheets m 0 book z)
+stands-of m book z p applies =
+    sheets-of m 0 p.sheet p.sheet book z p.entry (standing p z) (omega arith) applies.sheet
+    (rules-of (source_of m p.sheet p.entry) 0 p.rule p.rule (sheet_of p.entry.text).rules z p.form (standing p z) (omega arith) applies.rule
+    (entry-made m p.sheet p.rule p.entry p.form z (all-held m p.entry.text p.rule p.form applies.rule applies.media) applies.matches))
 
 -- ---- an entry put in its place
 
@@ -339,33 +360,33 @@ all-of sorted (e ∷ es) x apart (in_tail _ _ j) = all-of (insert_entry key_cmp 
 
 -- ---- the whole
 
-same_sheet : (book : List SheetEntry) (z : Zipper) (p q : PlacedRule) → Applies book z p → Applies book z q → p.sheet ≡ q.sheet
+same_sheet : (m : Medium) (book : List SheetEntry) (z : Zipper) (p q : PlacedRule) → Applies m book z p → Applies m book z q → p.sheet ≡ q.sheet
     → p.entry ≡ q.entry
-same_sheet book z p q one other e = same_some p.entry q.entry (sym one.sheet ∙ ap (λ (n : ℕ). slice_get book n) e ∙ other.sheet)
+same_sheet m book z p q one other e = same_some p.entry q.entry (sym one.sheet ∙ ap (λ (n : ℕ). slice_get book n) e ∙ other.sheet)
 
 -- the key tells the places, and so the rule
-pub apart-standing : (book : List SheetEntry) (z : Zipper) (p q : PlacedRule) → Applies book z p → Applies book z q
+pub apart-standing : (m : Medium) (book : List SheetEntry) (z : Zipper) (p q : PlacedRule) → Applies m book z p → Applies m book z q
     → (standing p z).0 ≡ (standing q z).0 → standing p z ≡ standing q z
-apart-standing book z p q one other e =
+apart-standing m book z p q one other e =
     let sheet : p.sheet ≡ q.sheet = ap (λ (k : Key). k.sheet) e in
     let rule : p.rule ≡ q.rule = ap (λ (k : Key). k.rule) e in
-    let entry : p.entry ≡ q.entry = same_sheet book z p q one other sheet in
+    let entry : p.entry ≡ q.entry = same_sheet m book z p q one other sheet in
     let form : p.form ≡ q.form = same_some p.form q.form
-    (sym one.rule ∙ ap (λ (s : SheetEntry). slice_get s.reading.rules p.rule) entry ∙ ap
-    (λ (n : ℕ). slice_get q.entry.reading.rules n) rule ∙ other.rule) in
+    (sym one.rule ∙ ap (λ (s : SheetEntry). slice_get (sheet_of s.text).rules p.rule) entry ∙ ap
+    (λ (n : ℕ). slice_get (sheet_of q.entry.text).rules n) rule ∙ other.rule) in
     λ i. standing (record { sheet = sheet i; entry = entry i; rule = rule i; form = form i }) z
 
-pub each-applied : (book : List SheetEntry) (z : Zipper) (p : PlacedRule) → Applies book z p → IsIn (standing p z) (matched_entries book z)
-each-applied book z p applies = all-of [] (entries_of_sheets 0 book z) (standing p z) apart (stands-of book z p applies)
+pub each-applied : (m : Medium) (book : List SheetEntry) (z : Zipper) (p : PlacedRule) → Applies m book z p → IsIn (standing p z) (matched_entries m book z)
+each-applied m book z p applies = all-of [] (entries_of_sheets m 0 book z) (standing p z) apart (stands-of m book z p applies)
   where
-    apart : ApartFrom (standing p z) (entries_of_sheets 0 book z)
+    apart : ApartFrom (standing p z) (entries_of_sheets m 0 book z)
     apart y j e =
-        let s = stands-from book z y j in
-        apart-standing book z p s.placed applies s.applies (e ∙ ap (λ (w : Key × Hit). w.0) s.is) ∙ sym s.is
+        let s = stands-from m book z y j in
+        apart-standing m book z p s.placed applies s.applies (e ∙ ap (λ (w : Key × Hit). w.0) s.is) ∙ sym s.is
 
-pub only-applied : (book : List SheetEntry) (z : Zipper) (e : Key × Hit) → IsIn e (matched_entries book z) → Stands book z e
-only-applied book z e there = by (all-from [] (entries_of_sheets 0 book z) e there)
+pub only-applied : (m : Medium) (book : List SheetEntry) (z : Zipper) (e : Key × Hit) → IsIn e (matched_entries m book z) → Stands m book z e
+only-applied m book z e there = by (all-from [] (entries_of_sheets m 0 book z) e there)
   where
-    by : IsIn e [] ⊎ IsIn e (entries_of_sheets 0 book z) → Stands book z e
+    by : IsIn e [] ⊎ IsIn e (entries_of_sheets m 0 book z) → Stands m book z e
     by (inl j) = elim j [ ]
-    by (inr j) = stands-from book z e j
+    by (inr j) = stands-from m book z e j

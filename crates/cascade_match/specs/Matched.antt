@@ -1,5 +1,5 @@
 -- The style rules of a book of sheets that match a node, in the order in which they count.
-use Rattle.std.specs.Prelude.{ℕ, ◌+◌, cond, List, [], ◌∷◌, ◌++◌, map, filter, fold, Option, Some, None, option_to_list}
+use Rattle.std.specs.Prelude.{ℕ, ◌+◌, Bool, cond, List, [], ◌∷◌, ◌++◌, map, filter, fold, Option, Some, None, option_to_list, if◌then◌else◌}
 use Rattle.std.specs.BTreeMap.{insert_entry}
 use Rattle.page_tree.specs.Zippers.{Zipper}
 use Rattle.selectors.specs.declared.weight.Spec.{Spec}
@@ -9,9 +9,13 @@ use Rattle.select_match.specs.Matches.{selector_matches}
 use Rattle.sheet_reader.specs.declared.book.Origin.{Origin}
 use Rattle.sheet_reader.specs.declared.book.SheetEntry.{SheetEntry}
 use Rattle.sheet_reader.specs.Forms.{RuleForm}
+use Rattle.sheet_reader.specs.Sheets.{sheet_of}
+use Rattle.sheet_reader.specs.Around.{held_at}
+use Rattle.media_rules.specs.declared.medium.Medium.{Medium}
 use Rattle.cascade_match.specs.declared.keys.Key.{Key}
 use Rattle.cascade_match.specs.declared.hits.Hit.{Hit}
 use Rattle.cascade_match.specs.Precedence.{key_of, key_cmp, greater}
+use Rattle.cascade_match.specs.MediaHeld.{media_held}
 
 -- the places of the selectors that match, counted from i
 abbrev pub places_from : ℕ → List SelectorForm → Zipper → List ℕ
@@ -30,15 +34,17 @@ no_weight = record { a = 0; b = 0; c = 0 }
 abbrev pub greatest : List SelectorForm → Zipper → Spec
 greatest ss z = fold (λ best s. greater best (specificity_of s)) no_weight (filter (λ s. selector_matches s z) ss)
 
--- a sheet in its book: its place there, its id and its origin
+-- a sheet in its book: its place there, its id and its origin; and for each of its media rules whether it and every one around it
+-- holds
 pub record Source : Type 0 where
   pub place : ℕ
   pub id : ℕ
   pub origin : Origin
+  pub held : List Bool
 
--- the sheet at a place of its book, as a source
-abbrev pub source_of : ℕ → SheetEntry → Source
-source_of place e = record { place = place; id = e.id; origin = e.origin }
+-- the sheet at a place of its book, as a source in this medium
+abbrev pub source_of : Medium → ℕ → SheetEntry → Source
+source_of m place e = record { place = place; id = e.id; origin = e.origin; held = media_held m e.text }
 
 -- the rule with its key and the places of its selectors that match; None where there are none
 abbrev pub entry_by : Source → ℕ → Spec → List ℕ → Option (Key × Hit)
@@ -46,29 +52,32 @@ entry_by from rule weight [] = None
 entry_by from rule weight (p ∷ ps) = Some
     (key_of from.origin weight from.place rule, record { sheet = from.id; rule = rule; matching = p ∷ ps })
 
--- the rule at a place of a sheet with its key, if some selector of it matches
+-- the rule at a place of a sheet with its key, if every media rule around it holds and some selector of it matches
 abbrev pub keyed_rule : Source → ℕ → RuleForm → Zipper → Option (Key × Hit)
-keyed_rule from rule r z = entry_by from rule (greatest r.selectors z) (places_matching r.selectors z)
+keyed_rule from rule r z =
+    if held_at from.held r.media then entry_by from rule (greatest r.selectors z) (places_matching r.selectors z) else None
 
 -- those of the rules from a place of a sheet on
 abbrev pub entries_of_rules : Source → ℕ → List RuleForm → Zipper → List (Key × Hit)
 entries_of_rules from i [] z = []
 entries_of_rules from i (r ∷ rs) z = option_to_list (keyed_rule from i r z) ++ entries_of_rules from (i + 1) rs z
 
--- those of the sheets from a place of a book on
-abbrev pub entries_of_sheets : ℕ → List SheetEntry → Zipper → List (Key × Hit)
-entries_of_sheets place [] z = []
-entries_of_sheets place (e ∷ es) z = entries_of_rules (source_of place e) 0 e.reading.rules z ++ entries_of_sheets (place + 1) es z
+-- those of the sheets from a place of a book on, in this medium
+abbrev pub entries_of_sheets : Medium → ℕ → List SheetEntry → Zipper → List (Key × Hit)
+entries_of_sheets m place [] z = []
+entries_of_sheets m place (e ∷ es) z =
+    entries_of_rules (source_of m place e) 0 (sheet_of e.text).rules z ++ entries_of_sheets m (place + 1) es z
 
 -- the entries, each put in its place among those before it
 abbrev pub all_entered : List (Key × Hit) → List (Key × Hit) → List (Key × Hit)
 all_entered sorted [] = sorted
 all_entered sorted (e ∷ es) = all_entered (insert_entry key_cmp sorted e.0 e.1) es
 
--- all pairs of a sheet and a rule of which some selector matches, in ascending order of their keys
-abbrev pub matched_entries : List SheetEntry → Zipper → List (Key × Hit)
-matched_entries book z = all_entered [] (entries_of_sheets 0 book z)
+-- all pairs of a sheet and a rule of which some selector matches and every media rule around it holds, in ascending order of their
+-- keys
+abbrev pub matched_entries : Medium → List SheetEntry → Zipper → List (Key × Hit)
+matched_entries m book z = all_entered [] (entries_of_sheets m 0 book z)
 
--- the rules that match a node, in ascending order of their keys
-abbrev pub matched_of : List SheetEntry → Zipper → List Hit
-matched_of book z = map (λ e. e.1) (matched_entries book z)
+-- the rules that match a node in this medium, in ascending order of their keys
+abbrev pub matched_of : Medium → List SheetEntry → Zipper → List Hit
+matched_of m book z = map (λ e. e.1) (matched_entries m book z)

@@ -4,6 +4,7 @@ ghost use Rattle.std.specs.Prelude.{◌≡◌, ◌↔◌, ℕ, true, List, map, 
 ghost use Rattle.std.specs.List.Sorted.{IsStrictlySortedBy};
 ghost use Rattle.page_tree.specs.Zippers.{Zipper};
 ghost use Rattle.sheet_reader.specs.declared.book.SheetEntry.{SheetEntry};
+ghost use Rattle.media_rules.specs.declared.medium.Medium.{Medium};
 ghost use Rattle.page_tree.specs.Members.{IsIn};
 ghost use Rattle.selectors.specs.Forms.{SelectorForm};
 ghost use Rattle.select_match.specs.Matches.{selector_matches};
@@ -18,15 +19,16 @@ ghost use Rattle.cascade_match.specs.WinnerPlaces.{PlacedDecl, IsDeclared, IsGre
 
 /// The matched rules ascend strictly by their keys, so none stands twice.
 pub fn order_law()
-    ensures { (book : List SheetEntry) (z : Zipper) → IsStrictlySortedBy key_cmp (map (λ e. e.0) (matched_entries book z)) }
+    ensures { (m : Medium) (book : List SheetEntry) (z : Zipper) → IsStrictlySortedBy key_cmp (map (λ e. e.0) (matched_entries m book z)) }
 {}
 
-/// What stands in the matched list is what stands for the rules that apply to the node: each of them, and nothing else.
+/// What stands in the matched list is what stands for the rules that apply to the node in the medium, some selector matching and
+/// every media rule around them holding: each of them, and nothing else.
 pub fn standing_law()
-    ensures each { (book : List SheetEntry) (z : Zipper) (p : PlacedRule) → Applies book z p
-        → IsIn (standing p z) (matched_entries book z) }
-    ensures only { (book : List SheetEntry) (z : Zipper) (e : Key × Hit) → IsIn e (matched_entries book z)
-        → (p : PlacedRule) × Applies book z p × (e ≡ standing p z) }
+    ensures each { (m : Medium) (book : List SheetEntry) (z : Zipper) (p : PlacedRule) → Applies m book z p
+        → IsIn (standing p z) (matched_entries m book z) }
+    ensures only { (m : Medium) (book : List SheetEntry) (z : Zipper) (e : Key × Hit) → IsIn e (matched_entries m book z)
+        → (p : PlacedRule) × Applies m book z p × (e ≡ standing p z) }
 {}
 
 /// The places of the selectors that match are those of just these selectors.

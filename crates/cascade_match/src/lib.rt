@@ -7,6 +7,7 @@ mod hits;
 mod keys;
 mod laws;
 mod matching;
+mod media_held;
 mod winning;
 
 pub use blocks::{Block, Decl, Declarations};

@@ -6,11 +6,16 @@ ghost use Rattle.page_tree.specs.Pages.{find_in};
 ghost use Rattle.page_tree.specs.Zippers.{zipper_at};
 ghost use Rattle.selectors.specs.Lists.{list_seen};
 ghost use Rattle.sheet_reader.specs.Forms.{rule_seen};
+ghost use Rattle.sheet_reader.specs.Sheets.{sheet_of};
+ghost use Rattle.sheet_reader.specs.Books.{IsEntry};
 ghost use Rattle.cascade_match.specs.Precedence.{greater};
+ghost use Rattle.cascade_match.specs.Judged.{judged_seen};
 ghost use Rattle.cascade_match.specs.Matched.{places_matching, greatest, source_of, keyed_rule, entries_of_rules, all_entered, matched_of};
 
 use crate::hits::Hit;
 use crate::keys::{Key, greater, key_of};
+use crate::media_held::{held_at, media_held};
+use media_rules::Medium;
 use page_tree::Page;
 use select_match::{Subject, matches_subject};
 use selectors::{SelectorList, Spec, specificity};
@@ -18,20 +23,22 @@ use sheet_reader::{Places, SheetBook, SheetEntry, StyleRule};
 use std::alloc::{AllocError, Global};
 use std::collections::BTreeMap;
 
-/// All style rules of the book of which some selector matches the node with that serial, in ascending order of origin, of
-/// the greatest specificity among their matching selectors, of the sheet's place, and of the rule's place in the sheet. In
-/// time n log n in the number of these rules, once each rule was tried.
+/// All style rules of the book of which some selector matches the node with that serial and every media rule around which holds of
+/// the medium, in ascending order of origin, of the greatest specificity among their matching selectors, of the sheet's place, and
+/// of the rule's place in the sheet. In time n log n in the number of these rules, once each media rule was judged and each rule
+/// was tried.
 pub fn matched(
     alloc: Global,
     page: &Page,
     book: &SheetBook,
     serial: u64,
+    medium: &Medium,
 ) -> Result<Vec<Hit>, AllocError>
     requires { IsSome (find_in serial page.now.tree) }
-    ensures { IfOk result (λ v. v.items ≡ matched_of book.now (zipper_at serial page.now.tree)) }
+    ensures { IfOk result (λ v. v.items ≡ matched_of medium.now book.now (zipper_at serial page.now.tree)) }
 {
     let mut subject = Subject::new(alloc, page.node_ref(serial))?;
-    matched_on(alloc, book, &mut subject)
+    matched_on(alloc, book, &mut subject, medium)
 }
 
 /// What `matched` answers, for an element that the caller has at hand.
@@ -39,15 +46,24 @@ pub fn matched_on(
     alloc: Global,
     book: &SheetBook,
     subject: &mut Subject<'_>,
+    medium: &Medium,
 ) -> Result<Vec<Hit>, AllocError>
-    ensures value { IfOk result (λ v. v.items ≡ matched_of book.now subject.old) }
+    ensures value { IfOk result (λ v. v.items ≡ matched_of medium.now book.now subject.old) }
     ensures same { subject.new ≡ subject.old }
 {
     let mut found = BTreeMap::new(alloc);
     for i in 0..book.len() {
-        add_rules(alloc, book.at(i), i, subject, &mut found)?;
+        add_sheet(alloc, book.at(i), i, medium, subject, &mut found)?;
     }
     hits_of(alloc, found)
+}
+
+/// A sheet, its place in the book, and which of its media rules hold.
+#[derive(Clone, Copy)]
+struct Judged<'a> {
+    sheet: &'a SheetEntry,
+    place: usize,
+    held: &'a [bool],
 }
 
 fn hits_of(alloc: Global, found: BTreeMap<Key, Hit>) -> Result<Vec<Hit>, AllocError>
@@ -60,49 +76,72 @@ fn hits_of(alloc: Global, found: BTreeMap<Key, Hit>) -> Result<Vec<Hit>, AllocEr
     Ok(hits)
 }
 
-fn add_rules(
+fn add_sheet(
     alloc: Global,
     entry: &SheetEntry,
     place: usize,
+    medium: &Medium,
+    subject: &mut Subject<'_>,
+    found: &mut BTreeMap<Key, Hit>,
+) -> Result<(), AllocError>
+    requires { IsEntry entry.now }
+    ensures entries { OnOk result (found.new.entries ≡ all_entered found.old.entries
+        (entries_of_rules (source_of medium.now place entry.now) 0 (sheet_of entry.now.text).rules subject.old)) }
+    ensures same { subject.new ≡ subject.old }
+{
+    let held = media_held(alloc, entry, medium)?;
+    let judged = Judged {
+        sheet: entry,
+        place,
+        held: held.as_slice(),
+    };
+    add_rules(alloc, judged, subject, found)
+}
+
+fn add_rules(
+    alloc: Global,
+    judged: Judged<'_>,
     subject: &mut Subject<'_>,
     found: &mut BTreeMap<Key, Hit>,
 ) -> Result<(), AllocError>
     ensures entries { OnOk result (found.new.entries
-        ≡ all_entered found.old.entries (entries_of_rules (source_of place entry.now) 0 entry.now.reading.rules subject.old)) }
+        ≡ all_entered found.old.entries (entries_of_rules (judged_seen judged.entry) 0 judged.entry.sheet.now.reading.rules subject.old)) }
     ensures same { subject.new ≡ subject.old }
 {
-    let rules = entry.reading.rules.as_slice();
+    let rules = judged.sheet.reading.rules.as_slice();
     for i in 0..rules.len() {
-        add_rule(alloc, entry, place, i, &rules[i], subject, found)?;
+        add_rule(alloc, judged, i, &rules[i], subject, found)?;
     }
     Ok(())
 }
 
 fn add_rule(
     alloc: Global,
-    entry: &SheetEntry,
-    place: usize,
+    judged: Judged<'_>,
     i: usize,
     rule: &StyleRule,
     subject: &mut Subject<'_>,
     found: &mut BTreeMap<Key, Hit>,
 ) -> Result<(), AllocError>
     ensures entries { OnOk result (found.new.entries
-        ≡ all_entered found.old.entries (option_to_list (keyed_rule (source_of place entry.now) i (rule_seen rule.now) subject.old))) }
+        ≡ all_entered found.old.entries (option_to_list (keyed_rule (judged_seen judged.entry) i (rule_seen rule.now) subject.old))) }
     ensures same { subject.new ≡ subject.old }
 {
+    if !held_at(judged.held, rule.media) {
+        return Ok(());
+    }
     let matching = matching_places(alloc, &rule.selectors, subject)?;
     if matching.is_empty() {
         return Ok(());
     }
     let key = key_of(
-        entry.origin,
+        judged.sheet.origin,
         greatest_weight(&rule.selectors, subject),
-        place,
+        judged.place,
         i,
     );
     let hit = Hit {
-        sheet: entry.id,
+        sheet: judged.sheet.id,
         rule: i,
         matching: Places::new(matching),
     };

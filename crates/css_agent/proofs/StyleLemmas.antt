@@ -23,6 +23,7 @@ use Rattle.select_match.specs.Elements.{is_element_node, elements}
 use Rattle.select_match.proofs.WalkLemmas.{from, ancestors-from, walk-step}
 use Rattle.sheet_reader.specs.declared.book.SheetEntry.{SheetEntry}
 use Rattle.css_objects.specs.declared.rules.Inherited.{Inherited}
+use Rattle.media_rules.specs.declared.medium.Medium.{Medium}
 use Rattle.css_agent.specs.MatchedStyles.{told_inherited}
 
 one-found : {Y : Type 0} (o : Option Y) (front rest : List Y) → (front ++ option_to_list o) ++ rest ≡ front ++ cons_option o rest
@@ -37,22 +38,22 @@ found-turn {X = X} {Y = Y} f xs i x before after inside is e =
     ap (λ (l : List Y). l ++ filter_map f (drop (i + 1) xs)) e ∙ one-found (f x) before (filter_map f (drop (i + 1) xs))
     ∙ sym (ap (λ (l : List X). before ++ filter_map f l) (drop_more xs i x inside ∙ ap (λ (y : X). y ∷ drop (i + 1) xs) (sym is)))
 
-one-more : (book : List SheetEntry) (b : Bool) (front : List Inherited) (z : Zipper) (rest : List Zipper)
-    → (front ++ cond b (told_inherited book z ∷ []) []) ++ map (told_inherited book) rest
-    ≡ front ++ map (told_inherited book) (cond b (z ∷ rest) rest)
-one-more book true front z rest = append_assoc front (told_inherited book z ∷ []) (map (told_inherited book) rest)
-one-more book false front z rest = append_assoc front [] (map (told_inherited book) rest)
+one-more : (m : Medium) (book : List SheetEntry) (b : Bool) (front : List Inherited) (z : Zipper) (rest : List Zipper)
+    → (front ++ cond b (told_inherited m book z ∷ []) []) ++ map (told_inherited m book) rest
+    ≡ front ++ map (told_inherited m book) (cond b (z ∷ rest) rest)
+one-more m book true front z rest = append_assoc front (told_inherited m book z ∷ []) (map (told_inherited m book) rest)
+one-more m book false front z rest = append_assoc front [] (map (told_inherited m book) rest)
 
 -- an ancestor, and then those above it
-pub ancestors-turn : (book : List SheetEntry) (at : Option Zipper) (q : Zipper) (next : Option Zipper) (before after : List Inherited)
-    → at ≡ Some q → next ≡ parent_of q
-    → after ≡ before ++ cond (is_element_node q) (told_inherited book q ∷ []) []
-    → after ++ map (told_inherited book) (elements (from ancestors next))
-    ≡ before ++ map (told_inherited book) (elements (from ancestors at))
-ancestors-turn book at q next before after e f made =
-    ap (λ (l : List Inherited). l ++ map (told_inherited book) (elements (from ancestors next))) made
-    ∙ one-more book (is_element_node q) before q (elements (from ancestors next))
-    ∙ sym (ap (λ (l : List Zipper). before ++ map (told_inherited book) (elements l)) (walk-step ancestors ancestors-from at q next e f))
+pub ancestors-turn : (m : Medium) (book : List SheetEntry) (at : Option Zipper) (q : Zipper) (next : Option Zipper)
+    (before after : List Inherited) → at ≡ Some q → next ≡ parent_of q
+    → after ≡ before ++ cond (is_element_node q) (told_inherited m book q ∷ []) []
+    → after ++ map (told_inherited m book) (elements (from ancestors next))
+    ≡ before ++ map (told_inherited m book) (elements (from ancestors at))
+ancestors-turn m book at q next before after e f made =
+    ap (λ (l : List Inherited). l ++ map (told_inherited m book) (elements (from ancestors next))) made
+    ∙ one-more m book (is_element_node q) before q (elements (from ancestors next))
+    ∙ sym (ap (λ (l : List Zipper). before ++ map (told_inherited m book) (elements l)) (walk-step ancestors ancestors-from at q next e f))
 
 -- the selectors of a rule stand each where the text can be cut
 pub each-between : (text : List ℕ) (from to : ℕ) (ss : List SelectorForm) → AreBetween text from to (ranges_of ss)

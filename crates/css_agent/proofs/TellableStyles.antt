@@ -45,6 +45,8 @@ use Rattle.sheet_reader.specs.Books.{IsStored, entry_of}
 use Rattle.sheet_reader.proofs.UsableForms.{sheet_usable, style_usable}
 use Rattle.select_match.specs.Matches.{selector_matches}
 use Rattle.select_match.specs.Elements.{attributes_of, is_element_node, elements}
+use Rattle.sheet_reader.specs.Around.{held_at}
+use Rattle.media_rules.specs.declared.medium.Medium.{Medium}
 use Rattle.cascade_match.specs.declared.keys.Key.{Key}
 use Rattle.cascade_match.specs.declared.hits.Hit.{Hit}
 use Rattle.cascade_match.specs.Precedence.{key_cmp}
@@ -232,28 +234,35 @@ found-fits : (from : Source) (rule : ℕ) (weight : Spec) (ps : List ℕ) (rest 
 found-fits from rule weight [] rest own all = all
 found-fits from rule weight (p ∷ ps) rest own all = (own, all)
 
+if-fits : (b : Bool) (o : Option (Key × Hit)) (rest : List (Key × Hit)) → AllByRecursion EntryFits (option_to_list o ++ rest)
+    → AllByRecursion EntryFits rest → AllByRecursion EntryFits (option_to_list (cond b o None) ++ rest)
+if-fits true o rest own all = own
+if-fits false o rest own all = all
+
 rules-fit : (from : Source) (i most : ℕ) (rs : List RuleForm) (z : Zipper) → most + 1 < 2 ^ 53 → AllByRecursion (RuleNamed most) rs
     → AllByRecursion EntryFits (entries_of_rules from i rs z)
 rules-fit from i most [] z low all = tt
 rules-fit from i most (r ∷ rs) z low all =
     let few = all.0.few in
     let own = places-fit 0 r.selectors z (omega (arith, low, few)) in
-    found-fits from i (greatest r.selectors z) (places_matching r.selectors z) (entries_of_rules from (i + 1) rs z) (own.0, own.1)
-    (rules-fit from (i + 1) most rs z low all.1)
+    let more = rules-fit from (i + 1) most rs z low all.1 in
+    let weight = greatest r.selectors z in
+    let rest = entries_of_rules from (i + 1) rs z in
+    if-fits (held_at from.held r.media) (entry_by from i weight (places_matching r.selectors z)) rest
+    (found-fits from i weight (places_matching r.selectors z) rest (own.0, own.1) more) more
 
 pub stored-told : (e : SheetEntry) → IsStored e → IsTold e
 stored-told e is = record { some = is.entry.some; low = is.entry.id; short = is.entry.short; utf8 = is.utf8 }
 
-sheets-fit : (place : ℕ) (es : List SheetEntry) (z : Zipper) → AllByRecursion IsStored es
-    → AllByRecursion EntryFits (entries_of_sheets place es z)
-sheets-fit place [] z all = tt
-sheets-fit place (e ∷ es) z all =
+sheets-fit : (m : Medium) (place : ℕ) (es : List SheetEntry) (z : Zipper) → AllByRecursion IsStored es
+    → AllByRecursion EntryFits (entries_of_sheets m place es z)
+sheets-fit m place [] z all = tt
+sheets-fit m place (e ∷ es) z all =
     let short = all.0.entry.short in
-    all-append EntryFits (entries_of_rules (source_of place e) 0 e.reading.rules z) (entries_of_sheets (place + 1) es z)
-    (subst (λ (rs : List RuleForm). AllByRecursion EntryFits (entries_of_rules (source_of place e) 0 rs z))
-    (ap (λ s. s.rules) (sym all.0.entry.read))
-    (rules-fit (source_of place e) 0 (length e.text) (sheet_of e.text).rules z (omega (arith, short)) (rules-named e.text all.0.utf8)))
-    (sheets-fit (place + 1) es z all.1)
+    let from = source_of m place e in
+    all-append EntryFits (entries_of_rules from 0 (sheet_of e.text).rules z) (entries_of_sheets m (place + 1) es z)
+    (rules-fit from 0 (length e.text) (sheet_of e.text).rules z (omega (arith, short)) (rules-named e.text all.0.utf8))
+    (sheets-fit m (place + 1) es z all.1)
 
 put-fits : (sorted : List (Key × Hit)) (k : Key) (h : Hit) → HitFits h → AllByRecursion EntryFits sorted
     → AllByRecursion EntryFits (insert_entry key_cmp sorted k h)
@@ -274,8 +283,8 @@ hits-of : (es : List (Key × Hit)) → AllByRecursion EntryFits es → AllByRecu
 hits-of [] all = tt
 hits-of (e ∷ es) all = (all.0, hits-of es all.1)
 
-hits-fit : (book : List SheetEntry) (z : Zipper) → AllByRecursion IsStored book → AllByRecursion HitFits (matched_of book z)
-hits-fit book z all = hits-of (matched_entries book z) (all-fit [] (entries_of_sheets 0 book z) tt (sheets-fit 0 book z all))
+hits-fit : (m : Medium) (book : List SheetEntry) (z : Zipper) → AllByRecursion IsStored book → AllByRecursion HitFits (matched_of m book z)
+hits-fit m book z all = hits-of (matched_entries m book z) (all-fit [] (entries_of_sheets m 0 book z) tt (sheets-fit m 0 book z all))
 
 -- ---- matches
 
@@ -322,8 +331,9 @@ among-told book (h ∷ hs) all fits = at (told_hit book h) (hit-told book h all 
   at None own more = more
   at (Some m) own more = (own, more)
 
-matches-told : (book : List SheetEntry) (z : Zipper) → AllByRecursion IsStored book → AllByRecursion MatchTold (told_matches book z)
-matches-told book z all = among-told book (matched_of book z) all (hits-fit book z all)
+matches-told : (m : Medium) (book : List SheetEntry) (z : Zipper) → AllByRecursion IsStored book
+    → AllByRecursion MatchTold (told_matches m book z)
+matches-told m book z all = among-told book (matched_of m book z) all (hits-fit m book z all)
 
 matches-fit : (ms : List RuleMatch) → AllByRecursion MatchTold ms → list_all match_kind.fits ms ≡ true
 matches-fit [] all = refl
@@ -378,32 +388,32 @@ matched-told None ms is own all above = (both above.0 (both (matches-fit ms all)
 matched-told (Some s) ms is own all above =
     (both above.0 (both own.0 (both (matches-fit ms all) refl)), (above.1, own.1, matches-utf8 ms all))
 
-above-told : (book : List SheetEntry) (gs : List Generation) → AllByRecursion IsStored book
+above-told : (m : Medium) (book : List SheetEntry) (gs : List Generation) → AllByRecursion IsStored book
     → AllByRecursion (λ g. RowHasValues g.branch.row) gs
-    → (list_all inherited_kind.fits (map (told_inherited book) (elements (ancestors_in gs))) ≡ true)
-    × AllByRecursion InheritedHasUtf8 (map (told_inherited book) (elements (ancestors_in gs)))
-above-told book [] all values = (refl, tt)
-above-told book (g ∷ gs) all values = at (is_element_node z) (above-told book gs all values.1) where
+    → (list_all inherited_kind.fits (map (told_inherited m book) (elements (ancestors_in gs))) ≡ true)
+    × AllByRecursion InheritedHasUtf8 (map (told_inherited m book) (elements (ancestors_in gs)))
+above-told m book [] all values = (refl, tt)
+above-told m book (g ∷ gs) all values = at (is_element_node z) (above-told m book gs all values.1) where
   z : Zipper
   z = record { branch = g.branch; before = g.before; after = g.after; above = gs }
 
   at : (b : Bool)
-      → (list_all inherited_kind.fits (map (told_inherited book) (elements (ancestors_in gs))) ≡ true)
-      × AllByRecursion InheritedHasUtf8 (map (told_inherited book) (elements (ancestors_in gs)))
-      → (list_all inherited_kind.fits (map (told_inherited book) (cond b (z ∷ elements (ancestors_in gs)) (elements (ancestors_in gs))))
+      → (list_all inherited_kind.fits (map (told_inherited m book) (elements (ancestors_in gs))) ≡ true)
+      × AllByRecursion InheritedHasUtf8 (map (told_inherited m book) (elements (ancestors_in gs)))
+      → (list_all inherited_kind.fits (map (told_inherited m book) (cond b (z ∷ elements (ancestors_in gs)) (elements (ancestors_in gs))))
       ≡ true)
-      × AllByRecursion InheritedHasUtf8 (map (told_inherited book) (cond b (z ∷ elements (ancestors_in gs)) (elements (ancestors_in gs))))
+      × AllByRecursion InheritedHasUtf8 (map (told_inherited m book) (cond b (z ∷ elements (ancestors_in gs)) (elements (ancestors_in gs))))
   at true more =
-      let own = entry-told (told_inline z) (told_matches book z) (inline-told z values.0) (matches-told book z all) in
+      let own = entry-told (told_inline z) (told_matches m book z) (inline-told z values.0) (matches-told m book z all) in
       (both own.0 more.0, (own.1, more.1))
   at false more = more
 
 -- matched styles can be told
-pub styles-told : (book : List SheetEntry) (z : Zipper) → AllByRecursion IsStored book → HasValues z
-    → (matched_kind.fits (matched_styles book z) ≡ true) × MatchedHaveUtf8 (matched_styles book z)
-styles-told book z all values =
-    matched-told (told_inline z) (told_matches book z) (map (told_inherited book) (elements (ancestors z))) (inline-told z values.own)
-    (matches-told book z all) (above-told book z.above all values.above)
+pub styles-told : (m : Medium) (book : List SheetEntry) (z : Zipper) → AllByRecursion IsStored book → HasValues z
+    → (matched_kind.fits (matched_styles m book z) ≡ true) × MatchedHaveUtf8 (matched_styles m book z)
+styles-told m book z all values =
+    matched-told (told_inline z) (told_matches m book z) (map (told_inherited m book) (elements (ancestors z))) (inline-told z values.own)
+    (matches-told m book z all) (above-told m book z.above all values.above)
 
 -- ---- the nodes of a page
 

@@ -13,6 +13,7 @@ use Rattle.sheet_reader.specs.Books.{entry_of}
 use Rattle.sheet_reader.specs.Forms.{RuleForm}
 use Rattle.sheet_reader.specs.Sheets.{sheet_of}
 use Rattle.cascade_match.specs.declared.hits.Hit.{Hit}
+use Rattle.media_rules.specs.declared.medium.Medium.{Medium}
 use Rattle.cascade_match.specs.Matched.{matched_of}
 use Rattle.css_agent.specs.RuleObjects.{inline_style, told_rule}
 
@@ -29,18 +30,18 @@ abbrev pub told_hit : List SheetEntry → Hit → Option RuleMatch
 told_hit book h = option_and_then (λ e. option_map (told_match e h.matching) (slice_get (sheet_of e.text).rules h.rule))
     (entry_of h.sheet book)
 
--- the rules that match an element, in the order in which they count
-abbrev pub told_matches : List SheetEntry → Zipper → List RuleMatch
-told_matches book z = filter_map (told_hit book) (matched_of book z)
+-- the rules that match an element in this medium, in the order in which they count
+abbrev pub told_matches : Medium → List SheetEntry → Zipper → List RuleMatch
+told_matches m book z = filter_map (told_hit book) (matched_of m book z)
 
 -- what an ancestor has
-abbrev pub told_inherited : List SheetEntry → Zipper → Inherited
-told_inherited book z = record { inline = told_inline z; rules = told_matches book z }
+abbrev pub told_inherited : Medium → List SheetEntry → Zipper → Inherited
+told_inherited m book z = record { inline = told_inline z; rules = told_matches m book z }
 
 -- all of an element: its ancestors are those that are elements, from its parent upwards
-abbrev pub matched_styles : List SheetEntry → Zipper → Matched
-matched_styles book z = record {
+abbrev pub matched_styles : Medium → List SheetEntry → Zipper → Matched
+matched_styles m book z = record {
   inline = told_inline z;
-  rules = told_matches book z;
-  inherited = map (told_inherited book) (elements (ancestors z));
+  rules = told_matches m book z;
+  inherited = map (told_inherited m book) (elements (ancestors z));
 }

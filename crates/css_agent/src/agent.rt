@@ -3,13 +3,14 @@ ghost use Rattle.cdp_messages.specs.Moves.{frames_of_moves};
 ghost use Rattle.cdp_messages.specs.Events.{news_of};
 ghost use Rattle.style_edits.specs.Edits.{IfFault};
 ghost use Rattle.css_agent.specs.Told.{turn_messages, event_messages, message_frames};
-ghost use Rattle.css_agent.specs.Asks.{NodeIsThere, css_outcome, answer_move};
+ghost use Rattle.css_agent.specs.Asks.{NodeIsThere, styled_page, css_outcome, answer_move};
 ghost use Rattle.css_agent.specs.Edits.{css_edited, edit_splices, edit_moves};
 
 use crate::edit_outcomes::{Done, css_edited};
 use crate::frames::{answer, tell_edit, tell_sheets_if};
 use crate::outcomes::css_outcome;
 use cdp_messages::{CssAsk, CssEdit, Event, write_event};
+use media_rules::Medium;
 use page_tree::Page;
 use sheet_reader::SheetBook;
 use std::alloc::{AllocError, Global};
@@ -76,7 +77,7 @@ impl CssAgent {
     }
 
     /// Appends what answers the command, which has that id: the reply, or the error reply where it is refused. Where the command
-    /// names a node, `node` is its serial.
+    /// names a node, `node` is its serial. Rules count where every media rule around them holds of the medium.
     pub fn ask(
         &self,
         page: &Page,
@@ -85,12 +86,14 @@ impl CssAgent {
         id: u64,
         ask: &CssAsk,
         out: &mut Vec<u8>,
+        medium: &Medium,
     ) -> Result<(), AllocError>
         requires { NodeIsThere node page.now.tree ask.now }
         ensures { OnOk result (out.new.items
-            ≡ out.old.items ++ frames_of_moves (answer_move id (css_outcome page.now.tree book.now node ask.now) ∷ [])) }
+            ≡ out.old.items ++ frames_of_moves
+            (answer_move id (css_outcome (styled_page page.now.tree book.now medium.now) node ask.now) ∷ [])) }
     {
-        let outcome = css_outcome(self.alloc, page, book, node, ask)?;
+        let outcome = css_outcome(self.alloc, page, book, node, ask, medium)?;
         answer(self.alloc, id, outcome, out)
     }
 

@@ -14,6 +14,7 @@ use crate::rules::told_rule;
 use crate::styles::inline_style;
 use cascade_match::{Hit, matched_on};
 use css_objects::{Inherited, Listed, Matched, RuleMatch, Style};
+use media_rules::Medium;
 use page_tree::{Kind, NodeRef};
 use select_match::Subject;
 use sheet_reader::{SheetBook, SheetEntry, StyleRule};
@@ -112,11 +113,12 @@ fn told_matches(
     alloc: Global,
     book: &SheetBook,
     subject: &mut Subject<'_>,
+    medium: &Medium,
 ) -> Result<Vec<RuleMatch>, AllocError>
-    ensures value { IfOk result (λ v. v.items ≡ told_matches book.now subject.old) }
+    ensures value { IfOk result (λ v. v.items ≡ told_matches medium.now book.now subject.old) }
     ensures same { subject.new ≡ subject.old }
 {
-    let hits = matched_on(alloc, book, subject)?;
+    let hits = matched_on(alloc, book, subject, medium)?;
     matches_among(alloc, book, hits.as_slice())
 }
 
@@ -125,12 +127,13 @@ fn told_inherited(
     alloc: Global,
     book: &SheetBook,
     node: NodeRef<'_>,
+    medium: &Medium,
 ) -> Result<Inherited, AllocError>
-    ensures { IfOk result (λ i. i ≡ told_inherited book.now node.entry) }
+    ensures { IfOk result (λ i. i ≡ told_inherited medium.now book.now node.entry) }
 {
     let inline = told_inline(alloc, &node)?;
     let mut subject = Subject::new(alloc, node)?;
-    let rules = told_matches(alloc, book, &mut subject)?;
+    let rules = told_matches(alloc, book, &mut subject, medium)?;
     Ok(Inherited {
         inline,
         rules: Listed::new(rules),
@@ -141,13 +144,14 @@ fn add_ancestor(
     alloc: Global,
     book: &SheetBook,
     node: NodeRef<'_>,
+    medium: &Medium,
     entries: &mut Vec<Inherited>,
 ) -> Result<(), AllocError>
     ensures { OnOk result (entries.new.items
-        ≡ entries.old.items ++ cond (is_element_node node.entry) (told_inherited book.now node.entry ∷ []) []) }
+        ≡ entries.old.items ++ cond (is_element_node node.entry) (told_inherited medium.now book.now node.entry ∷ []) []) }
 {
     if node.kind() == Kind::Element {
-        entries.push(told_inherited(alloc, book, node)?)?;
+        entries.push(told_inherited(alloc, book, node, medium)?)?;
     }
     Ok(())
 }
@@ -157,14 +161,15 @@ fn inherited_by(
     alloc: Global,
     book: &SheetBook,
     node: &NodeRef<'_>,
+    medium: &Medium,
 ) -> Result<Vec<Inherited>, AllocError>
-    ensures { IfOk result (λ v. v.items ≡ map (told_inherited book.now) (elements (ancestors node.now))) }
+    ensures { IfOk result (λ v. v.items ≡ map (told_inherited medium.now book.now) (elements (ancestors node.now))) }
 {
     let mut entries = Vec::new(alloc);
     let mut at = node.parent();
     while let Some(ancestor) = at {
         at = ancestor.parent();
-        add_ancestor(alloc, book, ancestor, &mut entries)?;
+        add_ancestor(alloc, book, ancestor, medium, &mut entries)?;
     }
     Ok(entries)
 }
@@ -174,11 +179,12 @@ pub(crate) fn matched_styles(
     alloc: Global,
     book: &SheetBook,
     node: NodeRef<'_>,
+    medium: &Medium,
 ) -> Result<Matched, AllocError>
-    ensures { IfOk result (λ m. m ≡ matched_styles book.now node.entry) }
+    ensures { IfOk result (λ m. m ≡ matched_styles medium.now book.now node.entry) }
 {
-    let inherited = inherited_by(alloc, book, &node)?;
-    let own = told_inherited(alloc, book, node)?;
+    let inherited = inherited_by(alloc, book, &node, medium)?;
+    let own = told_inherited(alloc, book, node, medium)?;
     Ok(Matched {
         inline: own.inline,
         rules: own.rules,

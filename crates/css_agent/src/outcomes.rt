@@ -5,12 +5,13 @@ ghost use Rattle.sheet_reader.specs.Books.{IsEntry};
 ghost use Rattle.cdp_messages.specs.declared.down.ReplyBody.TheVariants.{ClassNames, SheetText, Matched};
 ghost use Rattle.css_agent.specs.ClassNames.{class_names};
 ghost use Rattle.css_agent.specs.MatchedStyles.{matched_styles};
-ghost use Rattle.css_agent.specs.Asks.{if_sheet, sheet_named, NodeIsThere, css_outcome};
+ghost use Rattle.css_agent.specs.Asks.{if_sheet, sheet_named, NodeIsThere, styled_page, css_outcome};
 
 use crate::class_names::class_names;
 use crate::matched_styles::matched_styles;
 use cdp_messages::{CssAsk, Listed, ReplyBody, Why};
 use css_objects::sheet_in;
+use media_rules::Medium;
 use page_tree::{NodeRef, Page};
 use sheet_reader::{SheetBook, SheetEntry};
 use std::alloc::{AllocError, Global};
@@ -51,10 +52,11 @@ fn told_matched(
     alloc: Global,
     book: &SheetBook,
     node: NodeRef<'_>,
+    medium: &Medium,
 ) -> Result<Result<ReplyBody, Why>, AllocError>
-    ensures { IfOk result (λ o. o ≡ Ok (Matched (matched_styles book.now node.entry))) }
+    ensures { IfOk result (λ o. o ≡ Ok (Matched (matched_styles medium.now book.now node.entry))) }
 {
-    let styles = matched_styles(alloc, book, node)?;
+    let styles = matched_styles(alloc, book, node, medium)?;
     Ok(Ok(ReplyBody::Matched(styles)))
 }
 
@@ -65,12 +67,15 @@ pub(crate) fn css_outcome(
     book: &SheetBook,
     node: u64,
     ask: &CssAsk,
+    medium: &Medium,
 ) -> Result<Result<ReplyBody, Why>, AllocError>
     requires { NodeIsThere node page.now.tree ask.now }
-    ensures { IfOk result (λ o. o ≡ css_outcome page.now.tree book.now node ask.now) }
+    ensures { IfOk result (λ o. o ≡ css_outcome (styled_page page.now.tree book.now medium.now) node ask.now) }
 {
     match ask {
-        CssAsk::GetMatchedStyles { node: _ } => told_matched(alloc, book, page.node_ref(node)),
+        CssAsk::GetMatchedStyles { node: _ } => {
+            told_matched(alloc, book, page.node_ref(node), medium)
+        }
         CssAsk::GetStyleSheetText { sheet } => told_text(book, sheet.as_str()),
         CssAsk::CollectClassNames { sheet } => told_class_names(alloc, book, sheet.as_str()),
     }

@@ -3,14 +3,15 @@ use Rattle.std.proofs.Common.{ap, ◌∙◌}
 use Rattle.std.specs.Option.{option_to_list}
 use Rattle.page_tree.specs.Zippers.{Zipper}
 use Rattle.sheet_reader.specs.Forms.{rule_seen}
-use Rattle.cascade_match.specs.Matched.{source_of, keyed_rule, all_entered}
+use Rattle.cascade_match.specs.Judged.{judged_seen}
+use Rattle.cascade_match.specs.Matched.{keyed_rule, all_entered}
 use Rattle.cascade_match.proofs.MatchLemmas.{rules-at, rules-step}
 use Rattle.cascade_match.proofs.matching.add_rules.Goals as goal
 
 pub loop-i-preserved : goal.loop-i-preserved
 loop-i-preserved c =
-    let rules = c.args.entry.now.reading.rules in
-    let from = source_of c.args.place c.args.entry.now in
+    let rules = c.args.judged.sheet.now.reading.rules in
+    let from = judged_seen c.args.judged in
     let r = rule_seen c.index-rules-i.result in
     let same = c.loop-i.invariant.same in
     let at = rules-at c.as_slice-rules.result.now rules c.loop-i.i c.index-rules-i.result c.as_slice-rules.ensures c.loop-i-test.true

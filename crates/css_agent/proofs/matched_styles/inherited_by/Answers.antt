@@ -9,9 +9,9 @@ use Rattle.css_agent.proofs.matched_styles.inherited_by.Goals as goal
 
 pub loop-at-init : goal.loop-at-init
 loop-at-init c =
-    ap (λ (l : List Inherited). l ++ map (told_inherited c.args.book.now)
+    ap (λ (l : List Inherited). l ++ map (told_inherited c.args.medium.now c.args.book.now)
     (elements (from ancestors c.parent-at.result))) c.new-entries.ensures.items
-    ∙ ap (λ (l : List Zipper). map (told_inherited c.args.book.now) (elements l))
+    ∙ ap (λ (l : List Zipper). map (told_inherited c.args.medium.now c.args.book.now) (elements l))
     (walk-start ancestors ancestors-from c.args.node.now c.parent-at.result c.parent-at.ensures)
 
 pub loop-at-smaller : goal.loop-at-smaller
@@ -20,7 +20,7 @@ loop-at-smaller c = walk-smaller ancestors ancestors-from c.loop-at.at c.in-Some
 
 pub loop-at-preserved : goal.loop-at-preserved
 loop-at-preserved c =
-    ancestors-turn c.args.book.now c.loop-at.at c.in-Some.ancestor c.parent-at-in-Some.result c.loop-at.entries.items
+    ancestors-turn c.args.medium.now c.args.book.now c.loop-at.at c.in-Some.ancestor c.parent-at-in-Some.result c.loop-at.entries.items
     c.add_ancestor.new.entries.items c.in-Some.is c.parent-at-in-Some.ensures
     (c.in_ok-add_ancestor.ensures {u = tt})
     ∙ c.loop-at.invariant
