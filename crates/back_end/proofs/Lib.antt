@@ -40,4 +40,5 @@ pub mod NoteSeats
 pub mod UndoSeats
 pub mod NoteCounts
 pub mod AskCounts
+pub mod StartLemmas
 mod DomainLemmas

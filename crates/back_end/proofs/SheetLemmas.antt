@@ -82,7 +82,7 @@ not-among n least next (s ∷ ss) less all =
     neither (nat_eq n s.number) (is_in n (map sheet_number ss)) (other-test n s.number (omega (arith, less, all.0)))
     (not-among n (s.number + 1) next ss (omega (arith, less, all.0)) all.1)
 
-ascend-distinct : (least next : ℕ) (ss : List ShownSheet) → AscendBetween least next ss → is_distinct (map sheet_number ss) ≡ true
+pub ascend-distinct : (least next : ℕ) (ss : List ShownSheet) → AscendBetween least next ss → is_distinct (map sheet_number ss) ≡ true
 ascend-distinct least next [] all = refl
 ascend-distinct least next (s ∷ ss) all =
     both (ap (λ b. not b) (not-among s.number (s.number + 1) next ss (omega arith) all.1)) (ascend-distinct (s.number + 1) next ss all.1)

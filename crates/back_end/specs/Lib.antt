@@ -6,3 +6,4 @@ pub mod OwnMethods
 pub mod Steps
 pub mod Laws
 pub mod Seats
+pub mod Starts

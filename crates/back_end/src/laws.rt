@@ -1,5 +1,6 @@
 // The laws of steps, which make no call.
 ghost use Rattle.back_end.specs.Laws.{FramesStepWell, TurnsStepWell, UndoRestores};
+ghost use Rattle.back_end.specs.Starts.{StartIsState, NewSeatsStand, SheetNumbersDiffer};
 
 /// After each step the state is valid, its history too, its moves lead from what the client saw to what it sees then, a frame is
 /// answered once, under its id and by what its method answers, and what a script does answers nothing.
@@ -12,4 +13,12 @@ pub fn step_law()
 /// back last; no edit on the way meets a fault or a limit.
 pub fn undo_law()
     ensures { UndoRestores }
+{}
+
+/// The state of a page that was just loaded is valid, and a new seat at the new side of that page stands for it. In a valid state no
+/// two sheets have one number.
+pub fn start_law()
+    ensures valid { StartIsState }
+    ensures stands { NewSeatsStand }
+    ensures numbers { SheetNumbersDiffer }
 {}

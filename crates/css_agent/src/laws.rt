@@ -13,5 +13,6 @@ pub fn edit_law()
 /// The class names of a sheet ascend by bytes, each once, and are exactly those that the selectors of its style rules ask for.
 pub fn class_names_law()
     ensures ascend { (text : List ℕ) → NamesAscend (class_names text) }
-    ensures exactly { (text name : List ℕ) → has_class_name name (class_names text) ≡ has_class_name name (classes_of_rules (sheet_of text).rules) }
+    ensures exactly { (text name : List ℕ) → has_class_name name (class_names text)
+        ≡ has_class_name name (classes_of_rules (sheet_of text).rules) }
 {}

@@ -17,7 +17,8 @@ use Rattle.inspect_replay.specs.Followed.{Passed, StatusFolds}
 use Rattle.inspect_replay.specs.Answers.{StatusRose}
 use Rattle.inspect_replay.specs.Says.{Counts, status_of}
 use Rattle.inspect_replay.specs.Serving.{served, ServeCall, ServedRead, ServedAll, ServedLimit, ServeTook, IsServeStatus, ServeMoment}
-use Rattle.inspect_replay.specs.Serving.{SoFar, Serves, PieceRead, PieceAnswered, PieceInPart, PieceServed, EndIsMet, ReadAnswered, PartAnswered, EndAnswered}
+use Rattle.inspect_replay.specs.Serving.{SoFar, Serves, PieceRead, PieceAnswered, PieceInPart, PieceServed, EndIsMet, ReadAnswered}
+use Rattle.inspect_replay.specs.Serving.{PartAnswered, EndAnswered}
 use Rattle.inspect_replay.specs.Serving.{LimitAnswered, FaultAnswered, HasServed, HasServeCause, WriteRose, ServeRose}
 use Rattle.inspect_replay.specs.ServeReads.{ReadsInTurn}
 use Rattle.inspect_replay.proofs.ReadLemmas.{CameInTurn, none-in-turn, more-in-turn, reads-in-turn}
@@ -62,7 +63,8 @@ more-came calls_before calls calls_after before left after start now new came co
 }
 
 -- what came is what was read
-read-answered : (calls_before calls : ℕ) (before left start : Option (List ℕ)) (now : ServeMoment) (came : ℕ) (s : ServedSoFar calls_before calls before left start now came)
+read-answered : (calls_before calls : ℕ) (before left start : Option (List ℕ)) (now : ServeMoment) (came : ℕ)
+    (s : ServedSoFar calls_before calls before left start now came)
     → ReadAnswered (record { left_before = before; left_after = left; taken_before = start; taken_after = now.taken }) s.bytes []
 read-answered calls_before calls before left start now came s = record {
   few = let count = s.count in let few = s.few in omega (arith, count, few);
@@ -81,7 +83,8 @@ loop-ended calls_before calls before left start now came s ended = record {
 }
 
 -- a front part of the answers to what came was written
-loop-part : (calls_before calls : ℕ) (before left after start : Option (List ℕ)) (now new : ServeMoment) (came most : ℕ) (s : ServedSoFar calls_before calls before left start now came)
+loop-part : (calls_before calls : ℕ) (before left after start : Option (List ℕ)) (now new : ServeMoment) (came most : ℕ)
+    (s : ServedSoFar calls_before calls before left start now came)
     → PieceInPart (record { start = start; bytes = s.bytes }) new (record { before = left; after = after; most = most })
     → came + most ≤ 2 ^ 26
     → PartAnswered (record { left_before = before; left_after = after; taken_before = start; taken_after = new.taken })
@@ -95,7 +98,8 @@ loop-part calls_before calls before left after start now new came most s p room 
 }
 
 -- the loop stopped
-pub loop-stopped : (calls_before calls : ℕ) (before left after start : Option (List ℕ)) (now new : ServeMoment) (came most : ℕ) (stop : Stop)
+pub loop-stopped : (calls_before calls : ℕ) (before left after start : Option (List ℕ)) (now new : ServeMoment) (came most : ℕ)
+    (stop : Stop)
     (s : ServedSoFar calls_before calls before left start now came)
     → PieceServed (record { start = start; bytes = s.bytes }) new (record { before = left; after = after; most = most }) (Err stop)
     → came + most ≤ 2 ^ 26
@@ -111,14 +115,17 @@ loop-stopped calls_before calls before left after start now new came most ReadFa
     wrote = p.1.wrote;
   };
 }
-loop-stopped calls_before calls before left after start now new came most WriteFault s p room = loop-part calls_before calls before left after start now new came most s p room
+loop-stopped calls_before calls before left after start now new came most WriteFault s p room =
+    loop-part calls_before calls before left after start now new came most s p room
 loop-stopped calls_before calls before left after start now new came most LinkFault s p room = absurd p
 loop-stopped calls_before calls before left after start now new came most (FrontRefused place fault) s p room = absurd p
 loop-stopped calls_before calls before left after start now new came most NoRoom s p room = absurd p
-loop-stopped calls_before calls before left after start now new came most Memory s p room = loop-part calls_before calls before left after start now new came most s p room
+loop-stopped calls_before calls before left after start now new came most Memory s p room =
+    loop-part calls_before calls before left after start now new came most s p room
 
 -- as many came as an input may have
-pub loop-full : (calls_before calls : ℕ) (before left after start : Option (List ℕ)) (now : ServeMoment) (came : ℕ) (result : Result (Unit {0}) Stop)
+pub loop-full : (calls_before calls : ℕ) (before left after start : Option (List ℕ)) (now : ServeMoment) (came : ℕ)
+    (result : Result (Unit {0}) Stop)
     → ServedSoFar calls_before calls before left start now came → 2 ^ 26 ≤ came
     → EndIsMet left after result → HasServed
     (record { left_before = before; left_after = after; taken_before = start; taken_after = now.taken }) result
@@ -167,7 +174,8 @@ turns-ended calls_before calls before left start now came s = reads-in-turn call
 
 -- and what one read more gave
 turns-more : (calls_before calls calls_after : ℕ) (before left after start end : Option (List ℕ)) (now : ServeMoment) (came : ℕ)
-    (piece : List ℕ) → ServedSoFar calls_before calls before left start now came → calls_after ≡ next_count calls → Consumes left after piece
+    (piece : List ℕ) → ServedSoFar calls_before calls before left start now came → calls_after ≡ next_count calls
+    → Consumes left after piece
     → ReadsInTurn calls_before calls_after (record { left_before = before; left_after = after; taken_before = start; taken_after = end })
 turns-more calls_before calls calls_after before left after start end now came piece s counted consumed =
     reads-in-turn calls_before calls_after (s.bytes ++ piece) _

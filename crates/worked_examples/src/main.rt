@@ -1,7 +1,10 @@
 //! Runs `inspect` on the examples that its standard input holds, and prints what is answered to each.
 //!
 //! An example begins with a line `## WORD NAME`; the lines up to the next are what `inspect WORD` reads. To `serve` each
-//! line is a frame, whose line feed stands for its zero byte; a last line that ends in `..` is a frame cut off there.
+//! line is a frame, whose line feed stands for its zero byte. A last line that ends in `..` is cut off there: no line feed
+//! and no zero byte stands behind it. A line `#! PART N` says that the N-th call of a part of the outside fails, `source`,
+//! `sink` or `link`.
+//!
 //! Behind the line of its beginning stands what was written, each zero byte as a line feed, and how a run ended that is
 //! not done.
 #![tactic(auto)]
@@ -9,37 +12,47 @@
 use inspect_replay::{Status, inspect, status_line};
 use pipe_frames::{MemLink, MemSink, MemSource};
 use std::alloc::Global;
-use std::io;
-use std::io::Write;
+use std::io::{Read, Write};
+use std::{io, str};
 
 /// The bytes that a source gives at a time.
 const PIECE: usize = 50;
 
-/// An example as far as it is read.
+/// An example as far as it is read, with the calls of the outside that fail in it.
 #[derive(Drop)]
 struct Example<'a> {
     word: &'a str,
     input: Vec<u8>,
+    source: Vec<u64>,
+    sink: Vec<u64>,
+    link: Vec<u64>,
 }
 
 fn main(rt: HostRuntime) -> io::Result<()> {
     let alloc = rt.alloc();
-    let text = io::read_to_string(alloc, rt.reader())?;
+    let mut text = Vec::new(alloc);
+    rt.reader().read_to_end(&mut text)?;
     let mut out = io::writer(&rt);
-    let mut example = Example {
-        word: "",
-        input: Vec::new(alloc),
-    };
-    for line in text.lines() {
-        if let Some(heading) = line.strip_prefix("## ") {
+    let mut example = begun(alloc, "");
+    let lines = text.strip_suffix(b"\n").unwrap_or(&text);
+    for line in lines.split(|byte| *byte == b'\n') {
+        if let Some(heading) = line.strip_prefix(b"## ") {
             tell(alloc, &mut out, example)?;
-            writeln!(out, "{line}")?;
-            example = begun(alloc, heading);
+            out.write_all(line)?;
+            out.write_all(b"\n")?;
+            example = begun(alloc, text_of(heading));
+        } else if let Some(fault) = line.strip_prefix(b"#! ") {
+            fail(&mut example, text_of(fault))?;
         } else {
             append(&mut example, line)?;
         }
     }
     tell(alloc, &mut out, example)
+}
+
+/// Bytes as a text, which is empty where they are not UTF-8.
+fn text_of(bytes: &[u8]) -> &str {
+    str::from_utf8(bytes).unwrap_or("")
 }
 
 /// An example whose heading is this, with no input yet.
@@ -51,20 +64,38 @@ fn begun<'a>(alloc: Global, heading: &'a str) -> Example<'a> {
     Example {
         word,
         input: Vec::new(alloc),
+        source: Vec::new(alloc),
+        sink: Vec::new(alloc),
+        link: Vec::new(alloc),
     }
 }
 
-/// Adds a line to the input: a line of a script, a frame with its zero byte, or the beginning of a frame.
-fn append(example: &mut Example<'_>, line: &str) -> io::Result<()> {
-    if example.word != "serve" {
-        example.input.extend_from_slice(line.as_bytes())?;
-        example.input.push(b'\n')?;
-    } else if let Some(front) = line.strip_suffix("..") {
-        example.input.extend_from_slice(front.as_bytes())?;
-    } else {
-        example.input.extend_from_slice(line.as_bytes())?;
-        example.input.push(0)?;
+/// One more call of the outside that fails: a part, and the number of its call. Any other text says nothing.
+fn fail(example: &mut Example<'_>, fault: &str) -> io::Result<()> {
+    let Some((part, number)) = fault.split_once(" ") else {
+        return Ok(());
+    };
+    let Ok(call) = number.parse::<u64>() else {
+        return Ok(());
+    };
+    match part {
+        "source" => example.source.push(call)?,
+        "sink" => example.sink.push(call)?,
+        "link" => example.link.push(call)?,
+        _ => {}
     }
+    Ok(())
+}
+
+/// Adds a line to the input: a line of a script, a frame with its zero byte, or what was cut off.
+fn append(example: &mut Example<'_>, line: &[u8]) -> io::Result<()> {
+    if let Some(front) = line.strip_suffix(b"..") {
+        example.input.extend_from_slice(front)?;
+        return Ok(());
+    }
+    example.input.extend_from_slice(line)?;
+    let end = if example.word == "serve" { 0 } else { b'\n' };
+    example.input.push(end)?;
     Ok(())
 }
 
@@ -75,21 +106,21 @@ fn tell<W: Write>(alloc: Global, out: &mut W, example: Example<'_>) -> io::Resul
     }
     let mut words = Vec::new(alloc);
     words.push(String::from_str(alloc, example.word)?)?;
-    let mut source = MemSource::new(example.input, PIECE, Vec::new(alloc));
-    let mut sink = MemSink::new(alloc, Vec::new(alloc));
-    let mut link = MemLink::new(alloc, Vec::new(alloc));
+    let mut source = MemSource::new(example.input, PIECE, example.source);
+    let mut sink = MemSink::new(alloc, example.sink);
+    let mut link = MemLink::new(alloc, example.link);
     let status = inspect(alloc, &words, &mut source, &mut sink, &mut link);
-    print(out, sink.bytes())?;
+    print(alloc, out, sink.bytes())?;
     end(alloc, out, &status)
 }
 
 /// Prints these bytes, each zero byte as a line feed.
-fn print<W: Write>(out: &mut W, bytes: &[u8]) -> io::Result<()> {
+fn print<W: Write>(alloc: Global, out: &mut W, bytes: &[u8]) -> io::Result<()> {
+    let mut shown = Vec::new(alloc);
     for byte in bytes {
-        let shown = if *byte == 0 { b'\n' } else { *byte };
-        out.write_all(&[shown])?;
+        shown.push(if *byte == 0 { b'\n' } else { *byte })?;
     }
-    Ok(())
+    out.write_all(&shown)
 }
 
 /// Prints how a run ended that is not done.

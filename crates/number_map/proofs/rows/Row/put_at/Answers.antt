@@ -30,11 +30,13 @@ pub returns-in_err-push-clause-kept : goal.returns-in_err-push-clause-kept
 returns-in_err-push-clause-kept c =
     let same : c.len-len.result ≡ length c.args.self.now.numbers.items = omega (arith, c.args.self.now.numbers.ok, c.len-len.ensures) in
     let long : c.len-len.result ≤ c.args.place = omega (arith, c.if-place-len.false) in
-    let wide : c.resize.new.self.items ≡ c.args.self.now.numbers.items ++ replicate (c.args.place - length c.args.self.now.numbers.items) None =
+    let wide : c.resize.new.self.items
+    ≡ c.args.self.now.numbers.items ++ replicate (c.args.place - length c.args.self.now.numbers.items) None =
     row-wide c.args.self.now.numbers.items c.resize.new.self.items c.args.place c.len-len.result same long
     (c.in_ok-resize.ensures.items ∙ ap (λ n. take c.args.place c.args.self.now.numbers.items ++ replicate (c.args.place - n) None)
     (sym c.len-len.ensures)) in
-    let kept : (other : ℕ) → row_at c.args.self.now.first c.push.new.self.items other ≡ row_at c.args.self.now.first c.args.self.now.numbers.items other =
+    let kept : (other : ℕ) → row_at c.args.self.now.first c.push.new.self.items other
+    ≡ row_at c.args.self.now.first c.args.self.now.numbers.items other =
     λ other. row-long c.args.self.now.first c.args.self.now.numbers.items c.resize.new.self.items c.push.new.self.items
     c.args.place other c.in_err-push.ensures.items wide in
     on_err _ _ kept
