@@ -11,9 +11,9 @@ ghost use Rattle.style_edits.specs.Splices.{FitsSplice, after_splice, back_splic
 ghost use Rattle.back_end.specs.Sheets.{as_book, numbered_sheets};
 ghost use Rattle.page_forms.specs.Sheets.{can_hold_sheets, max_sheet_bytes};
 
-use node_tree::{MAX_SHEETS, MAX_SHEET_BYTES};
 use cdp_messages::CssEdit;
 use css_agent::CssAgent;
+use node_tree::{MAX_SHEET_BYTES, MAX_SHEETS};
 use page_forms::SheetForm;
 use sheet_reader::{Origin, SheetBook};
 use std::alloc::{AllocError, Global};

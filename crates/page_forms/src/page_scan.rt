@@ -12,7 +12,7 @@ use cdp_json::{
     ScanErr, take_begin_array, take_begin_object, take_end_object, take_key, take_text,
 };
 use json::{Reader, Token};
-use node_tree::{Text, MAX_LEVEL};
+use node_tree::{MAX_LEVEL, Text};
 use page_tree::limit_fault;
 use std::alloc::Global;
 

@@ -12,7 +12,7 @@ ghost use Rattle.page_tree.specs.declared.slots.Slot.{Slot};
 use crate::arenas::{Arena, list_serials};
 use crate::slots::Keys;
 use crate::trees::Tree;
-use node_tree::{Text, drop_attribute, set_attribute, MOST_LEVELS};
+use node_tree::{MOST_LEVELS, Text, drop_attribute, set_attribute};
 use std::alloc::{AllocError, Global};
 use std::{mem, slice};
 

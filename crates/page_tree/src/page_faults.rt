@@ -17,7 +17,7 @@ use crate::pages::Page;
 use crate::tree_limits::{are_trees_named, are_trees_within, room_beside_trees};
 use crate::trees::Tree;
 use crate::walks::{are_children_within, room_beside_children};
-use node_tree::{Kind, is_attribute_name, MAX_LEVEL, MAX_NODES};
+use node_tree::{Kind, MAX_LEVEL, MAX_NODES, is_attribute_name};
 use std::slice;
 
 /// A node of the second kind may stand right below one of the first.

@@ -12,7 +12,7 @@ use crate::forms::NodeForm;
 use crate::numbering::number_all;
 use crate::slots::Slot;
 use crate::trees::Tree;
-use node_tree::{Attributes, Kind, Text, MAX_LEVEL};
+use node_tree::{Attributes, Kind, MAX_LEVEL, Text};
 use std::alloc::{AllocError, Global};
 use std::marker::Model;
 

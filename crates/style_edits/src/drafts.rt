@@ -13,7 +13,7 @@ ghost use Rattle.style_edits.specs.Drafts.{Drafts};
 use crate::faults::{SheetErr, SheetFault};
 use crate::splice::Splice;
 use css_tokens::Range;
-use node_tree::{Text, MAX_SHEET_BYTES};
+use node_tree::{MAX_SHEET_BYTES, Text};
 use sheet_reader::{SheetBook, SheetEntry, read_sheet};
 use std::alloc::{AllocError, Global};
 

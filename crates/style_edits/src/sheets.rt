@@ -7,7 +7,7 @@ ghost use Rattle.style_edits.specs.declared.faults.SheetFault.TheVariants.{NoShe
 ghost use Rattle.style_edits.specs.Edits.{is_too_big, new_sheet, IfFault};
 
 use crate::faults::{SheetErr, SheetFault};
-use node_tree::{Text, MAX_SHEETS, MAX_SHEET_BYTES};
+use node_tree::{MAX_SHEET_BYTES, MAX_SHEETS, Text};
 use sheet_reader::{Origin, SheetBook, SheetEntry, read_sheet};
 use std::alloc::{AllocError, Global};
 
