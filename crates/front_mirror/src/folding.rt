@@ -8,7 +8,6 @@ use crate::known::{FrameErr, Known};
 use crate::panels::Panel;
 use crate::places::tell_message;
 use pipe_frames::Splitter;
-use std::alloc::AllocError;
 
 /// Folds the frames that are whole, up to the first that is refused, and tells the open panels of each change of the
 /// mirror.
