@@ -1,7 +1,8 @@
 -- What holds of each step.
-use Rattle.std.specs.Prelude.{◌≡◌, ℕ, ◌+◌, ◌*◌, ◌^◌, ◌≤◌, ◌<◌, Bool, true, List, [], ◌∷◌, length, codes, ⊤, Option, Some, None, IfSome}
+use Rattle.std.specs.Prelude.{◌≡◌, ℕ, ◌+◌, ◌*◌, ◌≤◌, ◌<◌, Bool, true, List, [], ◌∷◌, length, codes, ⊤, Option, Some, None, IfSome}
 use Rattle.std.specs.Prelude.{option_and_then, Result, Ok, Err}
 use Rattle.std.specs.List.{flat_map}
+use Rattle.node_tree.specs.Numbers.{drawn_before_step, kept_before_step}
 use Rattle.page_tree.specs.Forms.{max_nodes}
 use Rattle.page_forms.specs.Acts.{IsInsertable}
 use Rattle.cdp_messages.specs.declared.command.Asked.{Asked}
@@ -93,10 +94,10 @@ edits_asked (Err r) = 0
 
 -- ids, serials, numbers of sheets and places in the history are left for a step
 pub record HasRoom (state : State) : Type 0 where
-  pub ids : length state.client.session.pushed + 1 < 2 ^ 50
-  pub serials : state.side.page.next < 2 ^ 50
-  pub sheets : state.side.next_sheet < 2 ^ 50
-  pub edits : edits_kept state < 2 ^ 30
+  pub ids : length state.client.session.pushed + 1 < drawn_before_step
+  pub serials : state.side.page.next < drawn_before_step
+  pub sheets : state.side.next_sheet < drawn_before_step
+  pub edits : edits_kept state < kept_before_step
 
 -- Ids that a step may draw beside those of the nodes that an undo puts back: an edit by a script makes two nodes known before it, each
 -- with all that is beside it and above, and a move is two edits.

@@ -1,5 +1,6 @@
 -- A seat with its side that stands for a state.
-use Rattle.std.specs.Prelude.{◌≡◌, ℕ, ◌+◌, ◌<◌, ◌^◌, Bool, true, false, [], Option, Some, None, is_some, ⊤}
+use Rattle.std.specs.Prelude.{◌≡◌, ℕ, ◌+◌, ◌<◌, Bool, true, false, [], Option, Some, None, is_some, ⊤}
+use Rattle.node_tree.specs.Numbers.{drawn_before_step, kept_before_step}
 use Rattle.node_tree.specs.Nodes.{Nodes, none}
 use Rattle.node_tree.specs.Keys.{has}
 use Rattle.page_tree.specs.Pages.{PageRow, row_serial}
@@ -43,9 +44,9 @@ IsSeated seat side = seat.is_dead ≡ false → ∥ ((state : State) × StandsFo
 
 -- ids, serials and numbers of sheets are left for a step
 pub record HasNumbersLeft (desk : Desk) (side : PageSide) : Type 0 where
-  pub ids : desk.agent.next < 2 ^ 50
-  pub serials : side.page.next < 2 ^ 50
-  pub sheets : side.sheets.next < 2 ^ 50
+  pub ids : desk.agent.next < drawn_before_step
+  pub serials : side.page.next < drawn_before_step
+  pub sheets : side.sheets.next < drawn_before_step
 
 -- how many edits a history has
 abbrev pub edits_in : Marks Inverse → ℕ
@@ -54,7 +55,7 @@ edits_in history = entry_count history.past + entry_count history.future
 -- ids, serials, numbers of sheets and places in the history are left for a step
 pub record HasRoomLeft (seat : Seat) (side : PageSide) : Type 0 where
   pub numbers : HasNumbersLeft seat.desk side
-  pub edits : edits_in seat.history < 2 ^ 30
+  pub edits : edits_in seat.history < kept_before_step
 
 -- ---- nodes that become known
 

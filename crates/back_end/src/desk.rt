@@ -1,4 +1,5 @@
-ghost use Rattle.std.specs.Prelude.{◌≡◌, ◌<◌, ◌^◌, ◌++◌, ◌&&◌, ◌||◌, not, false, true, Some, None, OnOk};
+ghost use Rattle.std.specs.Prelude.{◌≡◌, ◌<◌, ◌++◌, ◌&&◌, ◌||◌, not, false, true, Some, None, OnOk};
+ghost use Rattle.node_tree.specs.Numbers.{kept_before_step};
 ghost use Rattle.node_binding.specs.Bindings.{empty_from};
 ghost use Rattle.dom_breakpoints.specs.Watched.{unwatched};
 ghost use Rattle.cdp_messages.specs.DomAsks.{fits_ask};
@@ -59,7 +60,7 @@ impl Desk {
         out: &mut Vec<u8>,
     ) -> Result<(), AllocError>
         requires room { HasNumbersLeft self.old side.old }
-        requires few { edits_in history.old < 2 ^ 30 }
+        requires few { edits_in history.old < kept_before_step }
         requires standing { ∥ ((state : State) × BothStandFor self.old history.old side.old state) ∥₁ }
         ensures stands { (state : State) → BothStandFor self.old history.old side.old state
             → OnOk result (BothStandFor self.new history.new side.new (frame_step own frame.now state).state) }
@@ -102,7 +103,7 @@ impl Desk {
         requires command { fits_command command ≡ true }
         requires texts { HasServedTexts command }
         requires room { HasNumbersLeft self.old side.old }
-        requires few { edits_in history.old < 2 ^ 30 }
+        requires few { edits_in history.old < kept_before_step }
         requires standing { ∥ ((state : State) × BothStandFor self.old history.old side.old state) ∥₁ }
         ensures stands { (state : State) → BothStandFor self.old history.old side.old state
             → OnOk result (BothStandFor self.new history.new side.new (command_step id command state).state) }
@@ -128,7 +129,7 @@ impl Desk {
         requires met { missing self.old.is_on self.old.css command ≡ None }
         requires texts { HasServedTexts command }
         requires room { HasNumbersLeft self.old side.old }
-        requires few { edits_in history.old < 2 ^ 30 }
+        requires few { edits_in history.old < kept_before_step }
         requires standing { ∥ ((state : State) × BothStandFor self.old history.old side.old state) ∥₁ }
         ensures stands { (state : State) → BothStandFor self.old history.old side.old state
             → OnOk result (BothStandFor self.new history.new side.new (command_step id command state).state) }

@@ -1,5 +1,6 @@
 // The pauses that a script's edits come to.
-ghost use Rattle.std.specs.Prelude.{◌≡◌, ◌<◌, ◌+◌, ◌^◌, ◌++◌, ◌∷◌, [], ◌≤◌, Some, IfOk, OnOk};
+ghost use Rattle.std.specs.Prelude.{◌≡◌, ◌<◌, ◌+◌, ◌++◌, ◌∷◌, [], ◌≤◌, Some, IfOk, OnOk};
+ghost use Rattle.node_tree.specs.Numbers.{drawn_before_edit, drawn_by_pause, drawn_amid_act, drawn_by_edit};
 ghost use Rattle.page_tree.specs.EditFaults.{CanApply};
 ghost use Rattle.page_tree.specs.Edits.{after, back_tree};
 ghost use Rattle.client_views.specs.Moves.{met, frames_of_moves};
@@ -30,8 +31,8 @@ impl Desk {
         node: u64,
         out: &mut Vec<u8>,
     ) -> Result<(), AllocError>
-        requires ids { self.old.agent.next < 2 ^ 51 }
-        ensures few { OnOk result (self.new.agent.next ≤ self.old.agent.next + 2 ^ 35) }
+        requires ids { self.old.agent.next < drawn_before_edit }
+        ensures few { OnOk result (self.new.agent.next ≤ self.old.agent.next + drawn_by_pause) }
         ensures stands { (state : State) → DeskStandsFor self.old side.now state → CanPush node state
             → OnOk result (DeskStandsFor self.new side.now (pause_step (Some (attribute_pause node)) state).state) }
         ensures sent { (state : State) → DeskStandsFor self.old side.now state → CanPush node state
@@ -48,8 +49,8 @@ impl Desk {
         node: u64,
         out: &mut Vec<u8>,
     ) -> Result<(), AllocError>
-        requires ids { self.old.agent.next < 2 ^ 51 }
-        ensures few { OnOk result (self.new.agent.next ≤ self.old.agent.next + 2 ^ 35) }
+        requires ids { self.old.agent.next < drawn_before_edit }
+        ensures few { OnOk result (self.new.agent.next ≤ self.old.agent.next + drawn_by_pause) }
         ensures stands { (state : State) → DeskStandsFor self.old side.now state → CanPush node state
             → OnOk result (DeskStandsFor self.new side.now (pause_step (Some (removal_pause node)) state).state) }
         ensures sent { (state : State) → DeskStandsFor self.old side.now state → CanPush node state
@@ -68,8 +69,8 @@ impl Desk {
         insertion: bool,
         out: &mut Vec<u8>,
     ) -> Result<(), AllocError>
-        requires ids { self.old.agent.next < 2 ^ 51 }
-        ensures few { OnOk result (self.new.agent.next ≤ self.old.agent.next + 2 ^ 35) }
+        requires ids { self.old.agent.next < drawn_before_edit }
+        ensures few { OnOk result (self.new.agent.next ≤ self.old.agent.next + drawn_by_pause) }
         ensures stands { (state : State) → DeskStandsFor self.old side.now state → CanPush node state → CanPush target state
             → OnOk result (DeskStandsFor self.new side.now (pause_step (Some (subtree_watch_pause node target insertion)) state).state) }
         ensures sent { (state : State) → DeskStandsFor self.old side.now state → CanPush node state → CanPush target state
@@ -93,8 +94,8 @@ impl Desk {
         pause: Pause,
         out: &mut Vec<u8>,
     ) -> Result<(), AllocError>
-        requires ids { self.old.agent.next < 2 ^ 51 }
-        ensures few { OnOk result (self.new.agent.next ≤ self.old.agent.next + 2 ^ 35) }
+        requires ids { self.old.agent.next < drawn_before_edit }
+        ensures few { OnOk result (self.new.agent.next ≤ self.old.agent.next + drawn_by_pause) }
         ensures stands { (state : State) → DeskStandsFor self.old side.now state → IsPause state.client.watched (page_nodes state) pause
             → OnOk result (DeskStandsFor self.new side.now (pause_step (Some pause) state).state) }
         ensures sent { (state : State) → DeskStandsFor self.old side.now state → IsPause state.client.watched (page_nodes state) pause
@@ -118,8 +119,8 @@ impl Desk {
         out: &mut Vec<u8>,
     ) -> Result<(), AllocError>
         requires can { CanApply side.now.page.next edit.now side.now.page.tree }
-        requires ids { self.old.agent.next < 2 ^ 51 }
-        ensures few { OnOk result (self.new.agent.next ≤ self.old.agent.next + 2 ^ 35) }
+        requires ids { self.old.agent.next < drawn_before_edit }
+        ensures few { OnOk result (self.new.agent.next ≤ self.old.agent.next + drawn_by_pause) }
         ensures stands { (state : State) → DeskStandsFor self.old side.now state
             → OnOk result (DeskStandsFor self.new side.now (pause_before edit.now state).state) }
         ensures sent { (state : State) → DeskStandsFor self.old side.now state
@@ -139,12 +140,12 @@ impl Desk {
         out: &mut Vec<u8>,
     ) -> Result<TreeEdit, AllocError>
         requires can { CanApply side.old.page.next edit side.old.page.tree }
-        requires ids { self.old.agent.next < 2 ^ 50 + 2 ^ 41 }
-        requires serials { side.old.page.next < 2 ^ 51 }
-        requires sheets { side.old.sheets.next < 2 ^ 51 }
+        requires ids { self.old.agent.next < drawn_amid_act }
+        requires serials { side.old.page.next < drawn_before_edit }
+        requires sheets { side.old.sheets.next < drawn_before_edit }
         ensures page { OnOk result (side.new.page ≡ after edit side.old.page) }
         ensures kept { side.new.sheets ≡ side.old.sheets }
-        ensures few { OnOk result (self.new.agent.next ≤ self.old.agent.next + 2 ^ 36) }
+        ensures few { OnOk result (self.new.agent.next ≤ self.old.agent.next + drawn_by_edit) }
         ensures back { IfOk result (λ back. back ≡ back_tree edit side.old.page.tree) }
         ensures stands { (state : State) → DeskStandsFor self.old side.old state → EditHasTexts edit
             → OnOk result (DeskStandsFor self.new side.new (script_step edit state).state) }

@@ -1,5 +1,6 @@
 // A node becomes known at a seat.
-ghost use Rattle.std.specs.Prelude.{◌≤◌, ◌+◌, ◌≡◌, ◌<◌, ◌^◌, ◌++◌, IfOk, OnOk};
+ghost use Rattle.std.specs.Prelude.{◌≤◌, ◌+◌, ◌≡◌, ◌<◌, ◌++◌, IfOk, OnOk};
+ghost use Rattle.node_tree.specs.Numbers.{drawn_before_call, drawn_by_push};
 ghost use Rattle.client_views.specs.Moves.{frames_of_moves};
 ghost use Rattle.back_end.specs.States.{State};
 ghost use Rattle.back_end.specs.Steps.{id_now, push_step};
@@ -17,8 +18,8 @@ impl Desk {
         node: u64,
         out: &mut Vec<u8>,
     ) -> Result<u64, AllocError>
-        requires ids { self.old.agent.next < 2 ^ 52 }
-        ensures few { OnOk result (self.new.agent.next ≤ self.old.agent.next + 2 ^ 34) }
+        requires ids { self.old.agent.next < drawn_before_call }
+        ensures few { OnOk result (self.new.agent.next ≤ self.old.agent.next + drawn_by_push) }
         ensures id { (state : State) → DeskStandsFor self.old side.now state → CanPush node state
             → IfOk result (λ id. id ≡ id_now (push_step node state).state node) }
         ensures stands { (state : State) → DeskStandsFor self.old side.now state → CanPush node state

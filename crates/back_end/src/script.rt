@@ -1,5 +1,6 @@
 // What a script does to the page under the client's eyes.
-ghost use Rattle.std.specs.Prelude.{◌≡◌, ◌<◌, ◌^◌, ◌+◌, ◌∷◌, ◌++◌, [], cond, OnOk, IfOk};
+ghost use Rattle.std.specs.Prelude.{◌≡◌, ◌<◌, ◌+◌, ◌∷◌, ◌++◌, [], cond, OnOk, IfOk};
+ghost use Rattle.node_tree.specs.Numbers.{drawn_before_edit};
 ghost use Rattle.page_tree.specs.EditFaults.{CanApply, CanInsert, IsReady, first_fault, insert_fault, move_fault};
 ghost use Rattle.page_tree.specs.Edits.{after, back_tree};
 ghost use Rattle.page_forms.specs.Acts.{IsInsertable};
@@ -43,9 +44,9 @@ impl Desk {
         out: &mut Vec<u8>,
     ) -> Result<TreeEdit, AllocError>
         requires can { CanApply side.old.page.next edit side.old.page.tree }
-        requires ids { self.old.agent.next < 2 ^ 51 }
-        requires serials { side.old.page.next < 2 ^ 51 }
-        requires sheets { side.old.sheets.next < 2 ^ 51 }
+        requires ids { self.old.agent.next < drawn_before_edit }
+        requires serials { side.old.page.next < drawn_before_edit }
+        requires sheets { side.old.sheets.next < drawn_before_edit }
         ensures page { OnOk result (side.new.page ≡ after edit side.old.page) }
         ensures kept { side.new.sheets ≡ side.old.sheets }
         ensures few { OnOk result (self.new.agent.next < self.old.agent.next + 2) }

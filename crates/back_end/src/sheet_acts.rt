@@ -1,6 +1,7 @@
 // What a script does to the page's sheets under the client's eyes.
-ghost use Rattle.std.specs.Prelude.{◌≡◌, ◌<◌, ◌^◌, ◌++◌, [], cond, false, length, map, Some, slice_get, ◌-◌, IsSome, IsUtf8, OnOk};
+ghost use Rattle.std.specs.Prelude.{◌≡◌, ◌<◌, ◌++◌, [], cond, false, length, map, Some, slice_get, ◌-◌, IsSome, IsUtf8, OnOk};
 ghost use Rattle.std.specs.Prelude.{IfOk};
+ghost use Rattle.node_tree.specs.Numbers.{drawn_before_edit, drawn_before_step};
 ghost use Rattle.sheet_reader.specs.Books.{entry_of, removed};
 ghost use Rattle.sheet_reader.specs.declared.book.SheetEntry.{SheetEntry};
 ghost use Rattle.style_edits.specs.Edits.{is_too_big};
@@ -83,7 +84,7 @@ impl Desk {
         out: &mut Vec<u8>,
     ) -> Result<(), AllocError>
         requires fits { is_too_big text.now side.old.sheets.entries ≡ false }
-        requires room { side.old.sheets.next < 2 ^ 51 }
+        requires room { side.old.sheets.next < drawn_before_edit }
         ensures stands { (state : State) → DeskStandsFor self.old side.old state → IsUtf8 text.now
             → OnOk result (DeskStandsFor self.new side.new (sheet_step (comes origin text.now) state).state) }
         ensures sent { (state : State) → DeskStandsFor self.old side.old state
@@ -129,7 +130,7 @@ impl Desk {
         out: &mut Vec<u8>,
     ) -> Result<Option<ActFault>, AllocError>
         requires text { IsUtf8 text.now }
-        requires room { side.old.sheets.next < 2 ^ 50 }
+        requires room { side.old.sheets.next < drawn_before_step }
         ensures fault { IfOk result (λ fault. fault ≡ size_fault text.now side.old.sheets.entries) }
         ensures stands { (state : State) → DeskStandsFor self.old side.old state
             → OnOk result (DeskStandsFor self.new side.new (act_step (Act.AddSheet origin text.now) state).state) }
@@ -173,7 +174,7 @@ impl Desk {
         out: &mut Vec<u8>,
     ) -> Result<Option<ActFault>, AllocError>
         requires text { IsUtf8 text.now }
-        requires room { side.old.sheets.next < 2 ^ 50 }
+        requires room { side.old.sheets.next < drawn_before_step }
         ensures fault { IfOk result (λ fault. fault
             ≡ replace_fault text.now side.old.sheets.entries (sheet_named sheet.now side.old.sheets.entries)) }
         ensures stands { (state : State) → DeskStandsFor self.old side.old state

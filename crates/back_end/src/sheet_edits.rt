@@ -1,5 +1,6 @@
 // A client's edits of sheets.
-ghost use Rattle.std.specs.Prelude.{◌≡◌, ◌+◌, ◌<◌, ◌^◌, ◌++◌, map, length, OnOk, true};
+ghost use Rattle.std.specs.Prelude.{◌≡◌, ◌+◌, ◌<◌, ◌++◌, map, length, OnOk, true};
+ghost use Rattle.node_tree.specs.Numbers.{kept_before_group, kept_before_step};
 ghost use Rattle.client_views.specs.Moves.{frames_of_moves};
 ghost use Rattle.css_agent.specs.EditLaws.{HasEditTexts};
 ghost use Rattle.undo_marks.specs.Marks.{entry_count, noted_singly};
@@ -19,7 +20,7 @@ use undo_marks::{History, Inverse};
 
 /// Notes a client's edits of sheets by the splices that lead back, each by itself.
 fn note_splices(history: &mut History, backs: Vec<Splice>) -> Result<(), AllocError>
-    requires few { entry_count history.old.past + length backs.items < 2 ^ 62 }
+    requires few { entry_count history.old.past + length backs.items < kept_before_group }
     ensures { OnOk result (history.new ≡ noted_singly (map (λ s. kept.Sheet s) backs.items) history.old) }
 {
     for back in backs {
@@ -42,7 +43,7 @@ impl Desk {
         requires css { self.old.css ≡ true }
         requires texts { HasEditTexts edit.now }
         requires room { HasNumbersLeft self.old side.old }
-        requires few { edits_in history.old < 2 ^ 30 }
+        requires few { edits_in history.old < kept_before_step }
         ensures stands { (state : State) → BothStandFor self.old history.old side.old state
             → OnOk result (BothStandFor self.new history.new side.new (command_step id (commands.EditCss edit.now) state).state) }
         ensures sent { (state : State) → DeskStandsFor self.old side.old state

@@ -1,6 +1,7 @@
 // The page's sheets, each under a number of its own.
-ghost use Rattle.std.specs.Prelude.{◌≡◌, ◌<◌, ◌^◌, ◌+◌, ◌++◌, ◌∷◌, [], None, Ok, Err, false, true, OnOk, OnErr, IfOk, IfErr, IsSome};
+ghost use Rattle.std.specs.Prelude.{◌≡◌, ◌<◌, ◌+◌, ◌++◌, ◌∷◌, [], None, Ok, Err, false, true, OnOk, OnErr, IfOk, IfErr, IsSome};
 ghost use Rattle.std.specs.Prelude.{length, nat_lt};
+ghost use Rattle.node_tree.specs.Numbers.{drawn_before_call, drawn_before_edit};
 ghost use Rattle.client_views.specs.Moves.{frames_of_moves};
 ghost use Rattle.css_agent.specs.Edits.{css_edited, edit_moves, edit_splices};
 ghost use Rattle.sheet_reader.specs.Books.{entry_of, removed};
@@ -12,17 +13,12 @@ ghost use Rattle.page_forms.specs.Sheets.{can_hold_sheets, max_sheet_bytes};
 
 use cdp_messages::CssEdit;
 use css_agent::CssAgent;
+use node_tree::{MAX_SHEET_BYTES, MAX_SHEETS};
 use page_forms::SheetForm;
 use sheet_reader::{Origin, SheetBook};
 use std::alloc::{AllocError, Global};
 use std::marker::Model;
 use style_edits::{SheetErr, SheetFault, Splice, add_sheet, drop_sheet, put_back};
-
-/// The most sheets that a page has.
-const MOST_SHEETS: usize = 1000;
-
-/// The most bytes that the text of a sheet has.
-const MOST_BYTES: usize = 1 << 24;
 
 /// No sheet has this number, or one above it.
 const END_OF_NUMBERS: u64 = 1 << 53;
@@ -31,7 +27,7 @@ const END_OF_NUMBERS: u64 = 1 << 53;
 fn is_too_long(text: &str) -> bool
     ensures { result ≡ nat_lt max_sheet_bytes (length text.now) }
 {
-    text.len() > MOST_BYTES
+    text.len() > MAX_SHEET_BYTES
 }
 
 /// A book of sheets whose numbers are below that of the next one.
@@ -85,7 +81,7 @@ impl PageSheets {
     pub(crate) fn is_full_for(&self, text: &str) -> bool
         ensures { result ≡ is_too_big text.now self.now.entries }
     {
-        is_too_long(text) || self.book.len() >= MOST_SHEETS
+        is_too_long(text) || self.book.len() >= MAX_SHEETS
     }
 
     /// Whether a new sheet with this text does not fit in the place of one that is there.
@@ -95,12 +91,12 @@ impl PageSheets {
     {
         // The clauses alone speak of the sheet.
         let _ = number;
-        is_too_long(text) || self.book.len() > MOST_SHEETS
+        is_too_long(text) || self.book.len() > MAX_SHEETS
     }
 
     /// Puts a new sheet last, under the next number. On an error nothing has changed.
     pub(crate) fn add(&mut self, origin: Origin, text: &str) -> Result<(), SheetErr>
-        requires room { self.old.next < 2 ^ 52 }
+        requires room { self.old.next < drawn_before_call }
         ensures last { OnOk result (self.new
             ≡ record { entries = self.old.entries ++ new_sheet self.old.next origin text.now ∷ []; next = self.old.next + 1 }) }
         ensures fits { OnOk result (is_too_big text.now self.old.entries ≡ false) }
@@ -167,7 +163,7 @@ impl PageSheets {
         forms: &[SheetForm],
     ) -> Result<PageSheets, AllocError>
         requires some { 0 < next }
-        requires room { next < 2 ^ 51 }
+        requires room { next < drawn_before_edit }
         requires can { can_hold_sheets forms.now ≡ true }
         ensures { IfOk result (λ s. s ≡ record { entries = as_book (numbered_sheets next forms.now); next = next + length forms.now }) }
     {

@@ -1,4 +1,5 @@
-ghost use Rattle.std.specs.Prelude.{◌≡◌, ◌≤◌, ◌<◌, ◌^◌, ◌+◌, IfOk, IfSome, length};
+ghost use Rattle.std.specs.Prelude.{◌≡◌, ◌≤◌, ◌<◌, ◌+◌, IfOk, IfSome, length};
+ghost use Rattle.node_tree.specs.Numbers.{drawn_before_edit};
 ghost use Rattle.page_tree.specs.Pages.{loaded};
 ghost use Rattle.page_forms.specs.Pages.{loaded_nodes, loaded_sheets, loaded_page, CanLoadPage};
 ghost use Rattle.back_end.specs.Sheets.{as_book, numbered_sheets};
@@ -48,8 +49,8 @@ impl PageSide {
         form: PageForm,
     ) -> Result<PageSide, AllocError>
         requires can { CanLoadPage (loaded_page form) }
-        requires serials { (1 ≤ serial) × (serial < 2 ^ 51) }
-        requires numbers { (0 < number) × (number < 2 ^ 51) }
+        requires serials { (1 ≤ serial) × (serial < drawn_before_edit) }
+        requires numbers { (0 < number) × (number < drawn_before_edit) }
         ensures page { IfOk result (λ side. side.page ≡ loaded serial (loaded_nodes form)) }
         ensures sheets { IfOk result (λ side. side.sheets.entries ≡ as_book (numbered_sheets number (loaded_sheets form))) }
         ensures next { IfOk result (λ side. side.sheets.next ≡ number + length (loaded_sheets form)) }

@@ -1,5 +1,6 @@
 // A client's edits of the tree.
-ghost use Rattle.std.specs.Prelude.{◌≡◌, ◌+◌, ◌<◌, ◌^◌, ◌++◌, true, map, None, Ok, is_some, IfOk, OnOk};
+ghost use Rattle.std.specs.Prelude.{◌≡◌, ◌+◌, ◌<◌, ◌++◌, true, map, None, Ok, is_some, IfOk, OnOk};
+ghost use Rattle.node_tree.specs.Numbers.{kept_before_note, drawn_before_edit, kept_before_step, drawn_before_call};
 ghost use Rattle.page_tree.specs.Edits.{after, back_tree};
 ghost use Rattle.page_tree.specs.EditFaults.{CanApply, move_fault, copy_fault};
 ghost use Rattle.undo_marks.specs.Changes.{back_all};
@@ -35,10 +36,10 @@ impl Desk {
         out: &mut Vec<u8>,
     ) -> Result<(), AllocError>
         requires can { CanApply side.old.page.next edit side.old.page.tree }
-        requires notes { entry_count history.old.past < 2 ^ 31 }
-        requires ids { self.old.agent.next < 2 ^ 51 }
-        requires serials { side.old.page.next < 2 ^ 51 }
-        requires sheets { side.old.sheets.next < 2 ^ 51 }
+        requires notes { entry_count history.old.past < kept_before_note }
+        requires ids { self.old.agent.next < drawn_before_edit }
+        requires serials { side.old.page.next < drawn_before_edit }
+        requires sheets { side.old.sheets.next < drawn_before_edit }
         ensures page { OnOk result (side.new.page ≡ after edit side.old.page) }
         ensures kept { side.new.sheets ≡ side.old.sheets }
         ensures few { OnOk result (self.new.agent.next < self.old.agent.next + 2) }
@@ -64,7 +65,7 @@ impl Desk {
     ) -> Result<(), AllocError>
         requires fits { move_fault node parent before side.old.page.tree ≡ None }
         requires room { HasNumbersLeft self.old side.old }
-        requires notes { edits_in history.old < 2 ^ 30 }
+        requires notes { edits_in history.old < kept_before_step }
         ensures few { OnOk result (self.new.agent.next < self.old.agent.next + 4) }
         ensures noted { OnOk result (history.new ≡ noted_singly (back_all page_after way_back
             (map (λ e. kept.Tree e) (node_edit_plan (MoveNode node parent before) side.old.page).edits)
@@ -100,7 +101,7 @@ impl Desk {
     ) -> Result<(), AllocError>
         requires fits { copy_fault node parent before side.old.page.tree ≡ None }
         requires room { HasNumbersLeft self.old side.old }
-        requires notes { edits_in history.old < 2 ^ 30 }
+        requires notes { edits_in history.old < kept_before_step }
         ensures few { OnOk result (self.new.agent.next < self.old.agent.next + 4) }
         ensures noted { OnOk result (history.new ≡ noted_singly (back_all page_after way_back
             (map (λ e. kept.Tree e) (node_edit_plan (CopyNode node parent before) side.old.page).edits)
@@ -133,7 +134,7 @@ impl Desk {
         requires fits { node_edit_fault edit side.old.page ≡ None }
         requires plain { IsPlainEdit edit }
         requires room { HasNumbersLeft self.old side.old }
-        requires notes { edits_in history.old < 2 ^ 30 }
+        requires notes { edits_in history.old < kept_before_step }
         ensures put { IfOk result (λ put. put ≡ node_put edit side.old.page) }
         ensures few { OnOk result (self.new.agent.next < self.old.agent.next + 4) }
         ensures noted { OnOk result (history.new ≡ noted_singly (back_all page_after way_back
@@ -177,7 +178,7 @@ impl Desk {
         put: Option<u64>,
         out: &mut Vec<u8>,
     ) -> Result<(), AllocError>
-        requires ids { self.old.agent.next < 2 ^ 52 }
+        requires ids { self.old.agent.next < drawn_before_call }
         ensures stands { (state : State) → DeskStandsFor self.old side.now state → CanPushAny put state
             → OnOk result (DeskStandsFor self.new side.now (put_answer id put (idle state)).state) }
         ensures sent { (state : State) → DeskStandsFor self.old side.now state → CanPushAny put state
@@ -203,7 +204,7 @@ impl Desk {
     ) -> Result<(), AllocError>
         requires plain { IsPlainEdit edit }
         requires room { HasNumbersLeft self.old side.old }
-        requires notes { edits_in history.old < 2 ^ 30 }
+        requires notes { edits_in history.old < kept_before_step }
         ensures stands { (state : State) → BothStandFor self.old history.old side.old state → is_some state.client.session.opened ≡ true
             → OnOk result (BothStandFor self.new history.new side.new (node_edit_step id (Ok edit) state).state) }
         ensures sent { (state : State) → DeskStandsFor self.old side.old state → is_some state.client.session.opened ≡ true
@@ -228,7 +229,7 @@ impl Desk {
         requires on { self.old.is_on ≡ true }
         requires texts { HasTreeTexts edit }
         requires room { HasNumbersLeft self.old side.old }
-        requires notes { edits_in history.old < 2 ^ 30 }
+        requires notes { edits_in history.old < kept_before_step }
         ensures stands { (state : State) → BothStandFor self.old history.old side.old state
             → OnOk result (BothStandFor self.new history.new side.new (command_step id (commands.EditDom edit) state).state) }
         ensures sent { (state : State) → DeskStandsFor self.old side.old state

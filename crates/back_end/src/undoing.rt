@@ -1,5 +1,6 @@
 // A client takes its edits back, and does them again.
-ghost use Rattle.std.specs.Prelude.{◌≡◌, ◌+◌, ◌<◌, ◌^◌, ◌++◌, map, length, IfOk, OnOk, true};
+ghost use Rattle.std.specs.Prelude.{◌≡◌, ◌+◌, ◌<◌, ◌++◌, map, length, IfOk, OnOk, true};
+ghost use Rattle.node_tree.specs.Numbers.{drawn_before_edit, kept_before_step};
 ghost use Rattle.style_edits.specs.Splices.{FitsSplice, after_splice, back_splice};
 ghost use Rattle.undo_marks.specs.Changes.{AllTaken, after_all, back_all};
 ghost use Rattle.undo_marks.specs.SavedEdits.{saved_of, saved_sheet, page_after, way_back, TakesSheet};
@@ -69,9 +70,9 @@ impl Desk {
         out: &mut Vec<u8>,
     ) -> Result<Inverse, AllocError>
         requires taken { ∥ TakesWell side.old.page.next edit (saved_of side.old.page.tree side.old.sheets.entries) ∥₁ }
-        requires ids { self.old.agent.next < 2 ^ 51 }
-        requires serials { side.old.page.next < 2 ^ 51 }
-        requires sheets { side.old.sheets.next < 2 ^ 51 }
+        requires ids { self.old.agent.next < drawn_before_edit }
+        requires serials { side.old.page.next < drawn_before_edit }
+        requires sheets { side.old.sheets.next < drawn_before_edit }
         ensures few { OnOk result (self.new.agent.next < self.old.agent.next + 2) }
         ensures saved { OnOk result (saved_of side.new.page.tree side.new.sheets.entries
             ≡ page_after edit (saved_of side.old.page.tree side.old.sheets.entries)) }
@@ -105,9 +106,9 @@ impl Desk {
     ) -> Result<Vec<Inverse>, AllocError>
         requires taken { ∥ AllTaken page_after (TakesWell side.old.page.next) edits.items
             (saved_of side.old.page.tree side.old.sheets.entries) ∥₁ }
-        requires ids { self.old.agent.next + length edits.items < 2 ^ 51 }
-        requires serials { side.old.page.next < 2 ^ 51 }
-        requires sheets { side.old.sheets.next < 2 ^ 51 }
+        requires ids { self.old.agent.next + length edits.items < drawn_before_edit }
+        requires serials { side.old.page.next < drawn_before_edit }
+        requires sheets { side.old.sheets.next < drawn_before_edit }
         ensures saved { OnOk result (saved_of side.new.page.tree side.new.sheets.entries
             ≡ after_all page_after edits.items (saved_of side.old.page.tree side.old.sheets.entries)) }
         ensures next { OnOk result (side.new.page.next ≡ side.old.page.next) }
@@ -138,7 +139,7 @@ impl Desk {
     ) -> Result<(), AllocError>
         requires on { self.old.is_on ≡ true }
         requires room { HasNumbersLeft self.old side.old }
-        requires few { edits_in history.old < 2 ^ 30 }
+        requires few { edits_in history.old < kept_before_step }
         requires standing { ∥ ((state : State) × BothStandFor self.old history.old side.old state) ∥₁ }
         ensures stands { (state : State) → BothStandFor self.old history.old side.old state
             → OnOk result (BothStandFor self.new history.new side.new (command_step id commands.Undo state).state) }
@@ -166,7 +167,7 @@ impl Desk {
     ) -> Result<(), AllocError>
         requires on { self.old.is_on ≡ true }
         requires room { HasNumbersLeft self.old side.old }
-        requires few { edits_in history.old < 2 ^ 30 }
+        requires few { edits_in history.old < kept_before_step }
         requires standing { ∥ ((state : State) × BothStandFor self.old history.old side.old state) ∥₁ }
         ensures stands { (state : State) → BothStandFor self.old history.old side.old state
             → OnOk result (BothStandFor self.new history.new side.new (command_step id commands.Redo state).state) }

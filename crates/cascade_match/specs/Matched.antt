@@ -62,7 +62,7 @@ abbrev pub entries_of_rules : Source → ℕ → List RuleForm → Zipper → Li
 entries_of_rules from i [] z = []
 entries_of_rules from i (r ∷ rs) z = option_to_list (keyed_rule from i r z) ++ entries_of_rules from (i + 1) rs z
 
--- the rules of the sheets from a place of a book on, with their keys
+-- the rules of the sheets from a place of a book on, in this medium, with their keys
 abbrev pub entries_of_sheets : Medium → ℕ → List SheetEntry → Zipper → List (Key × Hit)
 entries_of_sheets m place [] z = []
 entries_of_sheets m place (e ∷ es) z =

@@ -3,6 +3,7 @@ use Rattle.std.specs.Prelude.{ℕ, ◌^◌, ℤ, pos, negsuc, List, [], ◌∷�
 use Rattle.std.specs.Prelude.{Option, Some, None, option_map, option_and_then, bytes_eq, ⊤}
 use Rattle.std.specs.Ordering.{int_eq}
 use Rattle.std.specs.List.{list_all}
+use Rattle.node_tree.specs.Numbers.{counted_limit, memory_limit}
 use Rattle.serde_json.specs.Data.{Num, unsigned, negative, float, Data, boolean, number, string, array, object, Items, no_items, item}
 use Rattle.serde_json.specs.Data.{Members}
 use Rattle.serde_json.specs.Find.{as_bool, as_number, as_str, as_array, as_object, as_i64, of_integer}
@@ -35,7 +36,7 @@ if_holds test x = if test x then Some x else None
 
 -- from 0 to 2^53-1
 abbrev pub is_counted : ℕ → Bool
-is_counted n = nat_lt n (2 ^ 53)
+is_counted n = nat_lt n counted_limit
 
 -- the whole number that a JSON number is, where it is from 0 to 2^53-1
 abbrev pub unsigned_from : Num → Option ℕ
@@ -49,7 +50,7 @@ as_whole d = option_and_then unsigned_from (as_number d)
 
 -- -1, or from 1 to 2^53-1
 abbrev pub is_depth : ℤ → Bool
-is_depth z = int_eq z (negsuc 0) || (int_lt (pos 0) z && int_lt z (pos (2 ^ 53)))
+is_depth z = int_eq z (negsuc 0) || (int_lt (pos 0) z && int_lt z (pos counted_limit))
 
 -- -1, or a whole number from 1 to 2^53-1
 abbrev pub as_depth : Data → Option ℤ
@@ -57,8 +58,8 @@ as_depth d = option_and_then (if_holds is_depth) (option_and_then as_i64 (as_num
 
 -- from -2^63 to 2^63-1
 abbrev pub is_signed : ℤ → Bool
-is_signed (pos n) = nat_lt n (2 ^ 63)
-is_signed (negsuc n) = nat_lt n (2 ^ 63)
+is_signed (pos n) = nat_lt n memory_limit
+is_signed (negsuc n) = nat_lt n memory_limit
 
 -- the whole number that a JSON number is, where it is from -2^63 to 2^63-1
 abbrev pub signed_from : Num → Option ℤ

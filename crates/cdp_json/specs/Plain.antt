@@ -1,5 +1,6 @@
 -- What a value has to be for its text to give it back: whole numbers of 64 bits, and names that ascend by bytes.
 use Rattle.std.specs.Prelude.{◌≡◌, ℕ, ◌^◌, ◌≤◌, pos, negsuc, List, Bool, true, false, ◌&&◌, nat_lt, Some, IsUtf8, ⊤}
+use Rattle.node_tree.specs.Numbers.{number_limit, memory_limit}
 use Rattle.serde_json.specs.Data.{Num, unsigned, negative, float, Data, null, boolean, number, string, array, object, Items, no_items, item}
 use Rattle.serde_json.specs.Data.{Members, no_members, member, depth}
 use Rattle.serde_json.specs.Read.{read, max_depth}
@@ -13,9 +14,9 @@ starts_after k (member l d ms) = is_before k l
 
 -- a whole number from -2^63 to 2^64-1
 abbrev pub number_is_plain : Num → Bool
-number_is_plain (unsigned n) = nat_lt n (2 ^ 64)
+number_is_plain (unsigned n) = nat_lt n number_limit
 number_is_plain (negative (pos n)) = false
-number_is_plain (negative (negsuc n)) = nat_lt n (2 ^ 63)
+number_is_plain (negative (negsuc n)) = nat_lt n memory_limit
 number_is_plain (float x) = false
 
 -- each number is a whole one of 64 bits, and the names of each object ascend by bytes

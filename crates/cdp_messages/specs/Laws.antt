@@ -8,7 +8,7 @@ use Rattle.cdp_json.specs.Plain.{is_plain}
 use Rattle.cdp_json.specs.Kinds.{is_counted, is_signed, holds_of_some}
 use Rattle.css_objects.specs.Laws.{SelectorsHaveUtf8, StyleHasUtf8, RuleHasUtf8, MatchedHaveUtf8}
 use Rattle.node_tree.specs.Nodes.{Nodes, alone, height}
-use Rattle.node_tree.specs.Levels.{max_level, most_levels}
+use Rattle.node_tree.specs.Levels.{most_told, most_told_root}
 use Rattle.node_tree.specs.Seen.{Seen}
 use Rattle.dom_objects.specs.Told.{told_nodes}
 use Rattle.dom_objects.specs.Tellable.{suits_nodes}
@@ -143,7 +143,7 @@ body_height (Matched matched) = 0
 
 -- a reply with nodes of as many levels as there may be nests at most 124 deep
 abbrev pub RepliesAreShallow : Type 0
-RepliesAreShallow = (id : ℕ) (body : ReplyBody) → body_height body ≤ most_levels → Shallow (message_data (reply id (body_data body)))
+RepliesAreShallow = (id : ℕ) (body : ReplyBody) → body_height body ≤ most_told_root → Shallow (message_data (reply id (body_data body)))
 
 -- how many levels of nodes an event tells
 abbrev pub news_height : News → ℕ
@@ -162,7 +162,7 @@ news_height (paused why) = 0
 
 -- an event nests less deep than JSON may where its nodes have one level less
 abbrev pub EventsAreShallow : Type 0
-EventsAreShallow = (n : News) → news_height n ≤ max_level → Shallow (news_data n)
+EventsAreShallow = (n : News) → news_height n ≤ most_told → Shallow (news_data n)
 
 -- an event is read as that event
 abbrev pub EventsAreRead : Type 0

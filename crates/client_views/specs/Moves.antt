@@ -5,7 +5,7 @@ use Rattle.std.specs.Option.{option_to_list}
 use Rattle.cdp_json.specs.Kinds.{is_counted, holds_of_some}
 use Rattle.serde_json.specs.Written.{compact_text}
 use Rattle.node_tree.specs.Nodes.{Nodes, none, node, Branch, alone, is_no_node}
-use Rattle.node_tree.specs.Levels.{most_levels}
+use Rattle.node_tree.specs.Levels.{most_told_root}
 use Rattle.node_tree.specs.Keys.{At, has}
 use Rattle.node_tree.specs.Labels.{Label, is_element, has_value}
 use Rattle.node_tree.specs.Names.{is_attribute_name}
@@ -229,7 +229,7 @@ pub record IsPlainReply (id : ℕ) (body : ReplyBody) : Type 0 where
   pub plain : tells_view body ≡ false
   pub fits : fits_body body ≡ true
   pub texts : BodyHasUtf8 body
-  pub levels : body_height body ≤ most_levels
+  pub levels : body_height body ≤ most_told_root
 
 -- The move leads from the one view to the other, and its message can be spelled.
 abbrev pub Moves : Move → View → View → Type 0

@@ -25,10 +25,13 @@ use Rattle.sheet_reader.specs.Declarations.{ItemForm, items_after, item_pieces, 
 use Rattle.sheet_reader.specs.Declarations.{unless_empty, declared_by, declared_in, declaration_of, holds_bad, item_property, properties_in}
 use Rattle.sheet_reader.specs.Declarations.{declarations, style_of}
 use Rattle.sheet_reader.specs.Sheets.{body_end, style_rule, rule_of, rules_in, sheet_of}
+use Rattle.sheet_reader.specs.Layout.{MediaForm, media_in, level_of, Laid, laid_out, AreLaid, none_laid, part_laid, media_laid}
 use Rattle.sheet_reader.specs.Grammar.{AreParts, AreItems}
 use Rattle.sheet_reader.proofs.ItemForms.{items_spelled}
 use Rattle.sheet_reader.proofs.GrammarForms.{parts_spelled}
-use Rattle.css_agent.proofs.SelectorNames.{all-left, all-right, AreCutOut, value-utf8, SelectorNamed, list-named}
+use Rattle.sheet_reader.proofs.LayoutForms.{laid_spelled}
+use Rattle.sheet_reader.proofs.UsableForms.{MediaIs, media_is, rules_append, no_rule}
+use Rattle.css_agent.proofs.SelectorNames.{all-left, all-right, all-append, AreCutOut, value-utf8, SelectorNamed, list-named}
 
 -- ---- pieces
 
@@ -173,13 +176,13 @@ pub record RuleNamed (most : ℕ) (r : RuleForm) : Type 0 where
   pub properties : AllByRecursion PropertyNamed r.properties
   pub few : length r.selectors ≤ most + 1
 
-styled-named : (text : List ℕ) (prelude inside : List Token) (own : Range) (r : RuleForm) → IsUtf8 text → AreCutAt text prelude
+styled-named : (text : List ℕ) (around : Option ℕ) (prelude inside : List Token) (own : Range) (r : RuleForm) → IsUtf8 text → AreCutAt text prelude
     → AreCutAt text inside
-    → style_rule text (words_after text false prelude) own inside ≡ Some r → RuleNamed (length prelude) r
-styled-named text prelude inside own r utf8 front within e =
+    → style_rule text around (words_after text false prelude) own inside ≡ Some r → RuleNamed (length prelude) r
+styled-named text around prelude inside own r utf8 front within e =
     let ws = words_after text false prelude in
     let of : Range → List SelectorForm
-    → RuleForm = λ a ss. record { prelude = a; selectors = ss; body = own; properties = declarations text inside } in
+    → RuleForm = λ a ss. record { prelude = a; selectors = ss; body = own; properties = declarations text inside; media = around } in
     let a = bind_some (range_of ws) (λ a. selector_list_of (word_reading text ws) >>= λ ss. Some (of a ss)) r e in
     let b = bind_some (selector_list_of (word_reading text ws)) (λ ss. Some (of a.0 ss)) r a.2 in
     let same = some_is {A = RuleForm} (of a.0 b.0) r b.2 in
@@ -195,18 +198,18 @@ styled-named text prelude inside own r utf8 front within e =
 more-named : (few most : ℕ) (r : RuleForm) → few ≤ most → RuleNamed few r → RuleNamed most r
 more-named few most r less is = record { selectors = is.selectors; properties = is.properties; few = omega (arith, less, is.few) }
 
-part-named : (text : List ℕ) (p : PartForm) (r : RuleForm) → IsUtf8 text → AreCutAt text (part_pieces p) → rule_of text p ≡ Some r
-    → RuleNamed (length (part_pieces p)) r
+part-named : (text : List ℕ) (around : Option ℕ) (p : PartForm) (r : RuleForm) → IsUtf8 text → AreCutAt text (part_pieces p)
+    → rule_of text around p ≡ Some r → RuleNamed (length (part_pieces p)) r
 unfolding rule_of
-part-named text (passed_part t) r utf8 cut e = absurd (none_some r e)
-part-named text (at_rule keyword prelude ending) r utf8 cut e = absurd (none_some r e)
-part-named text (qualified prelude text_end) r utf8 cut e = absurd (none_some r e)
-part-named text (qualified prelude (semicolon t)) r utf8 cut e = absurd (none_some r e)
-part-named text (qualified prelude (block first inside close)) r utf8 cut e =
+part-named text around (passed_part t) r utf8 cut e = absurd (none_some r e)
+part-named text around (at_rule keyword prelude ending) r utf8 cut e = absurd (none_some r e)
+part-named text around (qualified prelude text_end) r utf8 cut e = absurd (none_some r e)
+part-named text around (qualified prelude (semicolon t)) r utf8 cut e = absurd (none_some r e)
+part-named text around (qualified prelude (block first inside close)) r utf8 cut e =
     let back = all-right (IsCutAt text) prelude (first ∷ (inside ++ option_to_list close)) cut in
     let count = length-append prelude (first ∷ (inside ++ option_to_list close)) in
     more-named (length prelude) (length (prelude ++ first ∷ (inside ++ option_to_list close))) r (omega (arith, count))
-    (styled-named text prelude inside (range first.end (body_end text close)) r utf8
+    (styled-named text around prelude inside (range first.end (body_end text close)) r utf8
     (all-left (IsCutAt text) prelude (first ∷ (inside ++ option_to_list close)) cut)
     (all-left (IsCutAt text) inside (option_to_list close) back.1) e)
 
@@ -215,20 +218,49 @@ one-rule : (most : ℕ) (o : Option RuleForm) (rs : List RuleForm) → ((r : Rul
 one-rule most None rs own all = all
 one-rule most (Some r) rs own all = (own r refl, all)
 
-parts-named : (text : List ℕ) (most : ℕ) (ps : List PartForm) (ts : List Token) → IsUtf8 text → length ts ≤ most → AreCutAt text ts
-    → AreParts ps ts → AllByRecursion (RuleNamed most) (rules_in text ps)
+-- the pieces in the block of a media rule are some of the rule's own
+inside-cut : (text : List ℕ) (p : PartForm) (m : MediaForm) → MediaIs p m → AreCutAt text (part_pieces p) → AreCutAt text m.inside
+inside-cut text p m form cut =
+    let whole = subst (λ (x : PartForm). AreCutAt text (part_pieces x)) form.is cut in
+    let behind = all-right (IsCutAt text) m.prelude (form.first ∷ (m.inside ++ option_to_list form.close)) whole.1 in
+    all-left (IsCutAt text) m.inside (option_to_list form.close) behind.1
+
+inside-few : (p : PartForm) (m : MediaForm) → MediaIs p m → length m.inside ≤ length (part_pieces p)
+inside-few p m form =
+    let whole = ap (λ (x : PartForm). length (part_pieces x)) form.is in
+    let behind = length-append m.prelude (form.first ∷ (m.inside ++ option_to_list form.close)) in
+    let inside = length-append m.inside (option_to_list form.close) in
+    omega (arith, whole, behind, inside)
+
+laid-named : (text : List ℕ) (most : ℕ) (around : Option ℕ) (k : ℕ) (ps : List PartForm) (ls : List Laid) → AreLaid text around k ps ls
+    → IsUtf8 text → (outside : Option ℕ) (ts : List Token) → length ts ≤ most → AreCutAt text ts → AreParts (level_of outside) ps ts
+    → AllByRecursion (RuleNamed most) (rules_in text ls)
 unfolding rules_in
-parts-named text most [] ts utf8 few cut is = tt
-parts-named text most (p ∷ ps) ts utf8 few cut is =
+laid-named text most around k _ _ none_laid utf8 outside ts few cut is = tt
+laid-named text most around k _ _ (part_laid p ps ls e others) utf8 outside ts few cut is =
     let all = subst (AreCutAt text) is.1 cut in
     let count : length ts ≡ length (part_pieces p)
     + length is.0 = ap (λ (xs : List Token). length xs) is.1 ∙ length-append (part_pieces p) is.0 in
-    one-rule most (rule_of text p) (rules_in text ps)
-    (λ r e. more-named (length (part_pieces p)) most r (omega (arith, count, few))
-    (part-named text p r utf8 (all-left (IsCutAt text) (part_pieces p) is.0 all) e))
-    (parts-named text most ps is.0 utf8 (omega (arith, count, few)) (all-right (IsCutAt text) (part_pieces p) is.0 all) is.3)
+    one-rule most (rule_of text around p) (rules_in text ls)
+    (λ r f. more-named (length (part_pieces p)) most r (omega (arith, count, few))
+    (part-named text around p r utf8 (all-left (IsCutAt text) (part_pieces p) is.0 all) f))
+    (laid-named text most around k ps ls others utf8 outside is.0 (omega (arith, count, few))
+    (all-right (IsCutAt text) (part_pieces p) is.0 all) is.3)
+laid-named text most around k _ _ (media_laid p m inner ps within ls e is_inner own others) utf8 outside ts few cut is =
+    let form = media_is text p m e in
+    let all = subst (AreCutAt text) is.1 cut in
+    let count : length ts ≡ length (part_pieces p)
+    + length is.0 = ap (λ (xs : List Token). length xs) is.1 ∙ length-append (part_pieces p) is.0 in
+    let less = inside-few p m form in
+    subst (AllByRecursion (RuleNamed most)) (sym (no_rule text around p m (within ++ ls) form ∙ rules_append text within ls))
+    (all-append (RuleNamed most) (rules_in text within) (rules_in text ls)
+    (laid-named text most (Some k) (suc k) inner within own utf8 (Some k) m.inside (omega (arith, less, count, few))
+    (inside-cut text p m form (all-left (IsCutAt text) (part_pieces p) is.0 all)) is_inner)
+    (laid-named text most around (suc k + length (media_in text within)) ps ls others utf8 outside is.0 (omega (arith, count, few))
+    (all-right (IsCutAt text) (part_pieces p) is.0 all) is.3))
 
 -- the rules of a sheet
 pub rules-named : (text : List ℕ) → IsUtf8 text → AllByRecursion (RuleNamed (length text)) (sheet_of text).rules
-rules-named text utf8 = parts-named text (length text) (parts (pieces text)) (pieces text) utf8 (pieces-few text utf8)
-    (pieces-cut text utf8) (parts_spelled (pieces text))
+rules-named text utf8 = laid-named text (length text) None 0 (parts (level_of None) (pieces text)) (laid_out text None 0 (pieces text))
+    (laid_spelled text None 0 (pieces text)) utf8 None (pieces text) (pieces-few text utf8) (pieces-cut text utf8)
+    (parts_spelled (level_of None) (pieces text))

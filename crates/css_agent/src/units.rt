@@ -1,5 +1,6 @@
 // UTF-16 units and positions of a text.
-ghost use Rattle.std.specs.Prelude.{◌≡◌, ◌+◌, ◌<◌, ◌≤◌, ◌^◌, length};
+ghost use Rattle.std.specs.Prelude.{◌≡◌, ◌+◌, ◌<◌, ◌≤◌, length};
+ghost use Rattle.node_tree.specs.Numbers.{max_sheet_bytes, number_limit};
 ghost use Rattle.sheet_reader.specs.Positions.{units_at, behind_byte, position_of};
 ghost use Rattle.css_agent.specs.Told.{units_in};
 
@@ -20,7 +21,7 @@ fn units_at(byte: u8) -> u64
 
 /// In UTF-16 units.
 pub(crate) fn units_in(text: &str) -> u64
-    requires { length text.now ≤ 2 ^ 24 }
+    requires { length text.now ≤ max_sheet_bytes }
     ensures { result ≡ units_in text.now }
 {
     let mut units = 0;
@@ -32,8 +33,8 @@ pub(crate) fn units_in(text: &str) -> u64
 
 /// The position behind a byte, of which this is the position before it.
 fn behind_byte(before: Position, byte: u8) -> Position
-    requires line { before.line + 1 < 2 ^ 64 }
-    requires column { before.column + 2 < 2 ^ 64 }
+    requires line { before.line + 1 < number_limit }
+    requires column { before.column + 2 < number_limit }
     ensures { result ≡ behind_byte before byte }
 {
     if byte == b'\n' {

@@ -1,5 +1,6 @@
 -- What serves a session by its binding is the step of the session.
 use Rattle.std.specs.Prelude.{◌≡◌, ℕ, ◌+◌, ◌≤◌, ◌<◌, ◌^◌, true, List, map, length, ⊤}
+use Rattle.node_tree.specs.Numbers.{counted_limit}
 use Rattle.cdp_json.specs.Kinds.{is_counted}
 use Rattle.node_tree.specs.Nodes.{Nodes, none, node, alone, node_count}
 use Rattle.page_tree.specs.Pages.{PageRow, PageValue, IsValid}
@@ -56,8 +57,8 @@ RowsHaveUtf8 (node r c t) = LabelHasUtf8 r.label × RowsHaveUtf8 c × RowsHaveUt
 
 -- messages can tell all of the page: its serials and the ids to come are below 2^53, and its texts are UTF-8
 pub record CanTell (page : PageValue) (w : Session) : Type 0 where
-  pub serials : page.next ≤ 2 ^ 53
-  pub ids : length w.pushed + node_count (alone page.tree) < 2 ^ 53
+  pub serials : page.next ≤ counted_limit
+  pub ids : length w.pushed + node_count (alone page.tree) < counted_limit
   pub texts : RowsHaveUtf8 (alone page.tree)
 
 -- what the client of a session sees of a page, beside these sheets

@@ -1,5 +1,6 @@
-ghost use Rattle.std.specs.Prelude.{◌≤◌, ◌+◌, ◌≡◌, [], ◌∷◌, ◌++◌, ◌<◌, ◌^◌, pos, true, Some, None, unwrap_or, IsSome, OnOk, IfOk};
+ghost use Rattle.std.specs.Prelude.{◌≤◌, ◌+◌, ◌≡◌, [], ◌∷◌, ◌++◌, ◌<◌, pos, true, Some, None, unwrap_or, IsSome, OnOk, IfOk};
 ghost use Rattle.std.specs.FinMap as map;
+ghost use Rattle.node_tree.specs.Numbers.{drawn_before_call, drawn_before_nodes, drawn_by_push};
 ghost use Rattle.node_tree.specs.Nodes.{alone};
 ghost use Rattle.page_tree.specs.Pages.{find_in};
 ghost use Rattle.page_tree.specs.Edits.{after, back_tree};
@@ -71,8 +72,8 @@ impl DomAgent {
         out: &mut Vec<u8>,
     ) -> Result<(), AllocError>
         requires ask { fits_ask ask.now ≡ true }
-        requires room { self.old.next < 2 ^ 52 }
-        requires few { (state_after self.old (binding_outcome page.now ask.now self.old)).next < 2 ^ 60 }
+        requires room { self.old.next < drawn_before_call }
+        requires few { (state_after self.old (binding_outcome page.now ask.now self.old)).next < drawn_before_nodes }
         ensures known { OnOk result
             (self.new ≡ state_after self.old (binding_outcome page.now ask.now self.old)) }
         ensures sent { OnOk result
@@ -114,7 +115,7 @@ impl DomAgent {
         out: &mut Vec<u8>,
     ) -> Result<(), AllocError>
         requires depth { IsDepth (unwrap_or depth (pos 1)) }
-        requires room { self.old.next < 2 ^ 52 }
+        requires room { self.old.next < drawn_before_call }
         ensures known { OnOk result
             (self.new ≡ state_after self.old (binding_outcome page.now (GetDocument depth None) self.old)) }
         ensures sent { OnOk result
@@ -144,7 +145,7 @@ impl DomAgent {
         out: &mut Vec<u8>,
     ) -> Result<(), AllocError>
         requires depth { IsDepth (unwrap_or depth (pos 1)) }
-        requires room { self.old.next < 2 ^ 52 }
+        requires room { self.old.next < drawn_before_call }
         ensures known { OnOk result
             (self.new
             ≡ state_after self.old (binding_outcome page.now (RequestChildNodes node depth None) self.old)) }
@@ -171,7 +172,7 @@ impl DomAgent {
         path: &str,
         out: &mut Vec<u8>,
     ) -> Result<(), AllocError>
-        requires room { self.old.next < 2 ^ 52 }
+        requires room { self.old.next < drawn_before_call }
         ensures known { OnOk result
             (self.new ≡ state_after self.old (binding_outcome page.now (PushByPath path.now) self.old)) }
         ensures sent { OnOk result
@@ -194,7 +195,7 @@ impl DomAgent {
         serial: u64,
         out: &mut Vec<u8>,
     ) -> Result<(), AllocError>
-        requires room { self.old.next < 2 ^ 52 }
+        requires room { self.old.next < drawn_before_call }
         ensures known { OnOk result (self.new
             ≡ (pushed (binding_keeper (alone page.now.tree)) page.now.tree serial self.old).state) }
         ensures sent { OnOk result (out.new.items ≡ out.old.items
@@ -214,7 +215,7 @@ impl DomAgent {
         serials: &[u64],
         out: &mut Vec<u8>,
     ) -> Result<(), AllocError>
-        requires few { (state_after self.old (binding_outcome page.now (PushBySerials serials.now) self.old)).next < 2 ^ 60 }
+        requires few { (state_after self.old (binding_outcome page.now (PushBySerials serials.now) self.old)).next < drawn_before_nodes }
         ensures known { OnOk result
             (self.new ≡ state_after self.old (binding_outcome page.now (PushBySerials serials.now) self.old)) }
         ensures sent { OnOk result
@@ -235,7 +236,8 @@ impl DomAgent {
         serials: &[u64],
         out: &mut Vec<u8>,
     ) -> Result<(), AllocError>
-        requires few { (all_pushed (binding_keeper (alone page.now.tree)) page.now.tree serials.now self.old).progress.state.next < 2 ^ 60 }
+        requires few { (all_pushed (binding_keeper (alone page.now.tree)) page.now.tree serials.now self.old).progress.state.next <
+            drawn_before_nodes }
         ensures known { OnOk result (self.new
             ≡ (all_pushed (binding_keeper (alone page.now.tree)) page.now.tree serials.now self.old).progress.state) }
         ensures sent { OnOk result (out.new.items ≡ out.old.items
@@ -255,7 +257,7 @@ impl DomAgent {
         selector: &str,
         out: &mut Vec<u8>,
     ) -> Result<(), AllocError>
-        requires room { self.old.next < 2 ^ 52 }
+        requires room { self.old.next < drawn_before_call }
         ensures known { OnOk result
             (self.new ≡ state_after self.old (binding_outcome page.now (QuerySelector node selector.now) self.old)) }
         ensures sent { OnOk result
@@ -278,7 +280,7 @@ impl DomAgent {
         out: &mut Vec<u8>,
     ) -> Result<(), AllocError>
         requires live { IsSome (find_in query.now.root page.now.tree) }
-        requires room { self.old.next < 2 ^ 52 }
+        requires room { self.old.next < drawn_before_call }
         ensures known { OnOk result (self.new ≡ state_after self.old
             (first_asked (binding_keeper (alone page.now.tree)) page.now.tree (query_seen query.now) self.old)) }
         ensures sent { OnOk result (out.new.items ≡ out.old.items ++ answer id
@@ -298,7 +300,8 @@ impl DomAgent {
         selector: &str,
         out: &mut Vec<u8>,
     ) -> Result<(), AllocError>
-        requires few { (state_after self.old (binding_outcome page.now (QuerySelectorAll node selector.now) self.old)).next < 2 ^ 60 }
+        requires few { (state_after self.old (binding_outcome page.now (QuerySelectorAll node selector.now) self.old)).next <
+            drawn_before_nodes }
         ensures known { OnOk result
             (self.new ≡ state_after self.old (binding_outcome page.now (QuerySelectorAll node selector.now) self.old)) }
         ensures sent { OnOk result
@@ -322,7 +325,7 @@ impl DomAgent {
     ) -> Result<(), AllocError>
         requires live { IsSome (find_in query.now.root page.now.tree) }
         requires few { (state_after self.old
-            (all_asked (binding_keeper (alone page.now.tree)) page.now.tree (query_seen query.now) self.old)).next < 2 ^ 60 }
+            (all_asked (binding_keeper (alone page.now.tree)) page.now.tree (query_seen query.now) self.old)).next < drawn_before_nodes }
         ensures known { OnOk result (self.new ≡ state_after self.old
             (all_asked (binding_keeper (alone page.now.tree)) page.now.tree (query_seen query.now) self.old)) }
         ensures sent { OnOk result (out.new.items ≡ out.old.items ++ answer id
@@ -392,8 +395,8 @@ impl DomAgent {
     /// Opens each ancestor of the node that is not opened yet, from the top down, by one level; appends a frame for each.
     /// Gives the id of the node.
     pub fn push(&mut self, page: &Page, serial: u64, out: &mut Vec<u8>) -> Result<u64, AllocError>
-        requires room { self.old.next < 2 ^ 52 }
-        ensures few { OnOk result (self.new.next ≤ self.old.next + 2 ^ 34) }
+        requires room { self.old.next < drawn_before_call }
+        ensures few { OnOk result (self.new.next ≤ self.old.next + drawn_by_push) }
         ensures id { IfOk result (λ id. id ≡ id_in self.new serial) }
         ensures known { OnOk result
             (self.new ≡ (pushed (binding_keeper (alone page.now.tree)) page.now.tree serial self.old).state) }
@@ -414,7 +417,7 @@ impl DomAgent {
         out: &mut Vec<u8>,
     ) -> Result<TreeEdit, EditErr>
         requires ready { IsReady page.old.next edit page.old.tree }
-        requires room { self.old.next < 2 ^ 52 }
+        requires room { self.old.next < drawn_before_call }
         ensures fault { RefusesEdit result (first_fault edit page.old.tree) }
         ensures page { OnOk result (page.new ≡ after edit page.old) }
         ensures back { IfOk result (λ back. back ≡ back_tree edit page.old.tree) }

@@ -1,4 +1,5 @@
-ghost use Rattle.std.specs.Prelude.{◌≡◌, ◌<◌, ◌^◌, ◌++◌, [], ◌∷◌, None, IsSome, IsOkAnd, IfOk, OnOk};
+ghost use Rattle.std.specs.Prelude.{◌≡◌, ◌<◌, ◌++◌, [], ◌∷◌, None, IsSome, IsOkAnd, IfOk, OnOk};
+ghost use Rattle.node_tree.specs.Numbers.{drawn_before_call};
 ghost use Rattle.node_tree.specs.Nodes.{Nodes};
 ghost use Rattle.page_tree.specs.Pages.{PageRow, find_in, node_at};
 ghost use Rattle.page_tree.specs.Edits.{after, back_tree, children_at};
@@ -163,7 +164,7 @@ fn tell_child(
 ) -> Result<(), AllocError>
     requires parent { IsSome (find_in parent page.now.tree) }
     requires child { IsSome (find_in serial page.now.tree) }
-    requires room { binding.old.next < 2 ^ 52 }
+    requires room { binding.old.next < drawn_before_call }
     ensures known { (n : Nodes PageRow) → OnOk result (binding.new
         ≡ (child_came (binding_keeper n) (family parent (node_at serial page.now.tree) (children_at parent page.now.tree))
         binding.old).state) }
@@ -194,7 +195,7 @@ pub(crate) fn attach(
     out: &mut Vec<u8>,
 ) -> Result<TreeEdit, EditErr>
     requires ready { CanAttach page.old.next tree page.old.tree }
-    requires room { binding.old.next < 2 ^ 52 }
+    requires room { binding.old.next < drawn_before_call }
     ensures fault { RefusesEdit result (first_fault (Attach parent before tree) page.old.tree) }
     ensures page { OnOk result (page.new ≡ after (Attach parent before tree) page.old) }
     ensures back { IfOk result (λ back. back ≡ back_tree (Attach parent before tree) page.old.tree) }

@@ -1,4 +1,5 @@
-ghost use Rattle.std.specs.Prelude.{◌≤◌, ◌+◌, ◌≡◌, ◌<◌, ◌^◌, ◌++◌, cond, IfOk, OnOk};
+ghost use Rattle.std.specs.Prelude.{◌≤◌, ◌+◌, ◌≡◌, ◌<◌, ◌++◌, cond, IfOk, OnOk};
+ghost use Rattle.node_tree.specs.Numbers.{drawn_before_nodes, drawn_by_push};
 ghost use Rattle.node_tree.specs.Nodes.{alone};
 ghost use Rattle.node_tree.specs.Keys.{has};
 ghost use Rattle.page_tree.specs.Pages.{row_serial};
@@ -21,8 +22,8 @@ pub(crate) fn open_above(
     serial: u64,
     out: &mut Vec<u8>,
 ) -> Result<bool, AllocError>
-    requires { binding.old.next < 2 ^ 60 }
-    ensures few { OnOk result (binding.new.next ≤ binding.old.next + 2 ^ 34) }
+    requires { binding.old.next < drawn_before_nodes }
+    ensures few { OnOk result (binding.new.next ≤ binding.old.next + drawn_by_push) }
     ensures there { IfOk result (λ there. there ≡ has row_serial serial (alone page.now.tree)) }
     ensures known { OnOk result (binding.new
         ≡ (pushed (binding_keeper (alone page.now.tree)) page.now.tree serial binding.old).state) }
@@ -45,7 +46,7 @@ fn push_if_there(
     serial: u64,
     out: &mut Vec<u8>,
 ) -> Result<u64, AllocError>
-    requires { binding.old.next < 2 ^ 60 }
+    requires { binding.old.next < drawn_before_nodes }
     ensures id { IfOk result
         (λ id. id ≡ cond (has row_serial serial (alone page.now.tree)) (id_in binding.new serial) 0) }
     ensures known { OnOk result (binding.new
@@ -67,7 +68,8 @@ pub(crate) fn push_all(
     serials: &[u64],
     out: &mut Vec<u8>,
 ) -> Result<Vec<u64>, AllocError>
-    requires few { (all_pushed (binding_keeper (alone page.now.tree)) page.now.tree serials.now binding.old).progress.state.next < 2 ^ 60 }
+    requires few { (all_pushed (binding_keeper (alone page.now.tree)) page.now.tree serials.now binding.old).progress.state.next <
+        drawn_before_nodes }
     ensures ids { IfOk result (λ ids. ids.items
         ≡ (all_pushed (binding_keeper (alone page.now.tree)) page.now.tree serials.now binding.old).ids) }
     ensures known { OnOk result (binding.new

@@ -1,4 +1,5 @@
-ghost use Rattle.std.specs.Prelude.{◌≡◌, ◌+◌, ◌<◌, ◌≤◌, ◌^◌, ◌++◌, [], ◌∷◌, All, map, sum_by, OnOk};
+ghost use Rattle.std.specs.Prelude.{◌≡◌, ◌+◌, ◌<◌, ◌≤◌, ◌++◌, [], ◌∷◌, All, map, sum_by, OnOk};
+ghost use Rattle.node_tree.specs.Numbers.{drawn_limit};
 ghost use Rattle.node_tree.specs.Nodes.{Nodes, Branch, node_count};
 ghost use Rattle.page_tree.specs.Pages.{PageRow};
 ghost use Rattle.dom_agent.specs.Keepers.{binding_keeper};
@@ -33,7 +34,7 @@ pub(crate) fn open_all(
     out: &mut Vec<u8>,
 ) -> Result<(), AllocError>
     requires containers { All IsOfContainer (map opening_of openings.now) }
-    requires room { binding.old.next + sum_by (λ x. node_count x.node.children) (map opening_of openings.now) < 2 ^ 63 }
+    requires room { binding.old.next + sum_by (λ x. node_count x.node.children) (map opening_of openings.now) < drawn_limit }
     ensures few { OnOk result
         (binding.new.next ≤ binding.old.next + sum_by (λ x. node_count x.node.children) (map opening_of openings.now)) }
     ensures known { (n : Nodes PageRow) (document : Branch PageRow) → OnOk result (binding.new

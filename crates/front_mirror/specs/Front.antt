@@ -1,6 +1,7 @@
 -- The front end as a value, and the fold of the frames that come down.
 use Rattle.std.specs.Prelude.{ℕ, ◌+◌, ◌-◌, ◌^◌, ◌==◌, Bool, true, false, not, ◌&&◌, ◌||◌, cond, nat_le, List, [], ◌∷◌, ◌++◌, codes, Option}
 use Rattle.std.specs.Prelude.{Some, None, map, option_map, option_and_then, Result, Ok, Err}
+use Rattle.node_tree.specs.Numbers.{first_fetch}
 use Rattle.serde_json.specs.Data.{Data}
 use Rattle.cdp_json.specs.Rows.{ends, and_need, object_of}
 use Rattle.css_objects.specs.Sheets.{sheet_kind}
@@ -63,7 +64,7 @@ plain_ask id method = record { id = id; method = method; sheet = None }
 
 -- the fetch of the text of that sheet, after so many fetches; ids of fetches are from 2^30 on
 abbrev pub fetch_ask : ℕ → ℕ → Ask
-fetch_ask count sheet = record { id = 2 ^ 30 + count; method = codes "CSS.getStyleSheetText"; sheet = Some sheet }
+fetch_ask count sheet = record { id = first_fetch + count; method = codes "CSS.getStyleSheetText"; sheet = Some sheet }
 
 -- the parameters of a fetch: the id of the sheet
 abbrev pub fetch_params : ℕ → Data

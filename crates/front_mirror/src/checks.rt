@@ -10,8 +10,8 @@ use dom_objects::NodeTree;
 use std::alloc::{AllocError, Global};
 use std::collections::BTreeSet;
 
-/// How many levels a tree may have: the document has level 0, and no node stands at a level above 60.
-pub(crate) const MOST_LEVELS: usize = 61;
+/// How many levels a tree may have, the document's among them: as many as a page.
+pub(crate) const MOST_LEVELS: usize = node_tree::MOST_LEVELS as usize;
 
 /// Each of these nodes says that its parent is the one of this id, and so on below.
 #[tactic(auto, using(crate::proofs::ToldLemmas::node_count_below))]

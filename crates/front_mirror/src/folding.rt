@@ -8,7 +8,6 @@ use crate::known::{FrameErr, Known};
 use crate::panels::Panel;
 use crate::places::tell_message;
 use pipe_frames::Splitter;
-use std::alloc::AllocError;
 
 /// Folds the frames that are whole, up to the first that is refused, and tells the open panels of each change of the
 /// mirror.
@@ -25,7 +24,7 @@ pub(crate) fn fold_whole<P: Panel>(
         → UnlessMemory result (All (λ o. IfSome o (λ p. P.shown p ≡ face (P.kind_of p) (known_value known.new).tree)) places.new) }
 {
     while let Some(frame) = splitter.next() {
-        let place = known.taken.checked_add(1).ok_or(AllocError)?;
+        let place = known.next_place()?;
         known.mirror.valid();
         match known.take_frame(frame) {
             Ok(told) => {

@@ -1,5 +1,6 @@
 ghost use Rattle.std.specs.Prelude.{◌≡◌, ◌<◌, ◌^◌, ◌+◌, ◌↔◌, [], length, slice_get, codes, IsTrue, IsErr, Some, None, Ok, Err, true};
 ghost use Rattle.std.specs.Prelude.{option_map, option_copied, map, is_some, false, IfOk, OnOk, OnErr};
+ghost use Rattle.node_tree.specs.Numbers.{first_fetch, fetch_limit};
 ghost use Rattle.front_mirror.specs.Panels.{face};
 ghost use Rattle.front_mirror.specs.Places.{open_at, closed_at};
 ghost use Rattle.serde_json.specs.View.{view};
@@ -113,7 +114,7 @@ impl<P: Panel> Front<P> {
     /// Whether there is an id for one ask more, and one for one fetch more; ids of asks are below 2^30, and those of fetches
     /// from there on.
     pub fn has_room(&self) -> bool
-        ensures { IsTrue result ↔ ((self.now.next < 2 ^ 30) × (2 ^ 30 + self.now.fetches < 2 ^ 52)) }
+        ensures { IsTrue result ↔ ((self.now.next < first_fetch) × (first_fetch + self.now.fetches < fetch_limit)) }
     {
         self.next < ASK_LIMIT && self.fetches < FETCH_LIMIT - ASK_LIMIT
     }
@@ -126,7 +127,7 @@ impl<P: Panel> Front<P> {
         params: Option<&Value>,
         session: Option<&Value>,
     ) -> Result<Vec<u8>, AllocError>
-        requires room { self.old.next < 2 ^ 30 }
+        requires room { self.old.next < first_fetch }
         requires params { IsTrue (is_whole_where_there (option_map (λ p. view p.now) params)) }
         requires session { IsTrue (is_whole_where_there (option_map (λ s. view s.now) session)) }
         ensures frame { IfOk result (λ frame. frame.items ≡ framed (command_text self.old.next method.now
@@ -168,8 +169,8 @@ impl<P: Panel> Front<P> {
     /// reply.
     pub fn fetch(&mut self, sheet: u64) -> Result<Vec<u8>, AllocError>
         requires known { has_sheet sheet self.old.value.sheets ≡ true }
-        requires room { 2 ^ 30 + self.old.fetches < 2 ^ 52 }
-        ensures frame { IfOk result (λ frame. frame.items ≡ framed (command_text (2 ^ 30 + self.old.fetches)
+        requires room { first_fetch + self.old.fetches < fetch_limit }
+        ensures frame { IfOk result (λ frame. frame.items ≡ framed (command_text (first_fetch + self.old.fetches)
             (codes "CSS.getStyleSheetText") (Some (fetch_params sheet)) None)) }
         ensures asked { OnOk result (self.new ≡ after_fetch self.old sheet) }
         ensures memory { OnErr result (self.new.dead ≡ true) }

@@ -1,4 +1,5 @@
-ghost use Rattle.std.specs.Prelude.{◌≡◌, ◌+◌, [], ◌∷◌, ◌++◌, Some, None, Ok, true, false, IfSome, OnOk};
+ghost use Rattle.std.specs.Prelude.{◌≡◌, ◌+◌, [], ◌∷◌, ◌++◌, Some, None, Ok, true, false, IfSome, OnOk, IfOk, OnErr};
+ghost use Rattle.node_tree.specs.Numbers.{number_limit};
 ghost use Rattle.serde_json.specs.View.{view};
 ghost use Rattle.std.specs.List.{list_all};
 ghost use Rattle.node_tree.specs.Nodes.{none};
@@ -256,7 +257,7 @@ impl Known {
         ensures { OnOk result (known_value self.new ≡ told_sheets (known_value self.old)
             ((known_value self.old).sheets ++ told_sheet header ∷ [])) }
     {
-        let taken = self.taken.checked_add(1).ok_or(AllocError)?;
+        let taken = self.next_place()?;
         self.sheets.put(new_sheet(header))?;
         self.taken = taken;
         Ok(())
@@ -269,7 +270,7 @@ impl Known {
         if !self.sheets.has(number) {
             return Err(FrameErr::Refused(FrontKind::UnknownSheet));
         }
-        self.taken = self.taken.checked_add(1).ok_or(AllocError)?;
+        self.taken = self.next_place()?;
         self.sheets.mark_old(number);
         Ok(None)
     }
@@ -281,7 +282,7 @@ impl Known {
         if !self.sheets.has(number) {
             return Err(FrameErr::Refused(FrontKind::UnknownSheet));
         }
-        self.taken = self.taken.checked_add(1).ok_or(AllocError)?;
+        self.taken = self.next_place()?;
         self.sheets.remove(number);
         Ok(None)
     }
@@ -369,7 +370,7 @@ impl Known {
         if let Some(kind) = edit_fault(self.alloc, &self.mirror, id, &edit)? {
             return Err(FrameErr::Refused(kind));
         }
-        let taken = self.taken.checked_add(1).ok_or(AllocError)?;
+        let taken = self.next_place()?;
         let told = edit.told(self.alloc, id, &self.mirror)?;
         self.mirror.change(self.alloc, id, edit)?;
         self.taken = taken;
@@ -390,7 +391,7 @@ impl Known {
     fn keep_pause(&mut self, why: PauseData) -> Result<(), AllocError>
         ensures { OnOk result (known_value self.new ≡ halted (known_value self.old) why) }
     {
-        let taken = self.taken.checked_add(1).ok_or(AllocError)?;
+        let taken = self.next_place()?;
         self.pauses.push(seen_pause(why))?;
         self.taken = taken;
         Ok(())
@@ -410,7 +411,7 @@ impl Known {
     fn take_update(&mut self) -> Result<Option<Change>, FrameErr>
         ensures { Takes (known_value self.old) (known_value self.new) result (Ok (told (known_value self.old) none)) }
     {
-        self.taken = self.taken.checked_add(1).ok_or(AllocError)?;
+        self.taken = self.next_place()?;
         self.mirror = Mirror::new(self.alloc);
         Ok(Some(Change::Cleared))
     }
@@ -433,11 +434,20 @@ impl Known {
         }
     }
 
+    /// The place of the message that comes next. There is no memory for it only where the count of those that were taken stands at its
+    /// last value.
+    pub(crate) fn next_place(&self) -> Result<u64, AllocError>
+        ensures next { IfOk result (λ place. place ≡ (known_value self.now).taken + 1) }
+        ensures last { OnErr result ((known_value self.now).taken + 1 ≡ number_limit) }
+    {
+        self.taken.checked_add(1).ok_or(AllocError)
+    }
+
     /// Counts the message.
     fn count(&mut self) -> Result<(), AllocError>
         ensures { OnOk result (known_value self.new ≡ record (known_value self.old) { taken = (known_value self.old).taken + 1 }) }
     {
-        self.taken = self.taken.checked_add(1).ok_or(AllocError)?;
+        self.taken = self.next_place()?;
         Ok(())
     }
 
@@ -454,7 +464,7 @@ impl Known {
           taken = (known_value self.old).taken + 1;
         }) }
     {
-        let taken = self.taken.checked_add(1).ok_or(AllocError)?;
+        let taken = self.next_place()?;
         let reply = Kept {
             id,
             method,

@@ -1,5 +1,6 @@
 // Walks over what stands below nodes of the table.
-ghost use Rattle.std.specs.Prelude.{◌≡◌, ◌+◌, ◌++◌, ◌<◌, ◌^◌, ◌∷◌, [], suc, OnOk};
+ghost use Rattle.std.specs.Prelude.{◌≡◌, ◌+◌, ◌++◌, ◌<◌, ◌∷◌, [], suc, OnOk};
+ghost use Rattle.node_tree.specs.Numbers.{walk_limit};
 ghost use Rattle.node_tree.specs.Seen.{seen_id};
 ghost use Rattle.client_views.specs.Views.{keys};
 ghost use Rattle.front_mirror.specs.Outline.{lines_at, seen_line, unshown_of};
@@ -77,7 +78,7 @@ impl Table {
         level: usize,
         out: &mut Vec<u8>,
     ) -> Result<(), AllocError>
-        requires { level + levels < 2 ^ 60 }
+        requires { level + levels < walk_limit }
         ensures { OnOk result (out.new.items ≡ out.old.items ++ lines_at seen_line level (table_trees self.now (suc levels) (id ∷ []))) }
     {
         let Some(slot) = self.get(id) else {
@@ -99,7 +100,7 @@ impl Table {
         level: usize,
         out: &mut Vec<u8>,
     ) -> Result<(), AllocError>
-        requires { level + levels < 2 ^ 60 + 1 }
+        requires { level + levels < walk_limit + 1 }
         ensures { OnOk result (out.new.items ≡ out.old.items ++ lines_at seen_line level (table_trees self.now levels roots.now)) }
     {
         if levels == 0 {

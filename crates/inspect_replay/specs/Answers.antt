@@ -2,6 +2,7 @@
 use Rattle.std.specs.Prelude.{◌≡◌, ◌^◌, ℕ, Vec, List, [], Bool, true, false, ◌||◌, nat_lt, length, Option, Some, None, Result, Ok, Err, ⊤}
 use Rattle.std.specs.Io.KnownBytes.{Appends}
 use Rattle.std.specs.declared.alloc.Global.{Global}
+use Rattle.node_tree.specs.Numbers.{max_input, max_line}
 use Rattle.pipe_frames.specs.Whole.{WrotePart}
 use Rattle.replay_script.specs.declared.faults.LineFault.{LineFault}
 use Rattle.replay_script.specs.Lines.{has_long_line}
@@ -23,7 +24,7 @@ Absent (Some x) = ⊥
 
 -- more than 2^26 bytes, or a line of more than 2^24 bytes
 abbrev pub is_too_long : List ℕ → Bool
-is_too_long input = nat_lt (2 ^ 26) (length input) || has_long_line input (2 ^ 24)
+is_too_long input = nat_lt max_input (length input) || has_long_line input max_line
 
 -- what an answer says of the limits of the input
 abbrev pub LimitsAt : Phase → Bool → List ℕ → Type 0

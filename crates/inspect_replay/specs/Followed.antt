@@ -2,6 +2,7 @@
 use Rattle.std.specs.Prelude.{◌≡◌, ◌≤◌, ◌^◌, ℕ, List, [], ◌∷◌, ◌++◌, length, map, codes, All, Bool, true, Option, Some, None, Result, Ok}
 use Rattle.std.specs.Prelude.{Err, IsOk, OnOk, ⊤}
 use Rattle.std.specs.Io.KnownBytes.{Appends}
+use Rattle.node_tree.specs.Numbers.{sent_when_full}
 use Rattle.pipe_frames.specs.Pipe.{Pipe, sent_since, given_since}
 use Rattle.pipe_frames.specs.Frames.{frames_of}
 use Rattle.front_mirror.specs.declared.faults.FrontFault.{FrontFault}
@@ -48,7 +49,7 @@ FoldsAt untouched lie passed = IsOk passed.fold
 FoldsAt reading lie passed = IsOk passed.fold
 FoldsAt underway None passed = IsOk passed.fold
 FoldsAt underway (Some (refused fault)) passed = passed.fold ≡ Err fault
-FoldsAt underway (Some no_room) passed = IsOk passed.fold × (2 ^ 28 ≤ passed.sent_up)
+FoldsAt underway (Some no_room) passed = IsOk passed.fold × (sent_when_full ≤ passed.sent_up)
 FoldsAt ended lie passed = IsOk passed.fold
 FoldsAt anywhen lie passed = ⊤
 

@@ -32,10 +32,7 @@ pub record Goes {T : Type 0} (manner : Manner T) (old new : Moment) (result : Re
 
 -- the run goes where this function takes it
 abbrev pub stepping : {T : Type 0} → (World RunState → World RunState) → Manner T
-stepping f = record {
-  follows = λ old new result. KeepsFollowing old new result;
-  steps = λ old new result. Steps old new result f;
-}
+stepping f = record { follows = λ old new result. KeepsFollowing old new result; steps = λ old new result. Steps old new result f }
 
 -- the same, while there is room for a line of so many bytes
 abbrev pub spending : {T : Type 0} → ℕ → (World RunState → World RunState) → Manner T
@@ -53,17 +50,11 @@ turning x = record {
 
 -- up to so many bytes are taken that come up
 abbrev pub taking_up : {T : Type 0} → ℕ → Manner T
-taking_up n = record {
-  follows = λ old new result. KeepsFollowingWith old new result;
-  steps = λ old new result. TakesUp old new n result;
-}
+taking_up n = record { follows = λ old new result. KeepsFollowingWith old new result; steps = λ old new result. TakesUp old new n result }
 
 -- the frames that are whole are answered
 abbrev pub answering_all : {T : Type 0} → Manner T
-answering_all = record {
-  follows = λ old new result. FollowsAnswers old new result;
-  steps = λ old new result. AnswersAll old new result;
-}
+answering_all = record { follows = λ old new result. FollowsAnswers old new result; steps = λ old new result. AnswersAll old new result }
 
 -- this frame is answered
 abbrev pub answering : {T : Type 0} → List ℕ → Manner T
@@ -102,10 +93,7 @@ fetching_all numbers = record {
 
 -- all is delivered, and then the texts that are old are fetched
 abbrev pub settling : {T : Type 0} → Manner T
-settling = record {
-  follows = λ old new result. KeepsFollowing old new result;
-  steps = λ old new result. Refreshes old new result;
-}
+settling = record { follows = λ old new result. KeepsFollowing old new result; steps = λ old new result. Refreshes old new result }
 
 -- ---- calls that print
 

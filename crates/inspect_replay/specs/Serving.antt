@@ -1,6 +1,7 @@
 -- What `serve` answers to a client: the frames of the steps on the frames that came.
 use Rattle.std.specs.Prelude.{◌≡◌, ◌≤◌, ◌<◌, ◌^◌, ℕ, List, [], ◌++◌, length, take, true, Option, Some, None, Result, Ok, Err, ⊤}
 use Rattle.std.specs.Io.KnownBytes.{Appends, Consumes, IsAtEnd}
+use Rattle.node_tree.specs.Numbers.{max_input}
 use Rattle.pipe_frames.specs.Fault.{Rose}
 use Rattle.pipe_frames.specs.Frames.{frames_of}
 use Rattle.pipe_frames.specs.Whole.{WrotePart}
@@ -53,14 +54,14 @@ pub record ServedRead (input : List ℕ) (call : ServeCall) : Type 0 where
 
 -- the whole input was answered, which is within its limit
 pub record ServedAll (input : List ℕ) (call : ServeCall) : Type 0 where
-  pub few : length input ≤ 2 ^ 26
+  pub few : length input ≤ max_input
   pub left : call.left_after ≡ Some []
   pub wrote : Appends call.taken_before call.taken_after (served input)
 
 -- the input is too long, and the whole frames in its first 2^26 bytes were answered
 pub record ServedLimit (input : List ℕ) (call : ServeCall) : Type 0 where
-  pub more : 2 ^ 26 < length input
-  pub wrote : Appends call.taken_before call.taken_after (served (take (2 ^ 26) input))
+  pub more : max_input < length input
+  pub wrote : Appends call.taken_before call.taken_after (served (take max_input input))
 
 -- What `serve` wrote of the answers to this input. No other answer comes.
 abbrev pub ServeTook : Status → List ℕ → ServeCall → Type 0
@@ -69,11 +70,11 @@ ServeTook status.Usage input call = ⊥
 ServeTook (status.Line number fault) input call = ⊥
 ServeTook status.TooLong input call = ServedLimit input call
 ServeTook status.ReadFault input call = ServedRead input call
-ServeTook status.WriteFault input call = WrotePart call.taken_before call.taken_after (served (take (2 ^ 26) input))
+ServeTook status.WriteFault input call = WrotePart call.taken_before call.taken_after (served (take max_input input))
 ServeTook status.LinkFault input call = ⊥
 ServeTook (status.FrontRefused place kind) input call = ⊥
 ServeTook status.NoRoom input call = ⊥
-ServeTook status.Memory input call = WrotePart call.taken_before call.taken_after (served (take (2 ^ 26) input))
+ServeTook status.Memory input call = WrotePart call.taken_before call.taken_after (served (take max_input input))
 
 -- an answer that `serve` gives
 abbrev pub IsServeStatus : Status → Type 0
@@ -191,14 +192,14 @@ EndIsMet before after (Err Memory) = ⊥
 
 -- bytes that were read, at most 2^26, and the whole frames in them answered
 pub record ReadAnswered (call : ServeCall) (bytes past : List ℕ) : Type 0 where
-  pub few : length bytes ≤ 2 ^ 26
+  pub few : length bytes ≤ max_input
   pub read : Consumes call.left_before call.left_after (bytes ++ past)
   pub wrote : Appends call.taken_before call.taken_after (served bytes)
 
 -- bytes that were read, and a front part of the answers written
 pub record PartAnswered (call : ServeCall) : Type 0 where
   pub bytes : List ℕ
-  pub few : length bytes ≤ 2 ^ 26
+  pub few : length bytes ≤ max_input
   pub read : Consumes call.left_before call.left_after bytes
   pub wrote : WrotePart call.taken_before call.taken_after (served bytes)
 
@@ -213,7 +214,7 @@ pub record LimitAnswered (call : ServeCall) : Type 0 where
   pub bytes : List ℕ
   pub past : List ℕ
   pub answered : ReadAnswered call bytes past
-  pub full : length bytes ≡ 2 ^ 26
+  pub full : length bytes ≡ max_input
   pub one_more : length past ≡ 1
 
 -- all that was read was answered, when the source failed

@@ -1,5 +1,6 @@
 // The lines of a page, by its serials.
-ghost use Rattle.std.specs.Prelude.{◌≡◌, ◌+◌, ◌<◌, ◌^◌, ◌++◌, ◌∷◌, codes, OnOk, IfOk};
+ghost use Rattle.std.specs.Prelude.{◌≡◌, ◌+◌, ◌<◌, ◌++◌, ◌∷◌, codes, OnOk, IfOk};
+ghost use Rattle.node_tree.specs.Numbers.{number_limit};
 ghost use Rattle.node_tree.specs.Nodes.{alone, branch_count, node_count};
 ghost use Rattle.front_mirror.specs.Outline.{indent, lines_at, outline_text};
 ghost use Rattle.inspect_world.specs.Scripts.{page_line};
@@ -37,7 +38,7 @@ fn write_one(alloc: Global, node: &Node, out: &mut Vec<u8>) -> Result<(), AllocE
 /// Appends the lines of a node at that level and of those below it.
 #[cycle(page_lines)]
 fn write_node(alloc: Global, node: &Node, level: usize, out: &mut Vec<u8>) -> Result<(), AllocError>
-    requires { level + branch_count node.now < 2 ^ 64 }
+    requires { level + branch_count node.now < number_limit }
     ensures { OnOk result (out.new.items ≡ out.old.items ++ lines_at page_line level (alone node.now)) }
 {
     write_spaces(level, out)?;
@@ -55,7 +56,7 @@ fn write_children(
     level: usize,
     out: &mut Vec<u8>,
 ) -> Result<(), AllocError>
-    requires { level + node_count children.now < 2 ^ 64 }
+    requires { level + node_count children.now < number_limit }
     ensures { OnOk result (out.new.items ≡ out.old.items ++ lines_at page_line level children.now) }
 {
     for i in 0..children.len() {

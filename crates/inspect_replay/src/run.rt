@@ -1,4 +1,5 @@
-ghost use Rattle.std.specs.Prelude.{◌≡◌, ◌≤◌, ◌^◌, ◌∷◌, [], length, option_map, Some, None, IfOk, OnOk, IfSome, IsNone};
+ghost use Rattle.std.specs.Prelude.{◌≡◌, ◌≤◌, ◌∷◌, [], length, option_map, Some, None, IfOk, OnOk, IfSome, IsNone};
+ghost use Rattle.node_tree.specs.Numbers.{max_input};
 ghost use Rattle.pipe_frames.specs.Pipe.{IsLevel};
 ghost use Rattle.replay_script.specs.Faults.{line_fault};
 ghost use Rattle.replay_script.specs.Forms.{act, load, line_form, show_front, show_sheets, show_replies, show_pauses, show_styles};
@@ -245,7 +246,7 @@ fn run_lines<K: Sink, L: Link>(
     out: &mut K,
     link: &mut L,
 ) -> Result<(), Stop>
-    requires few { length lines ≤ 2 ^ 26 }
+    requires few { length lines ≤ max_input }
     ensures { Plays (running lines.entry)
         (seen_by (⟦<L as Watched>⟧.at link.old ends.old) (⟦<K as Printed>⟧.at out.old))
         (seen_by (⟦<L as Watched>⟧.at link.new ends.new) (⟦<K as Printed>⟧.at out.new)) result }
@@ -350,8 +351,8 @@ fn run_loaded<K: Sink, L: Link>(
 ) -> Result<(), Stop>
     requires can { CanLoadPage (loaded_page form) }
     requires texts { PageHasTexts (loaded_page form) }
-    requires few { length lines ≤ 2 ^ 26 }
-    requires short { line_bytes lines ≤ 2 ^ 26 }
+    requires few { length lines ≤ max_input }
+    requires short { line_bytes lines ≤ max_input }
     ensures tells { RunTells result
         (first_refused (came_styles (fold_since (L.up link.old) (L.down link.old) (L.up link.new) (L.down link.new)).fold) 2 lines.entry) }
     ensures stops { L.honest link.old → IsLevel (L.up link.old) → IsLevel (L.down link.old)
@@ -380,7 +381,7 @@ pub(crate) fn run_script<K: Sink, L: Link>(
     out: &mut K,
     link: &mut L,
 ) -> Result<(), Stop>
-    requires few { length input.now ≤ 2 ^ 26 }
+    requires few { length input.now ≤ max_input }
     ensures tells { RunTells result
         (script_refused (came_styles (fold_since (L.up link.old) (L.down link.old) (L.up link.new) (L.down link.new)).fold) input.now) }
     ensures stops { L.honest link.old → IsLevel (L.up link.old) → IsLevel (L.down link.old) → RunTells result (report_refused input.now) }

@@ -1,6 +1,7 @@
 // `serve`: a client speaks to the back end over the source and the sink, with no front end of ours between them.
-ghost use Rattle.std.specs.Prelude.{◌≡◌, ◌+◌, ◌≤◌, ◌<◌, ◌^◌, ℕ, List, length, take, Ok, Err, IfOk, OnErr};
+ghost use Rattle.std.specs.Prelude.{◌≡◌, ◌+◌, ◌≤◌, ◌<◌, ℕ, List, length, take, Ok, Err, IfOk, OnErr};
 ghost use Rattle.std.specs.Io.KnownBytes.{Consumes, IsAtEnd, Keeps};
+ghost use Rattle.node_tree.specs.Numbers.{max_input};
 ghost use Rattle.pipe_frames.specs.Fault.{Rose, next_count};
 ghost use Rattle.pipe_frames.specs.Whole.{ReadPart};
 ghost use Rattle.inspect_replay.specs.Answers.{StatusRose};
@@ -109,7 +110,7 @@ pub(crate) fn serve<S: Source, K: Sink>(alloc: Global, src: &mut S, out: &mut K)
       taken_after = K.taken out.new;
     }) }
     ensures only { IsServeStatus result }
-    ensures reads { ReadPart (S.left src.old) (S.left src.new) (2 ^ 26 + 1) }
+    ensures reads { ReadPart (S.left src.old) (S.left src.new) (max_input + 1) }
     ensures cause { (link_before link_after : ℕ) → StatusRose (record {
       source_before = S.faults src.old;
       source_after = S.faults src.new;

@@ -1,6 +1,7 @@
 -- A front end that shows the state of the page, and waits for the answers that are to come.
 use Rattle.std.specs.Prelude.{⊤, map, ◌≡◌, ◌≤◌, ℕ, ◌+◌, ◌*◌, ◌^◌, List, [], ◌∷◌, ◌++◌, length, drop, Option, Some, None, is_some}
 use Rattle.std.specs.Prelude.{option_and_then, codes, false, cond, nat_lt, bytes_eq, Err}
+use Rattle.node_tree.specs.Numbers.{first_fetch, max_input}
 use Rattle.serde_json.specs.Data.{Data, Members}
 use Rattle.serde_json.specs.Find.{get_member, as_str, as_object}
 use Rattle.std.specs.Str.Parse.{digits_value}
@@ -43,7 +44,7 @@ sheet_in_params params =
 -- has one of them.
 abbrev pub sheet_asked : ℕ → List ℕ → Option Data → Option ℕ
 sheet_asked id method params =
-    cond (nat_lt id (2 ^ 30)) None (cond (bytes_eq method (codes "CSS.getStyleSheetText")) (option_and_then sheet_in_params params) None)
+    cond (nat_lt id first_fetch) None (cond (bytes_eq method (codes "CSS.getStyleSheetText")) (option_and_then sheet_in_params params) None)
 
 -- the ask that an object with this id and this method is
 abbrev pub ask_by : Members → ℕ → List ℕ → Ask
@@ -73,7 +74,7 @@ join v frame = with_ask v (ask_of_frame frame)
 
 -- how many bytes a script has at most
 abbrev pub most_bytes : ℕ
-most_bytes = 2 ^ 26
+most_bytes = max_input
 
 -- how many asks and other frames it can come to at most: each is a line of four bytes at least
 abbrev pub most_frames : ℕ

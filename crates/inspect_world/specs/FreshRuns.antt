@@ -1,5 +1,6 @@
 -- The run of a script with the fetches of its settles put into the streams, beside the run that the report tells.
 use Rattle.std.specs.Prelude.{◌≡◌, ℕ, ◌+◌, ◌^◌, ◌≤◌, false, List, [], ◌∷◌, length, take, map, codes, Some, None, Ok}
+use Rattle.node_tree.specs.Numbers.{first_fetch}
 use Rattle.node_tree.specs.Nodes.{Nodes}
 use Rattle.node_tree.specs.Seen.{Seen}
 use Rattle.page_forms.specs.Pages.{LoadedPage, CanLoadPage}
@@ -36,7 +37,7 @@ abbrev pub front_fetcher : Fetcher FrontValue
 front_fetcher = record {
   stale = λ v. stale_of v.sheets;
   knows = λ v number. has_sheet number v.sheets;
-  text = λ count number. command_text (2 ^ 30 + count) (codes "CSS.getStyleSheetText") (Some (fetch_params number)) None;
+  text = λ count number. command_text (first_fetch + count) (codes "CSS.getStyleSheetText") (Some (fetch_params number)) None;
 }
 
 -- ---- the run with fetches

@@ -1,6 +1,7 @@
-ghost use Rattle.std.specs.Prelude.{◌≡◌, ◌+◌, ◌<◌, ◌^◌, ◌&&◌, not, cond, IsTrue, IsSome, IfOk, OnOk};
+ghost use Rattle.std.specs.Prelude.{◌≡◌, ◌+◌, ◌<◌, ◌&&◌, not, cond, IsTrue, IsSome, IfOk, OnOk};
 ghost use Rattle.std.specs.FinMap as map;
 ghost use Rattle.std.specs.FinSet as set;
+ghost use Rattle.node_tree.specs.Numbers.{drawn_before_nodes, drawn_limit};
 ghost use Rattle.node_tree.specs.Nodes.{alone, node_count};
 ghost use Rattle.node_tree.specs.Labels.{holds};
 ghost use Rattle.page_tree.specs.Pages.{find_in, node_at};
@@ -53,7 +54,7 @@ impl Binding {
     /// ids in document order.
     pub fn start(&mut self, page: &Page, depth: i64) -> Result<(), AllocError>
         requires depth { IsDepth depth }
-        requires room { self.old.next < 2 ^ 60 }
+        requires room { self.old.next < drawn_before_nodes }
         ensures { OnOk result
             (self.new ≡ started (levels_of depth) (alone page.now.tree) self.old) }
     {
@@ -70,7 +71,7 @@ impl Binding {
 
     /// The nodes become known, and the containers among them and below them are opened to that many levels.
     fn reveal(&mut self, children: &Children, levels: Option<u64>) -> Result<(), AllocError>
-        requires { self.old.next + node_count children.now < 2 ^ 63 }
+        requires { self.old.next + node_count children.now < drawn_limit }
         ensures { OnOk result (self.new ≡ revealed levels children.now self.old) }
     {
         for i in 0..children.len() {
@@ -91,7 +92,7 @@ impl Binding {
         requires live { IsSome (find_in serial page.now.tree) }
         requires container { IsTrue (holds (node_at serial page.now.tree).row.label.kind) }
         requires depth { IsDepth levels }
-        requires room { self.old.next < 2 ^ 60 }
+        requires room { self.old.next < drawn_before_nodes }
         ensures { OnOk result
             (self.new ≡ opened_down (levels_of levels) (node_at serial page.now.tree) self.old) }
     {
@@ -104,7 +105,7 @@ impl Binding {
     /// The same of a node that the caller has found, and by levels that may be counted down already.
     pub fn open_tree(&mut self, node: &Node, levels: Option<u64>) -> Result<(), AllocError>
         requires container { IsTrue (holds node.now.row.label.kind) }
-        requires room { self.old.next + node_count node.now.children < 2 ^ 63 }
+        requires room { self.old.next + node_count node.now.children < drawn_limit }
         ensures { OnOk result (self.new ≡ opened_down levels node.now self.old) }
     {
         self.open_reached(node, levels)?;
@@ -127,7 +128,7 @@ impl Binding {
     /// A node that was attached below an opened one, and is not known yet, becomes known; it is not opened. Comes after the
     /// attach. Gives the node's id.
     pub fn bind_child(&mut self, _page: &Page, serial: u64) -> Result<u64, AllocError>
-        requires { self.old.next < 2 ^ 60 }
+        requires { self.old.next < drawn_before_nodes }
         ensures id { IfOk result (λ id. id ≡ self.old.next) }
         ensures known { OnOk result (self.new ≡ with_bound serial self.old) }
     {
@@ -204,7 +205,7 @@ impl Binding {
     }
 
     fn bind(&mut self, serial: u64) -> Result<(), AllocError>
-        requires { self.old.next < 2 ^ 63 }
+        requires { self.old.next < drawn_limit }
         ensures { OnOk result (self.new ≡ with_bound serial self.old) }
     {
         self.ids.insert(serial, self.next)?;

@@ -1,5 +1,6 @@
 -- The style sheets of a page, as JSON spells them, and which of them a page may hold.
-use Rattle.std.specs.Prelude.{ℕ, ◌^◌, List, [], ◌∷◌, length, codes, Bool, ◌&&◌, nat_le, Option, Some, ⊤}
+pub use Rattle.node_tree.specs.Numbers.{max_sheet_bytes, max_sheets}
+use Rattle.std.specs.Prelude.{ℕ, List, [], ◌∷◌, length, codes, Bool, ◌&&◌, nat_le, Option, Some, ⊤}
 use Rattle.std.specs.List.{list_all}
 use Rattle.cdp_json.specs.Kinds.{Kind, text, choice, through, list_of}
 use Rattle.cdp_json.specs.Rows.{Row, ends, and_need, object_of}
@@ -41,14 +42,6 @@ abbrev pub sheet_list : Kind (List SheetForm)
 sheet_list = list_of sheet_form
 
 -- ---- limits
-
--- the most sheets of a page
-abbrev pub max_sheets : ℕ
-max_sheets = 1000
-
--- the most bytes of a sheet's text
-abbrev pub max_sheet_bytes : ℕ
-max_sheet_bytes = 2 ^ 24
 
 -- the text of the sheet is no longer than a sheet's may be
 abbrev pub is_short : SheetForm → Bool

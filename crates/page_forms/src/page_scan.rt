@@ -12,12 +12,12 @@ use cdp_json::{
     ScanErr, take_begin_array, take_begin_object, take_end_object, take_key, take_text,
 };
 use json::{Reader, Token};
-use node_tree::Text;
+use node_tree::{MAX_LEVEL, Text};
 use page_tree::limit_fault;
 use std::alloc::Global;
 
 // The most levels of nodes that a page may have.
-const LEVELS: u64 = 60;
+const LEVELS: u64 = MAX_LEVEL;
 
 fn scan_sheet(alloc: Global, reader: &mut Reader<'_>) -> Result<SheetForm, ScanErr>
     ensures { IfOk result (λ sheet. ReadsAs sheet_value reader.old sheet reader.new) }

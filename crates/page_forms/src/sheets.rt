@@ -8,16 +8,10 @@ ghost use Rattle.cdp_json.specs.Rows.{left_with, need};
 ghost use Rattle.page_forms.specs.Sheets.{origin_word, all_origins, origin_form, sheet_form, sheet_list, is_short, can_hold_sheets};
 
 use cdp_json::{Cursor, text_of};
-use node_tree::Text;
+use node_tree::{MAX_SHEET_BYTES, MAX_SHEETS, Text};
 use serde_json::Value;
 use sheet_reader::Origin;
 use std::alloc::{AllocError, Global};
-
-/// The most sheets of a page.
-const MAX_SHEETS: usize = 1000;
-
-/// The most bytes of a sheet's text.
-const MAX_SHEET_BYTES: usize = 1 << 24;
 
 /// A style sheet of a page that is loaded.
 #[derive(Drop)]

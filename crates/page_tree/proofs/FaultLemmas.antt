@@ -11,7 +11,7 @@ use Rattle.node_tree.proofs.KeyLemmas.{has-find}
 use Rattle.page_tree.specs.Forms.{max_nodes}
 use Rattle.node_tree.specs.Levels.{max_level}
 use Rattle.page_tree.specs.Pages.{PageRow, row_serial, PageValue, find_in, node_at, parent_at, IsValid}
-use Rattle.page_tree.specs.Rooms.{room_after}
+use Rattle.page_tree.specs.NodesLeft.{nodes_left}
 use Rattle.page_tree.specs.Edits.{children_at, is_among, sibling_after}
 use Rattle.page_tree.specs.EditFaults.{is_live, is_live_or_0, is_inside, kind_at, attach_faults, copy_faults, move_faults, insert_fault}
 use Rattle.page_tree.specs.EditFaults.{copy_fault, move_fault}
@@ -37,18 +37,18 @@ low_below levels level h k left some same = grind (arith, nat_tests, left, same)
 pub low_none : (levels level k : ℕ) → levels + level ≡ max_level → levels ≡ 0 → false ≡ nat_le (level + suc k) max_level
 low_none levels level k left no_level = grind (arith, nat_tests, left)
 
-some_room : (count room : ℕ) → is_some (room_after count room) ≡ nat_le count room
+some_room : (count room : ℕ) → is_some (nodes_left count room) ≡ nat_le count room
 some_room count room = grind (arith, nat_tests)
 
 pub room_is : (room there count k : ℕ) → room + there ≡ max_nodes → count ≡ k
-    → is_some (room_after count room) ≡ nat_le (there + k) max_nodes
+    → is_some (nodes_left count room) ≡ nat_le (there + k) max_nodes
 room_is room there count k left same = some_room count room ∙ fits
   where
     fits : nat_le count room ≡ nat_le (there + k) max_nodes
     fits = grind (arith, nat_tests, left, same)
 
 pub room_below : (room there count k : ℕ) → room + there ≡ max_nodes → 0 < room → count ≡ k
-    → is_some (room_after count (room - 1)) ≡ nat_le (there + suc k) max_nodes
+    → is_some (nodes_left count (room - 1)) ≡ nat_le (there + suc k) max_nodes
 room_below room there count k left some same = some_room count (room - 1) ∙ fits
   where
     fits : nat_le count (room - 1) ≡ nat_le (there + suc k) max_nodes

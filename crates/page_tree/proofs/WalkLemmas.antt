@@ -10,7 +10,7 @@ use Rattle.page_tree.specs.Forms.{max_nodes}
 use Rattle.page_tree.specs.Pages.{PageRow, PageValue, row_label, node_at, numbered, IsValid}
 use Rattle.page_tree.specs.EditFaults.{is_live}
 use Rattle.page_tree.proofs.EditLemmas.{changed}
-use Rattle.page_tree.specs.Rooms.{room_after}
+use Rattle.page_tree.specs.NodesLeft.{nodes_left}
 use Rattle.page_tree.proofs.CursorLemmas.{from-next}
 use Rattle.page_tree.proofs.NumberLemmas.{number_turn}
 
@@ -23,13 +23,13 @@ over_high h k l some e = grind (arith, nat_tests)
 next_high : (h k l : ℕ) → 0 < l → nat_le h (l - 1) ≡ true → nat_le (max (suc h) k) l ≡ nat_le k l
 next_high h k l some e = grind (arith, nat_tests)
 
-no_room : (c t left : ℕ) → left ≡ 0 → room_after (suc (c + t)) left ≡ None
+no_room : (c t left : ℕ) → left ≡ 0 → nodes_left (suc (c + t)) left ≡ None
 no_room c t left e = grind (arith, nat_tests)
 
-over_room : (c t left : ℕ) → 0 < left → room_after c (left - 1) ≡ None → room_after (suc (c + t)) left ≡ None
+over_room : (c t left : ℕ) → 0 < left → nodes_left c (left - 1) ≡ None → nodes_left (suc (c + t)) left ≡ None
 over_room c t left some e = grind (arith, nat_tests)
 
-next_room : (c t left rest : ℕ) → 0 < left → room_after c (left - 1) ≡ Some rest → room_after (suc (c + t)) left ≡ room_after t rest
+next_room : (c t left rest : ℕ) → 0 < left → nodes_left c (left - 1) ≡ Some rest → nodes_left (suc (c + t)) left ≡ nodes_left t rest
 next_room c t left rest some e = grind (arith, nat_tests)
 
 module _ (n : Nodes PageRow) (i : ℕ) (b : Branch PageRow) (inside : i < width n) (at : tree_at i n ≡ Some b) where
@@ -53,18 +53,18 @@ module _ (n : Nodes PageRow) (i : ℕ) (b : Branch PageRow) (inside : i < width 
         → nat_le (height (from (i + 1) n)) levels ≡ nat_le (height n) levels
     high_turn some e = sym (next_high (height b.children) (height (from (i + 1) n)) levels some e) ∙ here_high
 
-  module _ (room left : ℕ) (so_far : room_after (node_count (from i n)) left ≡ room_after (node_count n) room) where
-    inside_room : room_after (suc (node_count b.children + node_count (from (i + 1) n))) left ≡ room_after (node_count n) room
-    inside_room = sym (ap (λ m. room_after (node_count m) left) opened) ∙ so_far
+  module _ (room left : ℕ) (so_far : nodes_left (node_count (from i n)) left ≡ nodes_left (node_count n) room) where
+    inside_room : nodes_left (suc (node_count b.children + node_count (from (i + 1) n))) left ≡ nodes_left (node_count n) room
+    inside_room = sym (ap (λ m. nodes_left (node_count m) left) opened) ∙ so_far
 
-    pub room_none : left ≡ 0 → None ≡ room_after (node_count n) room
+    pub room_none : left ≡ 0 → None ≡ nodes_left (node_count n) room
     room_none e = sym (no_room (node_count b.children) (node_count (from (i + 1) n)) left e) ∙ inside_room
 
-    pub room_over : 0 < left → room_after (node_count b.children) (left - 1) ≡ None → None ≡ room_after (node_count n) room
+    pub room_over : 0 < left → nodes_left (node_count b.children) (left - 1) ≡ None → None ≡ nodes_left (node_count n) room
     room_over some e = sym (over_room (node_count b.children) (node_count (from (i + 1) n)) left some e) ∙ inside_room
 
-    pub room_turn : (rest : ℕ) → 0 < left → room_after (node_count b.children) (left - 1) ≡ Some rest
-        → room_after (node_count (from (i + 1) n)) rest ≡ room_after (node_count n) room
+    pub room_turn : (rest : ℕ) → 0 < left → nodes_left (node_count b.children) (left - 1) ≡ Some rest
+        → nodes_left (node_count (from (i + 1) n)) rest ≡ nodes_left (node_count n) room
     room_turn rest some e = sym (next_room (node_count b.children) (node_count (from (i + 1) n)) left rest some e) ∙ inside_room
 
   module _ (done new : List (Branch PageRow)) (tree : Branch PageRow) (first next after : ℕ)
@@ -90,10 +90,10 @@ high_end n i levels ended so_far = low levels ∙ sym (ap (λ m. nat_le (height 
     low l = grind (arith, nat_tests)
 
 pub room_end : (n : Nodes PageRow) (i room left : ℕ) → from i n ≡ none
-    → room_after (node_count (from i n)) left ≡ room_after (node_count n) room → Some left ≡ room_after (node_count n) room
-room_end n i room left ended so_far = all_left left ∙ sym (ap (λ m. room_after (node_count m) left) ended) ∙ so_far
+    → nodes_left (node_count (from i n)) left ≡ nodes_left (node_count n) room → Some left ≡ nodes_left (node_count n) room
+room_end n i room left ended so_far = all_left left ∙ sym (ap (λ m. nodes_left (node_count m) left) ended) ∙ so_far
   where
-    all_left : (l : ℕ) → Some l ≡ room_after 0 l
+    all_left : (l : ℕ) → Some l ≡ nodes_left 0 l
     all_left l = grind (arith, nat_tests)
 
 pub copy_start : (n : Nodes PageRow) (first : ℕ) (done : List (Branch PageRow)) → done ≡ []

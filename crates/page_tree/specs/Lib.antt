@@ -4,7 +4,7 @@ pub mod Members
 pub mod Zippers
 pub mod Loads
 pub mod Entries
-pub mod Rooms
+pub mod NodesLeft
 pub mod Arenas
 pub mod Edits
 pub mod EditFaults

@@ -1,4 +1,5 @@
 ghost use Rattle.std.specs.Prelude.{◌≡◌, ◌≤◌, true, length, drop, Option, Some, None, IfOk, OnOk, OnErr, IsSome};
+ghost use Rattle.node_tree.specs.Levels.{most_levels};
 ghost use Rattle.std.specs.List.{insert, remove};
 ghost use Rattle.node_tree.specs.Nodes.{alone};
 ghost use Rattle.node_tree.specs.Labels.{is_ascending, value_of};
@@ -11,7 +12,7 @@ ghost use Rattle.page_tree.specs.declared.slots.Slot.{Slot};
 use crate::arenas::{Arena, list_serials};
 use crate::slots::Keys;
 use crate::trees::Tree;
-use node_tree::{Text, drop_attribute, set_attribute};
+use node_tree::{MOST_LEVELS, Text, drop_attribute, set_attribute};
 use std::alloc::{AllocError, Global};
 use std::{mem, slice};
 
@@ -195,12 +196,12 @@ impl Arena {
         requires above { IsSome (slots_in self.old key) }
         ensures filed { Filed self.new }
         ensures tree { IfOk result (λ tree. (slot : Slot) → slot_of self.old serial ≡ Some slot
-            → tree ≡ record { row = slot_row slot; children = stored_trees self.old 61 slot.children }) }
+            → tree ≡ record { row = slot_row slot; children = stored_trees self.old most_levels slot.children }) }
         ensures ok { IfOk result (λ tree. Cut self.old self.new (graft_point key serial) tree) }
         ensures err { OnErr result (self.new ≡ self.old) }
     {
         let tree = match self.find(serial) {
-            Some(slot) => self.nested(alloc, slot, 61)?,
+            Some(slot) => self.nested(alloc, slot, MOST_LEVELS)?,
             None => unreachable!(),
         };
         let mut serials = Vec::new(alloc);

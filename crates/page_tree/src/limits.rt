@@ -4,19 +4,13 @@ ghost use Rattle.node_tree.specs.Nodes.{nodes_of, node_count, height};
 ghost use Rattle.node_tree.specs.Labels.{has_name, is_named_label};
 ghost use Rattle.node_tree.specs.Names.{is_element_name, is_attribute_name};
 ghost use Rattle.page_tree.specs.Forms.{are_named};
-ghost use Rattle.page_tree.specs.Rooms.{room_after};
+ghost use Rattle.page_tree.specs.NodesLeft.{nodes_left};
 ghost use Rattle.page_tree.specs.Loads.{are_few, limit_faults};
 ghost use Rattle.node_tree.specs.Keys.{first_true};
 
 use crate::faults::LoadFault;
 use crate::forms::NodeForm;
-use node_tree::{Kind, Text, is_attribute_name, is_element_name};
-
-/// The highest level of a node; the document has level 0.
-const MAX_LEVEL: u64 = 60;
-
-/// The most nodes of a page, with the document.
-const MAX_NODES: usize = 100_000;
+use node_tree::{Kind, MAX_LEVEL, MAX_NODES, Text, is_attribute_name, is_element_name};
 
 /// The forms have no more than so many levels.
 pub fn are_within(forms: &[NodeForm], levels: u64) -> bool
@@ -35,7 +29,7 @@ pub fn are_within(forms: &[NodeForm], levels: u64) -> bool
 
 /// How much of the room for nodes is left beside the forms; none where they are more.
 pub fn room_beside(forms: &[NodeForm], room: usize) -> Option<usize>
-    ensures { result ≡ room_after (node_count (nodes_of forms.now)) room }
+    ensures { result ≡ nodes_left (node_count (nodes_of forms.now)) room }
 {
     let mut left = room;
     for form in forms {

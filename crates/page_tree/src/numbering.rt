@@ -1,4 +1,5 @@
-ghost use Rattle.std.specs.Prelude.{◌≡◌, ◌+◌, ◌<◌, ◌^◌, IfOk};
+ghost use Rattle.std.specs.Prelude.{◌≡◌, ◌+◌, ◌<◌, IfOk};
+ghost use Rattle.node_tree.specs.Numbers.{number_limit};
 ghost use Rattle.node_tree.specs.Nodes.{nodes_of, node_count, branch_count};
 ghost use Rattle.page_tree.specs.Pages.{numbered};
 ghost use Rattle.page_tree.specs.Edits.{numbered_branch};
@@ -13,7 +14,7 @@ pub fn number_all(
     first: u64,
     forms: Vec<NodeForm>,
 ) -> Result<(Vec<Tree>, u64), AllocError>
-    requires { first + node_count (nodes_of forms.items) < 2 ^ 64 }
+    requires { first + node_count (nodes_of forms.items) < number_limit }
     ensures { IfOk result (λ r. (nodes_of r.0.items ≡ numbered first (nodes_of forms.items))
         × (r.1 ≡ first + node_count (nodes_of forms.items))) }
 {
@@ -37,7 +38,7 @@ pub fn number_all(
 
 /// The tree of a form, with serials in document order from `first` on, and the serial after the last.
 pub fn number_one(alloc: Global, first: u64, form: NodeForm) -> Result<(Tree, u64), AllocError>
-    requires { first + branch_count form < 2 ^ 64 }
+    requires { first + branch_count form < number_limit }
     ensures { IfOk result (λ r. (r.0 ≡ numbered_branch first form) × (r.1 ≡ first + branch_count form)) }
 {
     let (children, next) = number_all(alloc, first + 1, form.children)?;

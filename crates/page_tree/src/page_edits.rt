@@ -1,4 +1,5 @@
-ghost use Rattle.std.specs.Prelude.{◌≡◌, ◌+◌, ◌<◌, ◌≤◌, ◌^◌, false, IsSome, IfOk, OnOk, OnErr};
+ghost use Rattle.std.specs.Prelude.{◌≡◌, ◌+◌, ◌<◌, ◌≤◌, false, IsSome, IfOk, OnOk, OnErr};
+ghost use Rattle.node_tree.specs.Numbers.{drawn_before_nodes};
 ghost use Rattle.node_tree.specs.Nodes.{branch_count};
 ghost use Rattle.node_tree.specs.Labels.{value_of, is_document};
 ghost use Rattle.page_tree.specs.Forms.{max_nodes};
@@ -159,7 +160,7 @@ impl Page {
 
     /// A new tree of that form, with serials in document order from the next one on. They are drawn, and nothing is attached.
     pub fn grow(&mut self, form: NodeForm) -> Result<Tree, AllocError>
-        requires room { self.old.next < 2 ^ 60 }
+        requires room { self.old.next < drawn_before_nodes }
         requires few { branch_count form ≤ max_nodes }
         ensures tree { IfOk result (λ tree. tree ≡ numbered_branch self.old.next form) }
         ensures drawn { OnOk result (self.new ≡ drawn form self.old) }
@@ -174,7 +175,7 @@ impl Page {
     pub fn copy(&mut self, node: u64) -> Result<Tree, AllocError>
         requires live { IsSome (find_in node self.old.tree) }
         requires below { is_document (kind_at node self.old.tree) ≡ false }
-        requires room { self.old.next < 2 ^ 60 }
+        requires room { self.old.next < drawn_before_nodes }
         ensures tree { IfOk result (λ tree. tree ≡ numbered_branch self.old.next (form_at node self.old.tree)) }
         ensures drawn { OnOk result (self.new ≡ drawn (form_at node self.old.tree) self.old) }
         ensures err { OnErr result (self.new ≡ self.old) }
@@ -187,7 +188,7 @@ impl Page {
     /// The copy, and the serial after its last.
     fn copied(&self, node: u64) -> Result<(Tree, u64), AllocError>
         requires live { IsSome (find_in node self.now.tree) }
-        requires room { self.now.next < 2 ^ 60 }
+        requires room { self.now.next < drawn_before_nodes }
         ensures tree { IfOk result (λ r. r.0 ≡ numbered_branch self.now.next (form_at node self.now.tree)) }
         ensures next { IfOk result (λ r. r.1 ≡ self.now.next + branch_count (form_at node self.now.tree)) }
     {

@@ -17,7 +17,7 @@ use crate::pages::Page;
 use crate::tree_limits::{are_trees_named, are_trees_within, room_beside_trees};
 use crate::trees::Tree;
 use crate::walks::{are_children_within, room_beside_children};
-use node_tree::{Kind, is_attribute_name};
+use node_tree::{Kind, MAX_LEVEL, MAX_NODES, is_attribute_name};
 use std::slice;
 
 /// A node of the second kind may stand right below one of the first.
@@ -39,7 +39,7 @@ impl Page {
     fn room(&self) -> usize
         ensures { result + branch_count self.now.tree ≡ max_nodes }
     {
-        100_000 - self.arena.keys.len()
+        MAX_NODES - self.arena.keys.len()
     }
 
     /// How many levels there are below a node.
@@ -48,7 +48,7 @@ impl Page {
         ensures { result + level_at node self.now.tree ≡ max_level }
     {
         match self.arena.find(node) {
-            Some(slot) => 60 - self.arena.climb(slot.parent, 60),
+            Some(slot) => MAX_LEVEL - self.arena.climb(slot.parent, MAX_LEVEL),
             None => unreachable!(),
         }
     }

@@ -1,5 +1,6 @@
-ghost use Rattle.std.specs.Prelude.{◌≡◌, ◌<◌, ◌≤◌, ◌^◌, length, is_some, option_map, Some, IsSome, IfOk, slice_get};
+ghost use Rattle.std.specs.Prelude.{◌≡◌, ◌<◌, ◌≤◌, length, is_some, option_map, Some, IsSome, IfOk, slice_get};
 ghost use Rattle.std.specs.Option.{option_copied};
+ghost use Rattle.node_tree.specs.Numbers.{drawn_before_nodes};
 ghost use Rattle.node_tree.specs.Nodes.{nodes_of, width, tree_at};
 ghost use Rattle.node_tree.specs.Labels.{value_of};
 ghost use Rattle.page_tree.specs.Forms.{CanLoad};
@@ -11,7 +12,7 @@ use crate::forms::NodeForm;
 use crate::numbering::number_all;
 use crate::slots::Slot;
 use crate::trees::Tree;
-use node_tree::{Attributes, Kind, Text};
+use node_tree::{Attributes, Kind, MAX_LEVEL, Text};
 use std::alloc::{AllocError, Global};
 use std::marker::Model;
 
@@ -44,7 +45,7 @@ impl Page {
     pub fn load(alloc: Global, first: u64, nodes: Vec<NodeForm>) -> Result<Page, AllocError>
         requires nodes { CanLoad (nodes_of nodes.items) }
         requires least { 1 ≤ first }
-        requires room { first < 2 ^ 60 }
+        requires room { first < drawn_before_nodes }
         ensures { IfOk result (λ page. page ≡ loaded first (nodes_of nodes.items)) }
     {
         let (children, next) = number_all(alloc, first + 1, nodes)?;
@@ -188,7 +189,7 @@ impl Page {
         ensures { result ≡ level_at serial self.now.tree }
     {
         match self.arena.find(serial) {
-            Some(slot) => self.arena.climb(slot.parent, 60),
+            Some(slot) => self.arena.climb(slot.parent, MAX_LEVEL),
             None => unreachable!(),
         }
     }

@@ -3,7 +3,7 @@ ghost use Rattle.node_tree.specs.Nodes.{nodes_of, node_count, height, map_rows};
 ghost use Rattle.node_tree.specs.Labels.{is_named_label};
 ghost use Rattle.page_tree.specs.Forms.{are_named};
 ghost use Rattle.page_tree.specs.Pages.{row_label};
-ghost use Rattle.page_tree.specs.Rooms.{room_after};
+ghost use Rattle.page_tree.specs.NodesLeft.{nodes_left};
 
 use crate::limits::{has_good_name, have_good_names};
 use crate::trees::Tree;
@@ -25,7 +25,7 @@ pub fn are_trees_within(trees: &[Tree], levels: u64) -> bool
 
 /// How much of the room for nodes is left beside the trees; none where they are more.
 pub fn room_beside_trees(trees: &[Tree], room: usize) -> Option<usize>
-    ensures { result ≡ room_after (node_count (nodes_of trees.now)) room }
+    ensures { result ≡ nodes_left (node_count (nodes_of trees.now)) room }
 {
     let mut left = room;
     for tree in trees {

@@ -1,10 +1,11 @@
 //! Walks down a page.
 
-ghost use Rattle.std.specs.Prelude.{◌≡◌, ◌+◌, ◌<◌, ◌^◌, nat_le, IfOk};
+ghost use Rattle.std.specs.Prelude.{◌≡◌, ◌+◌, ◌<◌, nat_le, IfOk};
+ghost use Rattle.node_tree.specs.Numbers.{number_limit};
 ghost use Rattle.node_tree.specs.Nodes.{nodes_of, node_count, branch_count, height, map_rows, map_branch};
 ghost use Rattle.page_tree.specs.Pages.{row_label, numbered};
 ghost use Rattle.page_tree.specs.Edits.{numbered_branch};
-ghost use Rattle.page_tree.specs.Rooms.{room_after};
+ghost use Rattle.page_tree.specs.NodesLeft.{nodes_left};
 
 use crate::cursors::{Children, Node};
 use crate::trees::Tree;
@@ -29,7 +30,7 @@ pub fn are_children_within(children: &Children, levels: u64) -> bool
 
 /// How much of the room for nodes is left beside the trees; none where they are more.
 pub fn room_beside_children(children: &Children, room: usize) -> Option<usize>
-    ensures { result ≡ room_after (node_count children.now) room }
+    ensures { result ≡ nodes_left (node_count children.now) room }
 {
     let mut left = room;
     for i in 0..children.len() {
@@ -71,7 +72,7 @@ fn copy_children(
     first: u64,
     children: &Children,
 ) -> Result<(Vec<Tree>, u64), AllocError>
-    requires { first + node_count children.now < 2 ^ 64 }
+    requires { first + node_count children.now < number_limit }
     ensures { IfOk result (λ r. (nodes_of r.0.items ≡ numbered first (map_rows row_label children.now))
         × (r.1 ≡ first + node_count children.now)) }
 {
@@ -89,7 +90,7 @@ fn copy_children(
 
 /// A copy of the tree, with serials in document order from `first` on, and the serial after the last.
 pub fn copy_tree(alloc: Global, first: u64, node: &Node) -> Result<(Tree, u64), AllocError>
-    requires { first + branch_count node.now < 2 ^ 64 }
+    requires { first + branch_count node.now < number_limit }
     ensures { IfOk result (λ r. (r.0 ≡ numbered_branch first (map_branch row_label node.now))
         × (r.1 ≡ first + branch_count node.now)) }
 {

@@ -1,12 +1,13 @@
 -- Counts of faults, and when a call may say that the outside failed.
-use Rattle.std.specs.Prelude.{ℕ, ◌+◌, ◌-◌, ◌^◌, ◌≤◌, ◌<◌, min, IsErrOf, IsErr, OnErr, Result}
+use Rattle.std.specs.Prelude.{ℕ, ◌+◌, ◌-◌, ◌≤◌, ◌<◌, min, IsErrOf, IsErr, OnErr, Result}
+use Rattle.node_tree.specs.Numbers.{number_limit}
 use Rattle.pipe_frames.specs.declared.outside.Failed.{Failed as ReadFault}
 use Rattle.pipe_frames.specs.declared.outside.OutErr.{OutErr}
 use Rattle.pipe_frames.specs.declared.outside.OutErr.TheVariants.{Failed}
 
 -- a count one higher, which stays at the last value of a `u64`
 abbrev pub next_count : ℕ → ℕ
-next_count count = min (count + 1) (2 ^ 64 - 1)
+next_count count = min (count + 1) (number_limit - 1)
 
 -- the count rose, or stands at its last value
 abbrev pub Rose : ℕ → ℕ → Type 0

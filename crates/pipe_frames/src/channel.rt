@@ -1,4 +1,5 @@
-ghost use Rattle.std.specs.Prelude.{◌≡◌, ◌-◌, ◌+◌, ◌≤◌, ◌<◌, ◌^◌, min, length, OnOk, OnErr, OnSome, IfOk, IfSome, IfNone, Err};
+ghost use Rattle.std.specs.Prelude.{◌≡◌, ◌-◌, ◌+◌, ◌≤◌, ◌<◌, min, length, OnOk, OnErr, OnSome, IfOk, IfSome, IfNone, Err};
+ghost use Rattle.node_tree.specs.Numbers.{memory_limit};
 ghost use Rattle.pipe_frames.specs.Pipe.{Puts, Gets, GivesAll, filling, waiting};
 ghost use Rattle.pipe_frames.specs.Calls.{no_flow, pipe_of};
 
@@ -43,7 +44,7 @@ impl Channel {
 
     pub(crate) fn put(&mut self, piece: &[u8]) -> Result<(), OutErr>
         ensures puts { Puts (pipe_of self.old) (pipe_of self.new) piece.now result }
-        ensures held { OnOk result (length (waiting (pipe_of self.new)) < 2 ^ 63) }
+        ensures held { OnOk result (length (waiting (pipe_of self.new)) < memory_limit) }
         ensures passed { self.new.passed ≡ self.old.passed }
         ensures memory { OnErr result ((self.new ≡ self.old) × (result ≡ Err OutErr.Memory)) }
     {

@@ -1,4 +1,5 @@
 ghost use Rattle.std.specs.Prelude.{◌≡◌, ◌≢◌, ◌<◌, ◌^◌, ◌↔◌, ℕ, List, [], ◌∷◌, ◌++◌, length, take, true, IsNone, IfSome, IfNone, OnOk, OnErr};
+ghost use Rattle.node_tree.specs.Numbers.{number_limit};
 ghost use Rattle.pipe_frames.specs.Frames.{Frames, IsText, IsFrame, Splits, frames_of, bytes_of, continued, framed, with_frame};
 
 use std::alloc::{AllocError, Global};
@@ -125,7 +126,7 @@ impl Splitter {
 
     /// How many bytes were taken and not handed out, zero bytes included. They are in memory, so there are fewer than 2^64.
     pub fn held(&self) -> usize
-        ensures { length (bytes_of self.now) < 2 ^ 64 → result ≡ length (bytes_of self.now) }
+        ensures { length (bytes_of self.now) < number_limit → result ≡ length (bytes_of self.now) }
     {
         let mut held = self.rest.len();
         for frame in &self.whole {

@@ -1,4 +1,5 @@
-ghost use Rattle.std.specs.Prelude.{◌≡◌, ◌≤◌, ◌<◌, ◌^◌, ◌-◌, ◌+◌, ◌++◌, Err, IfOk, OnOk, OnErr, min, take, drop, length};
+ghost use Rattle.std.specs.Prelude.{◌≡◌, ◌≤◌, ◌<◌, ◌-◌, ◌+◌, ◌++◌, Err, IfOk, OnOk, OnErr, min, take, drop, length};
+ghost use Rattle.node_tree.specs.Numbers.{memory_limit};
 ghost use Rattle.pipe_frames.specs.Pipe.{Puts, Gets, GivesAll, filling, waiting};
 ghost use Rattle.pipe_frames.specs.Calls.{no_flow, pipe_of, gives_few, lies_few, lying_pipe, replaced};
 
@@ -74,7 +75,7 @@ impl Link for LyingLink {
 
     fn put_up(&mut self, piece: &[u8]) -> Result<(), OutErr>
         ensures up { Puts (pipe_of self.old.up) (pipe_of self.new.up) piece.now result }
-        ensures held { OnOk result (length (waiting (pipe_of self.new.up)) < 2 ^ 63) }
+        ensures held { OnOk result (length (waiting (pipe_of self.new.up)) < memory_limit) }
         ensures same { self.new ≡ record self.old { up = self.new.up } }
         ensures memory { OnErr result (result ≡ Err OutErr.Memory) }
     {
@@ -83,7 +84,7 @@ impl Link for LyingLink {
 
     fn put_down(&mut self, piece: &[u8]) -> Result<(), OutErr>
         ensures down { Puts (pipe_of self.old.down) (pipe_of self.new.down) piece.now result }
-        ensures held { OnOk result (length (waiting (lying_pipe self.new.place self.new.to self.new.down)) < 2 ^ 63) }
+        ensures held { OnOk result (length (waiting (lying_pipe self.new.place self.new.to self.new.down)) < memory_limit) }
         ensures same { self.new ≡ record self.old { down = self.new.down } }
         ensures memory { OnErr result (result ≡ Err OutErr.Memory) }
     {

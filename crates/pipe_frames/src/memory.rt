@@ -1,6 +1,7 @@
-ghost use Rattle.std.specs.Prelude.{◌≡◌, ◌≤◌, ◌<◌, ◌^◌, ◌↔◌, [], Some, take, min, length, IfOk, OnOk, IsErr, is_err};
+ghost use Rattle.std.specs.Prelude.{◌≡◌, ◌≤◌, ◌<◌, ◌↔◌, [], Some, take, min, length, IfOk, OnOk, IsErr, is_err};
 ghost use Rattle.std.specs.Io.{ReadsAtMost, WritesAtMost};
 ghost use Rattle.std.specs.Io.KnownBytes.{ReadConsumes, WriteAppends};
+ghost use Rattle.node_tree.specs.Numbers.{memory_limit};
 ghost use Rattle.pipe_frames.specs.Fault.{HasCause, HasReadCause};
 ghost use Rattle.pipe_frames.specs.Pipe.{Puts, Gets, GivesAll, filling, waiting};
 ghost use Rattle.pipe_frames.specs.Calls.{NextFails, no_calls, no_flow, counted, is_failed, pipe_of, gives_few, gives_prefix};
@@ -190,7 +191,7 @@ impl Link for MemLink {
 
     fn put_up(&mut self, piece: &[u8]) -> Result<(), OutErr>
         ensures up { Puts (pipe_of self.old.up) (pipe_of self.new.up) piece.now result }
-        ensures held { OnOk result (length (waiting (pipe_of self.new.up)) < 2 ^ 63) }
+        ensures held { OnOk result (length (waiting (pipe_of self.new.up)) < memory_limit) }
         ensures down { self.new.down ≡ self.old.down }
         ensures cause { HasCause self.old.calls.faults self.new.calls.faults result }
 
@@ -205,7 +206,7 @@ impl Link for MemLink {
 
     fn put_down(&mut self, piece: &[u8]) -> Result<(), OutErr>
         ensures down { Puts (pipe_of self.old.down) (pipe_of self.new.down) piece.now result }
-        ensures held { OnOk result (length (waiting (pipe_of self.new.down)) < 2 ^ 63) }
+        ensures held { OnOk result (length (waiting (pipe_of self.new.down)) < memory_limit) }
         ensures up { self.new.up ≡ self.old.up }
         ensures cause { HasCause self.old.calls.faults self.new.calls.faults result }
 

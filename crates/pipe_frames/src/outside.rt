@@ -1,6 +1,7 @@
-ghost use Rattle.std.specs.Prelude.{◌≡◌, ◌<◌, ◌≤◌, ◌^◌, ℕ, List, Option, IfOk, OnOk, length};
+ghost use Rattle.std.specs.Prelude.{◌≡◌, ◌<◌, ◌≤◌, ℕ, List, Option, IfOk, OnOk, length};
 ghost use Rattle.std.specs.Io.{ReadsAtMost, WritesAtMost};
 ghost use Rattle.std.specs.Io.KnownBytes.{ReadConsumes, WriteAppends};
+ghost use Rattle.node_tree.specs.Numbers.{memory_limit};
 ghost use Rattle.pipe_frames.specs.Pipe.{Pipe, Puts, Gets, GivesPrefix, GivesAll, filling, waiting};
 
 use thiserror::Error;
@@ -81,7 +82,7 @@ pub trait Link {
     /// Sends the whole piece up.
     fn put_up(&mut self, piece: &[u8]) -> Result<(), OutErr>
         ensures up { Puts (up self.old) (up self.new) piece.now result }
-        ensures held { OnOk result (length (waiting (up self.new)) < 2 ^ 63) }
+        ensures held { OnOk result (length (waiting (up self.new)) < memory_limit) }
         ensures down { down self.new ≡ down self.old }
         ensures honest { honest self.old → honest self.new }
         ensures cause { HasCause (faults self.old) (faults self.new) result };
@@ -89,7 +90,7 @@ pub trait Link {
     /// Sends the whole piece down.
     fn put_down(&mut self, piece: &[u8]) -> Result<(), OutErr>
         ensures down { Puts (down self.old) (down self.new) piece.now result }
-        ensures held { OnOk result (length (waiting (down self.new)) < 2 ^ 63) }
+        ensures held { OnOk result (length (waiting (down self.new)) < memory_limit) }
         ensures up { up self.new ≡ up self.old }
         ensures honest { honest self.old → honest self.new }
         ensures cause { HasCause (faults self.old) (faults self.new) result };

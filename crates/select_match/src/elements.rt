@@ -1,10 +1,13 @@
 //! Elements of a page and the places that they have among their siblings.
 
-ghost use Rattle.std.specs.Prelude.{◌≡◌, ◌<◌, ◌≤◌, ◌^◌, ◌&&◌, ◌==◌, ℕ, false, if◌then◌else◌};
+ghost use Rattle.std.specs.Prelude.{◌≡◌, ◌<◌, ◌≤◌, ◌&&◌, ◌==◌, ℕ, false, if◌then◌else◌};
+ghost use Rattle.page_tree.specs.Forms.{max_nodes};
 ghost use Rattle.std.specs.List.{list_any};
+ghost use Rattle.node_tree.specs.Numbers.{memory_limit};
 ghost use Rattle.page_tree.specs.Zippers.{first_node, children_of, parent_of};
 ghost use Rattle.select_match.specs.Elements.{is_element_node, fills, is_root_by, side, counts, index, is_nth};
 
+use node_tree::MAX_NODES;
 use page_tree::{Kind, NodeRef};
 use selectors::NthKind;
 
@@ -78,8 +81,8 @@ fn one_if(test: bool) -> u64
 fn index_within(kind: NthKind, node: &NodeRef<'_>, limit: u64) -> u64
     ensures within { result ≤ limit → result ≡ index kind node.now }
     ensures beyond { limit < result → limit < index kind node.now }
-    ensures bound { result ≤ 100000 }
-    ensures few { index kind node.now ≤ 100000 }
+    ensures bound { result ≤ max_nodes }
+    ensures few { index kind node.now ≤ max_nodes }
 {
     node.are_few();
     let mut count = 1;
@@ -97,9 +100,9 @@ fn index_within(kind: NthKind, node: &NodeRef<'_>, limit: u64) -> u64
 /// The place of an element among its siblings, counted from 1 (Selectors 3, section 6.6.5).
 pub fn index(kind: NthKind, node: &NodeRef<'_>) -> u64
     ensures value { result ≡ index kind node.now }
-    ensures bound { result ≤ 100000 }
+    ensures bound { result ≤ max_nodes }
 {
-    index_within(kind, node, 100000)
+    index_within(kind, node, MAX_NODES as u64)
 }
 
 fn is_first(kind: NthKind, node: &NodeRef<'_>) -> bool
@@ -117,10 +120,10 @@ pub fn is_only(first: NthKind, last: NthKind, node: &NodeRef<'_>) -> bool
 
 /// No place beyond this one is reached: by steps that are not positive none beyond the offset is.
 fn last_place(step: i64, offset: i64) -> u64
-    ensures { (i : ℕ) → result < i → i ≤ 100000 → is_nth step offset i ≡ false }
+    ensures { (i : ℕ) → result < i → i ≤ max_nodes → is_nth step offset i ≡ false }
 {
     if step > 0 {
-        return 100000;
+        return MAX_NODES as u64;
     }
     if offset < 0 {
         return 0;
@@ -139,7 +142,7 @@ pub fn nth_holds(kind: NthKind, step: i64, offset: i64, node: &NodeRef<'_>) -> b
 
 /// The index is `step * n + offset` for some whole n from 0 on.
 pub fn is_nth(step: i64, offset: i64, index: u64) -> bool
-    requires { index < 2 ^ 63 }
+    requires { index < memory_limit }
     ensures { result ≡ is_nth step offset index }
 {
     let distance = (index as i64).abs_diff(offset);

@@ -1,7 +1,8 @@
 //! The places of siblings, each computed once as a walk meets them: how many elements stand before and behind, and of which name.
 
-ghost use Rattle.std.specs.Prelude.{◌≡◌, ℕ, ◌+◌, ◌-◌, ◌<◌, ◌^◌, cond, [], List, Option, Some, IfOk, OnOk};
+ghost use Rattle.std.specs.Prelude.{◌≡◌, ℕ, ◌+◌, ◌-◌, ◌<◌, cond, [], List, Option, Some, IfOk, OnOk};
 ghost use Rattle.std.specs.Str.{bytes_eq};
+ghost use Rattle.node_tree.specs.Numbers.{memory_limit};
 ghost use Rattle.page_tree.specs.Zippers.{Zipper, next_of, earlier, later};
 ghost use Rattle.select_match.specs.Subjects.{KnowsPlaces};
 ghost use Rattle.select_match.specs.Families.{named_in, tally_count, one_of, Counts, Faces, FacesNext, LineFaces, SiblingsFace, SiblingsFaceNext};
@@ -42,7 +43,7 @@ fn put_count<'a>(
 }
 
 fn one_more(n: u64) -> u64
-    ensures { n < 2 ^ 63 → result ≡ n + 1 }
+    ensures { n < memory_limit → result ≡ n + 1 }
 {
     n.saturating_add(1)
 }
@@ -66,7 +67,7 @@ impl<'a> Tally<'a> {
 
     /// Counts a node more.
     fn add(&mut self, node: &NodeRef<'a>) -> Result<(), AllocError>
-        ensures { OnOk result ((key : Option (List ℕ)) → tally_count key self.old < 2 ^ 63
+        ensures { OnOk result ((key : Option (List ℕ)) → tally_count key self.old < memory_limit
             → tally_count key self.new ≡ tally_count key self.old + one_of key node.now) }
     {
         if !is_element(node) {
@@ -152,7 +153,7 @@ impl<'a> Family<'a> {
 }
 
 fn plus_if(test: bool, n: u64) -> u64
-    ensures { n < 2 ^ 63 → result ≡ n + cond {A = ℕ} test 1 0 }
+    ensures { n < memory_limit → result ≡ n + cond {A = ℕ} test 1 0 }
 {
     if test { one_more(n) } else { n }
 }

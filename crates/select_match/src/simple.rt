@@ -1,6 +1,7 @@
 //! Simple selectors and compounds (Selectors 3, section 6).
 
 ghost use Rattle.std.specs.Prelude.{◌≡◌, ◌≤◌, ◌==◌, ◌&&◌, map};
+ghost use Rattle.page_tree.specs.Forms.{max_nodes};
 ghost use Rattle.std.specs.List.{list_all};
 ghost use Rattle.selectors.specs.Forms.{id, class, test_seen, simple_seen, compound_seen};
 ghost use Rattle.select_match.specs.Texts.{same_name, has_word, compares, has_attribute};
@@ -71,7 +72,7 @@ fn nth_holds_placed(
 fn place_of(kind: NthKind, node: &NodeRef<'_>, places: &KnownPlaces) -> u64
     requires { KnowsPlaces places.now node.now }
     ensures value { result ≡ index kind node.now }
-    ensures bound { result ≤ 100000 }
+    ensures bound { result ≤ max_nodes }
 {
     node.are_few();
     match places.place(kind) {

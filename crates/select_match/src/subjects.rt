@@ -1,6 +1,7 @@
 //! An element that many selectors are tried on.
 
 ghost use Rattle.std.specs.Prelude.{◌≡◌, ◌≤◌, ◌&&◌, ◌||◌, ◌==◌, not, map, reverse, IfOk};
+ghost use Rattle.page_tree.specs.Forms.{max_nodes};
 ghost use Rattle.std.specs.Char.{is_ascii_whitespace};
 ghost use Rattle.std.specs.Str.{bytes_eq};
 ghost use Rattle.std.specs.List.{list_any, list_all, slice_split};
@@ -117,7 +118,7 @@ impl<'a> Subject<'a> {
     /// Counts the siblings when it is first asked for this place.
     fn place(&mut self, kind: NthKind) -> u64
         ensures value { result ≡ index kind self.old }
-        ensures bound { result ≤ 100000 }
+        ensures bound { result ≤ max_nodes }
         ensures same { self.new ≡ self.old }
     {
         self.node().are_few();

@@ -1,5 +1,6 @@
 -- A selector list as its selectors.
-use Rattle.std.specs.Prelude.{ℕ, ◌+◌, ◌-◌, ◌^◌, ◌<◌, ◌≤◌, List, map}
+use Rattle.std.specs.Prelude.{ℕ, ◌+◌, ◌-◌, ◌<◌, ◌≤◌, List, map}
+use Rattle.node_tree.specs.Numbers.{number_limit}
 use Rattle.css_tokens.specs.declared.token.Range.{Range}
 use Rattle.selectors.specs.declared.selector.SelectorList.{SelectorList}
 use Rattle.selectors.specs.Forms.{SelectorForm, selector_seen}
@@ -22,5 +23,5 @@ moved_selector from to s = record { compounds = s.compounds; pseudo_element = s.
 
 -- a range can be moved: both its places lie at or behind `from`, and where they are moved to are places
 abbrev pub CanMove : ℕ → ℕ → Range → Type 0
-CanMove from to range = (from ≤ range.start) × (from ≤ range.end) × (moved from to range.start < 2 ^ 64)
-    × (moved from to range.end < 2 ^ 64)
+CanMove from to range = (from ≤ range.start) × (from ≤ range.end) × (moved from to range.start < number_limit)
+    × (moved from to range.end < number_limit)

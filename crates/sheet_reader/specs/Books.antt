@@ -2,6 +2,7 @@
 use Rattle.std.specs.Prelude.{◌≡◌, ℕ, ◌^◌, ◌<◌, ◌≤◌, ◌==◌, List, [], ◌∷◌, length, map, Option, Some, None, nat_eq, position, if◌then◌else◌}
 use Rattle.std.specs.List.{IsDistinct}
 use Rattle.std.specs.Str.{IsUtf8}
+use Rattle.node_tree.specs.Numbers.{counted_limit, max_sheet_bytes}
 use Rattle.sheet_reader.specs.declared.book.SheetEntry.{SheetEntry}
 use Rattle.sheet_reader.specs.Sheets.{sheet_of}
 
@@ -9,8 +10,8 @@ use Rattle.sheet_reader.specs.Sheets.{sheet_of}
 pub record IsEntry (e : SheetEntry) : Type 0 where
   pub read : e.reading ≡ sheet_of e.text
   pub some : 0 < e.id
-  pub id : e.id < 2 ^ 53
-  pub short : length e.text ≤ 2 ^ 24
+  pub id : e.id < counted_limit
+  pub short : length e.text ≤ max_sheet_bytes
 
 -- as a book has it: its text is UTF-8 too
 pub record IsStored (e : SheetEntry) : Type 0 where

@@ -1,12 +1,13 @@
 -- Sealed texts: those that stand in a body, or between rules, and leave what follows as it is.
-use Rattle.std.specs.Prelude.{ℕ, ◌-◌, Bool, true, false, ◌&&◌, List, [], ◌∷◌, ◌++◌, take, length, slice_get, Option, Some, None}
+use Rattle.std.specs.Prelude.{ℕ, ◌-◌, ◌==◌, Bool, true, false, ◌&&◌, List, [], ◌∷◌, ◌++◌, take, length, slice_get, Option, Some, None}
 use Rattle.css_tokens.specs.declared.token.Token.{Token}
 use Rattle.css_tokens.specs.declared.token.TokenKind.{TokenKind}
 use Rattle.css_tokens.specs.declared.token.TokenKind.TheVariants.{WhiteSpace, CloseCurly}
 use Rattle.css_tokens.specs.Pieces.{pieces}
 use Rattle.sheet_reader.specs.declared.brackets.Nesting.{Nesting}
 use Rattle.sheet_reader.specs.declared.brackets.Nesting.TheVariants.{Closed}
-use Rattle.sheet_reader.specs.Brackets.{nesting}
+use Rattle.sheet_reader.specs.declared.brackets.Stop.TheVariants as stops
+use Rattle.sheet_reader.specs.Brackets.{nesting, until}
 
 -- white space
 abbrev pub is_white_kind : TokenKind → Bool
@@ -44,3 +45,7 @@ ends_sealed ts = last_is is_close_kind ts && (last_is is_white_kind (all_but_las
 -- in the pieces of the text followed by a space and `}`
 abbrev pub is_sealed : List ℕ → Bool
 is_sealed text = ends_sealed (pieces (text ++ 32 ∷ 125 ∷ []))
+
+-- sealed, and no `{` or `;` outside brackets: it leaves the block behind it what it is
+abbrev pub is_sealed_prelude : List ℕ → Bool
+is_sealed_prelude text = is_sealed text && until stops.BlockOrSemicolon (pieces text) == length (pieces text)

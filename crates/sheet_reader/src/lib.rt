@@ -30,11 +30,11 @@ mod sheet;
 
 pub use book::{Origin, SheetBook, SheetEntry};
 pub use declarations::read_style;
-pub use laws::{grammar_law, nesting_law, position_law, usable_law};
+pub use laws::{around_law, grammar_law, nesting_law, position_law, usable_law};
 pub use lists::{MediaRules, Places, Properties, StyleRules};
 pub use lone::{LoneRule, lone_rule};
 pub use place::Position;
 pub use places::{byte_at, position};
 pub use rules::read_sheet;
-pub use sealing::sealed;
+pub use sealing::{sealed, sealed_prelude};
 pub use sheet::{MediaRule, Property, Sheet, StyleRule};

@@ -1,7 +1,8 @@
 //! Places in a text as lines and columns. A line ends at a line feed alone; a column counts UTF-16 units.
 
-ghost use Rattle.std.specs.Prelude.{◌≡◌, ℕ, ◌+◌, ◌<◌, ◌≤◌, ◌^◌, true, false, IfSome, IfNone};
+ghost use Rattle.std.specs.Prelude.{◌≡◌, ℕ, ◌+◌, ◌<◌, ◌≤◌, true, false, IfSome, IfNone};
 ghost use Rattle.std.specs.Str.{IsCharBoundary};
+ghost use Rattle.node_tree.specs.Numbers.{number_limit};
 ghost use Rattle.sheet_reader.specs.Positions.{units_at, position, position_of, behind_byte};
 
 use crate::place::Position;
@@ -20,8 +21,8 @@ fn units_at(byte: u8) -> u64
 
 /// The position behind a byte, of which this is the position before it.
 fn behind_byte(before: Position, byte: u8) -> Position
-    requires line { before.line + 1 < 2 ^ 64 }
-    requires column { before.column + 2 < 2 ^ 64 }
+    requires line { before.line + 1 < number_limit }
+    requires column { before.column + 2 < number_limit }
     ensures { result ≡ behind_byte before byte }
 {
     if byte == b'\n' {

@@ -2,9 +2,9 @@
 
 ghost use Rattle.std.specs.Prelude.{◌≡◌, IfOk};
 ghost use Rattle.sheet_reader.specs.Sealing.{is_white_kind, is_close_kind, is_closed_nesting, last_is, all_but_last, ends_sealed};
-ghost use Rattle.sheet_reader.specs.Sealing.{is_sealed};
+ghost use Rattle.sheet_reader.specs.Sealing.{is_sealed, is_sealed_prelude};
 
-use crate::brackets::{Nesting, nesting_of};
+use crate::brackets::{Nesting, Stop, nesting_of, until};
 use css_tokens::{Token, TokenKind, all_tokens};
 use std::alloc::{AllocError, Global};
 
@@ -63,4 +63,16 @@ pub fn sealed(alloc: Global, text: &str) -> Result<bool, AllocError>
     closed.push_str(" }")?;
     let pieces = all_tokens(alloc, closed.as_str())?;
     ends_sealed(alloc, pieces.as_slice())
+}
+
+/// Whether the text is sealed and has no `{` and no `;` outside brackets, so that it can be the prelude of an at-rule with a block.
+pub fn sealed_prelude(alloc: Global, text: &str) -> Result<bool, AllocError>
+    ensures { IfOk result (λ b. b ≡ is_sealed_prelude text.now) }
+{
+    if !sealed(alloc, text)? {
+        return Ok(false);
+    }
+    let pieces = all_tokens(alloc, text)?;
+    let n = until(alloc, Stop::BlockOrSemicolon, pieces.as_slice())?;
+    Ok(n == pieces.len())
 }

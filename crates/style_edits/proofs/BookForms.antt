@@ -1,7 +1,8 @@
 -- Entries that take each other's places in a book.
 use Rattle.std.proofs.Common.{eq-eqb, ◌≡◌, ℕ, Bool, true, false, cond, nat_eq, List, [], ◌∷◌, ◌++◌, All, Option, Some, None, refl, sym, ap}
-use Rattle.std.proofs.Common.{subst, ◌∙◌}
-use Rattle.std.specs.Prelude.{IsSome, option_to_list}
+use Rattle.std.proofs.Common.{subst, ◌∙◌, ◌||◌}
+use Rattle.std.specs.Prelude.{IsSome, IsSomeAnd, option_to_list}
+use Rattle.std.specs.List.{list_any}
 use Rattle.std.proofs.lemmas.Bool.{eqb-true}
 use Rattle.std.proofs.lemmas.List.Elements.{All-weaker, All-pop, All-push}
 use Rattle.sheet_reader.specs.declared.book.SheetEntry.{SheetEntry}
@@ -166,3 +167,83 @@ swap_there book next new old again s is =
 pub swap_back : (book next last : List SheetEntry) (new old again : SheetEntry) → IsSwap book next new old → again ≡ old
     → last ≡ book_changed again next → last ≡ book
 swap_back book next last new old again s is back = back ∙ (λ i. book_changed (is i) (s.is i)) ∙ changed_back old new book s.same s.there
+
+-- ---- a sheet that is kept already
+
+-- an entry in the place of one that took the place of another with its id
+changed_over : (old new : SheetEntry) (es : List SheetEntry) → new.id ≡ old.id → book_changed old (book_changed new es) ≡ book_changed old es
+changed_over old new [] same = refl
+changed_over old new (x ∷ es) same =
+    ap (λ (n : ℕ). book_changed old (cond (nat_eq n x.id) (new ∷ es) (x ∷ book_changed new es))) same ∙ by (nat_eq old.id x.id) refl
+    (changed_over old new es same)
+  where
+    by : (b : Bool) → nat_eq old.id x.id ≡ b → book_changed old (book_changed new es) ≡ book_changed old es
+        → book_changed old (cond b (new ∷ es) (x ∷ book_changed new es)) ≡ cond b (old ∷ es) (x ∷ book_changed old es)
+    by true is rest =
+        ap (λ (n : ℕ). cond (nat_eq old.id n) (old ∷ es) (new ∷ book_changed old es)) same
+        ∙ ap (λ (c : Bool). cond c (old ∷ es) (new ∷ book_changed old es)) (same_nat old.id)
+    by false is rest =
+        ap (λ (c : Bool). cond c (old ∷ book_changed new es) (x ∷ book_changed old (book_changed new es))) is ∙ ap
+        (λ (xs : List SheetEntry). x ∷ xs) rest
+
+-- two entries with different ids take their places in either order
+changed_apart : (a b : SheetEntry) (es : List SheetEntry) → nat_eq a.id b.id ≡ false
+    → book_changed a (book_changed b es) ≡ book_changed b (book_changed a es)
+changed_apart a b [] apart = refl
+changed_apart a b (x ∷ es) apart = by (nat_eq a.id x.id) (nat_eq b.id x.id) refl refl (changed_apart a b es apart)
+  where
+    by : (p q : Bool) → nat_eq a.id x.id ≡ p → nat_eq b.id x.id ≡ q → book_changed a (book_changed b es) ≡ book_changed b (book_changed a es)
+        → book_changed a (cond q (b ∷ es) (x ∷ book_changed b es)) ≡ book_changed b (cond p (a ∷ es) (x ∷ book_changed a es))
+    by true true ax bx rest =
+        let both : nat_eq a.id b.id ≡ true = eq-eqb a.id b.id (eqb-true a.id x.id ax ∙ sym (eqb-true b.id x.id bx)) in absurd (cc)
+    by true false ax bx rest =
+        let ba : nat_eq b.id a.id ≡ false = ap (nat_eq b.id) (eqb-true a.id x.id ax) ∙ bx in
+        ap (λ (c : Bool). cond c (a ∷ book_changed b es) (x ∷ book_changed a (book_changed b es))) ax
+        ∙ sym (ap (λ (c : Bool). cond c (b ∷ es) (a ∷ book_changed b es)) ba)
+    by false true ax bx rest =
+        ap (λ (c : Bool). cond c (a ∷ es) (b ∷ book_changed a es)) apart
+        ∙ sym (ap (λ (c : Bool). cond c (b ∷ book_changed a es) (x ∷ book_changed b (book_changed a es))) bx)
+    by false false ax bx rest =
+        ap (λ (c : Bool). cond c (a ∷ book_changed b es) (x ∷ book_changed a (book_changed b es))) ax
+        ∙ ap (λ (xs : List SheetEntry). x ∷ xs) rest
+        ∙ sym (ap (λ (c : Bool). cond c (b ∷ book_changed a es) (x ∷ book_changed b (book_changed a es))) bx)
+
+-- under an entry with its id, what was changed below does not show
+changed_under : (top new : SheetEntry) (olds book : List SheetEntry) → new.id ≡ top.id
+    → book_changed top (olds_restored olds (book_changed new book)) ≡ book_changed top (olds_restored olds book)
+changed_under top new [] book same = changed_over top new book same
+changed_under top new (o ∷ olds) book same = by (nat_eq top.id o.id) refl (changed_under top new olds book same)
+  where
+    by : (b : Bool) → nat_eq top.id o.id ≡ b
+        → book_changed top (olds_restored olds (book_changed new book)) ≡ book_changed top (olds_restored olds book)
+        → book_changed top (book_changed o (olds_restored olds (book_changed new book))) ≡ book_changed top (book_changed o (olds_restored olds book))
+    by true is rest =
+        let one : o.id ≡ top.id = sym (eqb-true top.id o.id is) in
+        changed_over top o (olds_restored olds (book_changed new book)) one ∙ rest ∙ sym (changed_over top o (olds_restored olds book) one)
+    by false is rest =
+        changed_apart top o (olds_restored olds (book_changed new book)) is ∙ ap (book_changed o) rest
+        ∙ sym (changed_apart top o (olds_restored olds book) is)
+
+-- where a sheet with the id is kept, another change of it is taken back with the first
+pub kept_restored : (new : SheetEntry) (book next olds : List SheetEntry) → list_any (λ old. nat_eq old.id new.id) olds ≡ true
+    → next ≡ book_changed new book → olds_restored olds next ≡ olds_restored olds book
+kept_restored new book next olds kept is = ap (olds_restored olds) is ∙ each olds kept
+  where
+    each : (olds : List SheetEntry) → list_any (λ old. nat_eq old.id new.id) olds ≡ true
+        → olds_restored olds (book_changed new book) ≡ olds_restored olds book
+    each [] none = absurd (cc)
+    each (o ∷ olds) some = by (nat_eq o.id new.id) refl some (each olds)
+      where
+        by : (b : Bool) → nat_eq o.id new.id ≡ b → (b || list_any (λ old. nat_eq old.id new.id) olds) ≡ true
+            → (list_any (λ old. nat_eq old.id new.id) olds ≡ true → olds_restored olds (book_changed new book) ≡ olds_restored olds book)
+            → book_changed o (olds_restored olds (book_changed new book)) ≡ book_changed o (olds_restored olds book)
+        by true same some more = changed_under o new olds book (sym (eqb-true o.id new.id same))
+        by false same some more = ap (book_changed o) (more some)
+
+-- the swap of a sheet with the one that the book has under its id
+pub swapped_there : (book next : List SheetEntry) (new old : SheetEntry) → IsSomeAnd (entry_of new.id book) IsEntry
+    → entry_of new.id book ≡ Some old → next ≡ book_changed new book → IsSwap book next new old
+swapped_there book next new old there found is =
+    let own : IsEntry old = subst (λ (o : Option SheetEntry). IsSomeAnd o IsEntry) found there in
+    let same : old.id ≡ new.id = entry_id new.id book old found in
+    swapped book next new old old own (entry_again new.id book old found) (sym same) found is

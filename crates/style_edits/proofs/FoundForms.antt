@@ -1,8 +1,14 @@
 -- What an edit finds can be made, and the splices that edits answer lead back.
 use Rattle.std.proofs.Common.{◌≡◌, ℕ, ◌≤◌, ◌^◌, nat_le, nat_eq, Bool, true, false, cond, List, [], ◌∷◌, ◌++◌, length, All, Option, Some}
-use Rattle.std.proofs.Common.{None, Ok, Err, refl, sym, ap, subst, ◌∙◌, arith}
+use Rattle.std.proofs.Common.{lit<, None, Ok, Err, refl, sym, ap, subst, ◌∙◌, arith}
 use Rattle.std.specs.Prelude.{IfSome, is_some, reverse}
 use Rattle.std.specs.Str.{IsUtf8}
+use Rattle.std.specs.List.{find}
+use Rattle.std.proofs.lemmas.Str.{IsUtf8-append, IsUtf8-nil, IsUtf8-from_ascii}
+use Rattle.std.proofs.lemmas.Str.Ascii.{IsAscii-cons, IsAscii-nil}
+use Rattle.css_tokens.specs.declared.token.Token.{Token}
+use Rattle.css_tokens.specs.Pieces.{pieces}
+use Rattle.selectors.specs.Words.{between}
 use Rattle.std.proofs.lemmas.Bool.Decides.{nat_tests}
 use Rattle.std.proofs.lemmas.List.{reverse-append}
 use Rattle.std.proofs.lemmas.List.Elements.{All-head, All-tail}
@@ -15,7 +21,7 @@ use Rattle.sheet_reader.specs.declared.book.SheetEntry.{SheetEntry}
 use Rattle.sheet_reader.specs.declared.lone.LoneRule.{LoneRule}
 use Rattle.sheet_reader.specs.declared.lone.LoneRule.TheVariants as lone
 use Rattle.sheet_reader.specs.Books.{IsStored, entry_of}
-use Rattle.sheet_reader.specs.Sealing.{is_sealed}
+use Rattle.sheet_reader.specs.Sealing.{is_sealed, is_sealed_prelude}
 use Rattle.sheet_reader.specs.Lone.{lone_rule}
 use Rattle.style_edits.specs.declared.edits.StyleEdit.{StyleEdit}
 use Rattle.style_edits.specs.declared.faults.SheetFault.{SheetFault}
@@ -27,8 +33,9 @@ use Rattle.style_edits.specs.Edits.{HasText, Found, EditsOutcome, splice_at, pla
 use Rattle.style_edits.specs.Edits.{selector_by, selector_in, whole_range, text_in, put_by, added_by, rule_in, mutable, client_by}
 use Rattle.style_edits.specs.Edits.{client_sheet, found_by, style_splice, selector_splice, text_splice, rule_splice, edited, with_back}
 use Rattle.style_edits.specs.Edits.{go_on, styles_edited}
+use Rattle.style_edits.specs.MediaEdits.{media_at, media_by, media_in, media_splice, takes_space, spaces_behind, spaces_by, spaces_at, ends_keyword}
 use Rattle.style_edits.proofs.BookForms.{entry_again}
-use Rattle.style_edits.proofs.LineForms.{body_range, prelude_range, place_range, whole_usable}
+use Rattle.style_edits.proofs.LineForms.{body_range, prelude_range, place_range, media_range, whole_usable}
 use Rattle.style_edits.proofs.SpliceForms.{leads_back, stored_after}
 
 no_splice : (f : SheetFault) (s : Splice) → ◌≡◌ {A = Found} (Err f) (Ok s) → ⊥
@@ -114,6 +121,28 @@ rule_takes lines text utf8 book e s found stored h =
     by lone.Dropped o r k = absurd (cc)
     by lone.Style o r k = put o r k
 
+-- what goes before the text is one or two spaces, or nothing
+spaces_utf8 : (text : List ℕ) (place : ℕ) → IsUtf8 (spaces_at text place)
+spaces_utf8 text place = by (find (ends_keyword place) (pieces text))
+  where
+    behind : (b : Bool) → IsUtf8 (cond b (32 ∷ 32 ∷ []) (32 ∷ []))
+    behind true = IsUtf8-from_ascii (32 ∷ 32 ∷ []) (IsAscii-cons 32 (32 ∷ []) (lit< tt) (IsAscii-cons 32 [] (lit< tt) IsAscii-nil))
+    behind false = IsUtf8-from_ascii (32 ∷ []) (IsAscii-cons 32 [] (lit< tt) IsAscii-nil)
+
+    by : (o : Option Token) → IsUtf8 (spaces_by text o)
+    by None = IsUtf8-nil
+    by (Some t) = behind (takes_space (between text t.start t.end))
+
+media_takes : (lines : LineRange) (text : List ℕ) → IsUtf8 text → Takes (media_in lines text)
+media_takes lines text utf8 book e s found stored h = by (media_at e.text lines)
+    (media_range e e.text lines (media_at e.text lines) refl stored.utf8 refl) h
+  where
+    by : (o : Option Range) → IfSome o (IsRangeOf e.text) → media_by text e o ≡ Ok s → TakesSplice s book
+    by None r k = absurd (cc)
+    by (Some part) r k = placed_takes book e part (spaces_at e.text part.start ++ text) s found stored r
+        (IsUtf8-append (spaces_at e.text part.start) text (spaces_utf8 e.text part.start) utf8)
+        (sealed_takes (is_sealed_prelude text) (placed_text e part (spaces_at e.text part.start ++ text)) BadText s k)
+
 -- and so what it finds in a book
 client_takes : (edit : SheetEntry → Found) (id : ℕ) (book : List SheetEntry) (s : Splice) → Takes edit → All IsStored book
     → found_by edit (client_sheet id book) ≡ Ok s → TakesSplice s book
@@ -142,6 +171,10 @@ text_found id text book s all utf8 h = client_takes (text_in text) id book s (te
 pub rule_found : (id : ℕ) (lines : LineRange) (text : List ℕ) (book : List SheetEntry) (s : Splice) → All IsStored book → IsUtf8 text
     → rule_splice id lines text book ≡ Ok s → TakesSplice s book
 rule_found id lines text book s all utf8 h = client_takes (rule_in lines text) id book s (rule_takes lines text utf8) all h
+
+pub media_splice_found : (id : ℕ) (lines : LineRange) (text : List ℕ) (book : List SheetEntry) (s : Splice) → All IsStored book
+    → IsUtf8 text → media_splice id lines text book ≡ Ok s → TakesSplice s book
+media_splice_found id lines text book s all utf8 h = client_takes (media_in lines text) id book s (media_takes lines text utf8) all h
 
 -- ---- edits one after the other
 

@@ -5,3 +5,4 @@ pub mod EditForms
 pub mod SpliceForms
 pub mod FoundForms
 pub mod RuleForms
+pub mod MediaForms

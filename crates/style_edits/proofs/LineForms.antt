@@ -1,5 +1,5 @@
 -- What stands at lines and columns: bytes on characters' edges are told apart by their positions.
-use Rattle.std.proofs.Common.{eq-eqb, ◌≡◌, ℕ, Bool, true, false, cond, ◌&&◌, nat_eq, List, [], ◌∷◌, map, All, Option, Some, None, refl, sym}
+use Rattle.std.proofs.Common.{eq-eqb, ◌≡◌, ℕ, Bool, true, false, cond, ◌&&◌, nat_eq, List, [], ◌∷◌, map, length, All, Option, Some, None, refl, sym}
 use Rattle.std.proofs.Common.{ap, subst, ◌∙◌, arith}
 use Rattle.std.specs.Prelude.{IfSome}
 use Rattle.std.specs.List.{find}
@@ -8,9 +8,10 @@ use Rattle.std.proofs.lemmas.Bool.{eqb-true}
 use Rattle.std.proofs.lemmas.List.Elements.{All-head, All-tail, All-map, All-weaker, All-nil, All-cons}
 use Rattle.std.proofs.lemmas.Str.{IsCharBoundary-start, IsCharBoundary-end}
 use Rattle.css_tokens.specs.declared.token.Range.{Range}
-use Rattle.selectors.specs.Ranges.{IsRangeOf}
+use Rattle.selectors.specs.Ranges.{IsRangeOf, AreBetween}
 use Rattle.sheet_reader.specs.declared.place.Position.{Position}
 use Rattle.sheet_reader.specs.declared.sheet.StyleRule.{StyleRule}
+use Rattle.sheet_reader.specs.declared.sheet.MediaRule.{MediaRule}
 use Rattle.sheet_reader.specs.declared.sheet.Sheet.{Sheet}
 use Rattle.sheet_reader.specs.declared.book.SheetEntry.{SheetEntry}
 use Rattle.sheet_reader.specs.Books.{IsEntry}
@@ -23,6 +24,7 @@ use Rattle.sheet_reader.proofs.UsableForms.{sheet_usable}
 use Rattle.style_edits.specs.declared.lines.LineRange.{LineRange}
 use Rattle.style_edits.specs.Drafts.{IsAt, is_same_range}
 use Rattle.style_edits.specs.Edits.{is_position, is_at, body_at, prelude_at, place_at, whole_range}
+use Rattle.style_edits.specs.MediaEdits.{media_at}
 
 same_nat : (n : ℕ) → nat_eq n n ≡ true
 same_nat n = eq-eqb n n refl
@@ -126,6 +128,9 @@ bodies rs = map (λ r. r.body) rs
 abbrev pub preludes : List RuleForm → List Range
 preludes rs = map (λ r. r.prelude) rs
 
+abbrev pub media_preludes : List MediaRule → List Range
+media_preludes ms = map (λ m. m.prelude) ms
+
 abbrev pub empties : List ℕ → List Range
 empties ps = map (λ p. range p p) ps
 
@@ -167,6 +172,13 @@ seen_bodies (r ∷ rules) = ap (λ (rs : List Range). r.body ∷ rs) (seen_bodie
 seen_preludes : (rules : List StyleRule) → map (λ r. r.prelude) rules ≡ preludes (map rule_seen rules)
 seen_preludes [] = refl
 seen_preludes (r ∷ rules) = ap (λ (rs : List Range). r.prelude ∷ rs) (seen_preludes rules)
+
+between_each : (text : List ℕ) (from to : ℕ) (rs : List Range) → AreBetween text from to rs → All (IsRangeOf text) rs
+between_each text from to [] between = All-nil (IsRangeOf text)
+between_each text from to (r ∷ rs) between = All-cons (IsRangeOf text) r rs between.1 (between_each text r.end to rs between.2)
+
+pub media_usable : (text : List ℕ) → IsUtf8 text → All (IsRangeOf text) (media_preludes (sheet_of text).media)
+media_usable text utf8 = between_each text 0 (length text) (media_preludes (sheet_of text).media) (sheet_usable text utf8).media
 
 -- ---- what the code finds in an entry
 
@@ -253,3 +265,27 @@ whole_usable text same r is utf8 e =
       back = IsCharBoundary-end same;
     } in
     subst (λ (x : Range). IsRangeOf text x) (sym e) (subst (λ (t : List ℕ). IsRangeOf t (whole_range same)) is own)
+
+-- ---- the preludes of media rules
+
+pub media_found : (e : SheetEntry) (text : List ℕ) (lines : LineRange) (wanted : Range) (media : List MediaRule) → IsEntry e → text ≡ e.text
+    → IsUtf8 text → IsAt text lines wanted → media ≡ e.reading.media
+    → find (is_same_range wanted) (map (λ m. m.prelude) media) ≡ media_at e.text lines
+media_found e text lines wanted media own is utf8 at seen =
+    let read = ap (λ (x : Sheet). x.media) own.read in
+    ap (λ (ms : List MediaRule). find (is_same_range wanted) (media_preludes ms)) (seen ∙ read)
+    ∙ found_at e.text lines wanted (media_preludes (sheet_of e.text).media)
+    (subst (λ (t : List ℕ). IsAt t lines wanted) is at)
+    (all_cut e.text (media_preludes (sheet_of e.text).media) (media_usable e.text (subst IsUtf8 is utf8)))
+
+pub media_none : (e : SheetEntry) (text : List ℕ) (lines : LineRange) → text ≡ e.text → IsUtf8 text → NoneThere text lines
+    → None ≡ media_at e.text lines
+unfolding NoneThere
+media_none e text lines is utf8 none =
+    none_at e.text lines (media_preludes (sheet_of e.text).media) (subst (λ (t : List ℕ). NoneThere t lines) is none)
+    (all_cut e.text (media_preludes (sheet_of e.text).media) (media_usable e.text (subst IsUtf8 is utf8)))
+
+pub media_range : (e : SheetEntry) (text : List ℕ) (lines : LineRange) (o : Option Range) → text ≡ e.text → IsUtf8 text
+    → o ≡ media_at e.text lines → IfSome o (IsRangeOf e.text)
+media_range e text lines o is utf8 found = found_range e.text lines (media_preludes (sheet_of e.text).media) o found
+    (media_usable e.text (subst IsUtf8 is utf8))

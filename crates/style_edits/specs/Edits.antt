@@ -4,6 +4,7 @@ use Rattle.std.specs.Prelude.{◌≡◌, ℕ, ◌^◌, nat_le, nat_lt, Bool, ◌
 use Rattle.std.specs.Prelude.{None, is_some, Result, Ok, Err, if◌then◌else◌}
 use Rattle.std.specs.List.{find}
 use Rattle.std.specs.Str.{IsUtf8}
+use Rattle.node_tree.specs.Numbers.{max_sheet_bytes, max_sheets}
 use Rattle.css_tokens.specs.declared.token.Range.{Range}
 use Rattle.selectors.specs.Reading.{selectors_of}
 use Rattle.sheet_reader.specs.declared.book.Origin.{Origin}
@@ -64,7 +65,7 @@ splice_at e part text = record { sheet = e.id; start = part.start; end = part.en
 -- a text in the place of a part of a sheet, unless that makes the sheet's text too long
 abbrev pub placed_text : SheetEntry → Range → List ℕ → Found
 placed_text e part text =
-    if nat_le (length (spliced e.text part.start part.end text)) (2 ^ 24) then Ok (splice_at e part text) else Err TooBig
+    if nat_le (length (spliced e.text part.start part.end text)) max_sheet_bytes then Ok (splice_at e part text) else Err TooBig
 
 -- the edit's text in the place of the body that was found, if there is one and the text is sealed
 abbrev pub style_by : StyleEdit → SheetEntry → Option Range → Found
@@ -187,7 +188,7 @@ LeadBack xs =
 
 -- a text of more than 2^24 bytes, or a sheet above 1,000
 abbrev pub is_too_big : List ℕ → List SheetEntry → Bool
-is_too_big text book = nat_lt (2 ^ 24) (length text) || nat_le 1000 (length book)
+is_too_big text book = nat_lt max_sheet_bytes (length text) || nat_le max_sheets (length book)
 
 -- a sheet with this id, origin and text, and what the text says
 abbrev pub new_sheet : ℕ → Origin → List ℕ → SheetEntry

@@ -2,3 +2,4 @@ pub mod Splices
 pub mod Edits
 pub mod Drafts
 pub mod EditedRules
+pub mod MediaEdits

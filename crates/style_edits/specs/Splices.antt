@@ -1,6 +1,7 @@
 -- A splice of the text of one sheet of a book: where it leads, and the splice that leads back.
 use Rattle.std.specs.Prelude.{◌≡◌, ℕ, ◌+◌, ◌^◌, ◌≤◌, List, [], ◌∷◌, ◌++◌, length, take, drop, slice_range, Option, Some, None, IsSomeAnd}
 use Rattle.std.specs.Str.{IsUtf8}
+use Rattle.node_tree.specs.Numbers.{max_sheet_bytes}
 use Rattle.selectors.specs.Ranges.{IsRangeOf}
 use Rattle.sheet_reader.specs.declared.book.SheetEntry.{SheetEntry}
 use Rattle.sheet_reader.specs.Forms.{range}
@@ -50,7 +51,7 @@ after_splices (s ∷ ss) book = after_splices ss (after_splice s book)
 -- the bytes can be cut out of the sheet's text, and the text that the splice makes has at most 2^24 bytes
 pub record FitsIn (s : Splice) (e : SheetEntry) : Type 0 where
   pub is : IsRangeOf e.text (range s.start s.end)
-  pub short : length (spliced e.text s.start s.end s.text) ≤ 2 ^ 24
+  pub short : length (spliced e.text s.start s.end s.text) ≤ max_sheet_bytes
 
 -- the sheet is in the book, and the splice fits in it
 abbrev pub FitsSplice : Splice → List SheetEntry → Type 0

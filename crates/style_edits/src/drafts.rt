@@ -3,6 +3,7 @@
 ghost use Rattle.std.specs.Prelude.{◌≡◌, ◌≤◌, ◌^◌, length, IfOk, IsSome, string_bytes};
 ghost use Rattle.std.specs.Prelude.{nat_le};
 ghost use Rattle.std.specs.Str.{IsCharBoundary};
+ghost use Rattle.node_tree.specs.Numbers.{max_sheet_bytes};
 ghost use Rattle.selectors.specs.Ranges.{IsRangeOf};
 ghost use Rattle.sheet_reader.specs.Books.{IsEntry, entry_of, book_changed};
 ghost use Rattle.style_edits.specs.Splices.{spliced, spliced_entry, back_in};
@@ -12,12 +13,9 @@ ghost use Rattle.style_edits.specs.Drafts.{Drafts};
 use crate::faults::{SheetErr, SheetFault};
 use crate::splice::Splice;
 use css_tokens::Range;
-use node_tree::Text;
+use node_tree::{MAX_SHEET_BYTES, Text};
 use sheet_reader::{SheetBook, SheetEntry, read_sheet};
 use std::alloc::{AllocError, Global};
-
-/// The most bytes that the text of a sheet has.
-pub(crate) const MOST_BYTES: usize = 16_777_216;
 
 /// The sheet, and the splice that leads back.
 #[derive(Drop)]
@@ -48,10 +46,10 @@ fn spliced(
 /// Whether the text has at most 2^24 bytes with a new part in the place of another.
 pub(crate) fn is_short(text: &str, part: Range, new: &str) -> bool
     requires { IsRangeOf text.now part }
-    ensures { result ≡ nat_le (length (spliced text.now part.start part.end new.now)) (2 ^ 24) }
+    ensures { result ≡ nat_le (length (spliced text.now part.start part.end new.now)) max_sheet_bytes }
 {
     let kept = text.len() - (part.end - part.start);
-    new.len() <= MOST_BYTES && kept + new.len() <= MOST_BYTES
+    new.len() <= MAX_SHEET_BYTES && kept + new.len() <= MAX_SHEET_BYTES
 }
 
 /// The sheet with a new part in the place of another, where its text stays short enough.
@@ -63,7 +61,7 @@ pub(crate) fn drafted(
 ) -> Result<Draft, AllocError>
     requires entry { IsEntry entry.now }
     requires part { IsRangeOf entry.now.text part }
-    requires short { length (spliced entry.now.text part.start part.end new.now) ≤ 2 ^ 24 }
+    requires short { length (spliced entry.now.text part.start part.end new.now) ≤ max_sheet_bytes }
     ensures entry { IfOk result (λ d. d.entry ≡ spliced_entry (splice_at entry.now part new.now) entry.now) }
     ensures back { IfOk result (λ d. d.back ≡ back_in (splice_at entry.now part new.now) entry.now) }
     ensures whole { IfOk result (λ d. IsEntry d.entry) }

@@ -1,7 +1,8 @@
 //! A client's edits of sheets.
 
-ghost use Rattle.std.specs.Prelude.{◌≡◌, All, ◌++◌, ◌∷◌, [], Ok, Err, Some, IfOk, OnOk, OnErr, MatchResult};
-ghost use Rattle.sheet_reader.specs.Books.{IsEntry, entry_of};
+ghost use Rattle.std.specs.Prelude.{◌≡◌, ◌==◌, All, ◌++◌, ◌∷◌, [], Ok, Err, Some, IsSomeAnd, IfOk, OnOk, OnErr, MatchResult};
+ghost use Rattle.std.specs.List.{list_any};
+ghost use Rattle.sheet_reader.specs.Books.{IsEntry, entry_of, book_changed};
 ghost use Rattle.style_edits.specs.Edits.{style_in, selector_in, text_in, rule_in, client_sheet, style_splice, selector_splice};
 ghost use Rattle.style_edits.specs.Edits.{text_splice, rule_splice, edited, styles_edited, IfFault, whole_range};
 ghost use Rattle.style_edits.specs.Drafts.{Drafts, IsOld, olds_restored, with_backs};
@@ -27,7 +28,7 @@ pub struct StyleEdit {
 }
 
 /// The sheet that a client may edit.
-fn client_sheet(book: &SheetBook, id: u64) -> Result<&SheetEntry, SheetFault>
+pub(crate) fn client_sheet(book: &SheetBook, id: u64) -> Result<&SheetEntry, SheetFault>
     ensures found { MatchResult result (λ e. client_sheet id book.now ≡ Ok e.now) (λ f. client_sheet id book.now ≡ Err f) }
     ensures entry { IfOk result (λ e. IsEntry e.now) }
     ensures there { IfOk result (λ e. entry_of e.now.id book.now ≡ Some e.now) }
@@ -139,11 +140,42 @@ fn set_style(
         Ok(draft) => draft,
         Err(stop) => return Err(stop),
     };
-    match olds.push(book.change(draft.entry)) {
+    match change_keeping(book, draft.entry, olds) {
         Ok(()) => Ok(draft.back),
+        Err(_) => Err(SheetErr::Memory),
+    }
+}
+
+/// Whether a sheet with this id is among those that are kept.
+fn is_kept(olds: &[SheetEntry], id: u64) -> bool
+    ensures { result ≡ list_any (λ old. old.id == id) olds.now }
+{
+    olds.iter().any(|old| old.id == id)
+}
+
+/// Puts a sheet in the place of the one with its id, which is kept as it was before the first change.
+fn change_keeping(
+    book: &mut SheetBook,
+    entry: SheetEntry,
+    olds: &mut Vec<SheetEntry>,
+) -> Result<(), AllocError>
+    requires entry { IsEntry entry }
+    requires there { IsSomeAnd (entry_of entry.id book.old) IsEntry }
+    requires olds { All (IsOld book.old) olds.old.items }
+    ensures changed { OnOk result (book.new ≡ book_changed entry book.old) }
+    ensures olds { All (IsOld book.new) olds.new.items }
+    ensures same { olds_restored olds.new.items book.new ≡ olds_restored olds.old.items book.old }
+{
+    let is_kept = is_kept(olds.as_slice(), entry.id);
+    let old = book.change(entry);
+    if is_kept {
+        return Ok(());
+    }
+    match olds.push(old) {
+        Ok(()) => Ok(()),
         Err(failed) => {
             book.change(failed.value);
-            Err(SheetErr::Memory)
+            Err(AllocError)
         }
     }
 }

@@ -10,10 +10,10 @@ pub enum SheetFault {
     /// A client may not edit a sheet of the user agent.
     #[error("the sheet is the user agent's")]
     NotMutable,
-    /// No style rule has its body, or its prelude, at the lines and columns.
-    #[error("no style rule has this range")]
+    /// No style rule has its body, or its prelude, at the lines and columns, or no media rule its prelude.
+    #[error("no rule has this range")]
     BadRange,
-    /// The text is not sealed, or where a rule is wanted not one rule.
+    /// The text is not sealed, or where a rule is wanted not one rule, or has a `{` or `;` where a prelude is wanted.
     #[error("the text does not stand for itself")]
     BadText,
     /// The text, or the rule's prelude, is no selector list.

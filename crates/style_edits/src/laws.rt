@@ -8,6 +8,7 @@ ghost use Rattle.style_edits.specs.declared.lines.LineRange.{LineRange};
 ghost use Rattle.style_edits.specs.declared.splice.Splice.{Splice};
 ghost use Rattle.style_edits.specs.Splices.{TakesSplice, FitsSplice, after_splice, back_splice};
 ghost use Rattle.style_edits.specs.Edits.{HasText, FindsSplices, LeadBack, style_splice, selector_splice, text_splice, rule_splice};
+ghost use Rattle.style_edits.specs.MediaEdits.{media_splice};
 
 /// A splice that can be made in a book can be taken back: the splice that leads back can be made in the book that it leaves,
 /// leads to the book before it, and is itself taken back by the splice again.
@@ -28,5 +29,6 @@ pub fn edits_law()
     ensures selector { (id : ℕ) (lines : LineRange) (text : List ℕ) → IsUtf8 text → FindsSplices (selector_splice id lines text) }
     ensures text { (id : ℕ) (text : List ℕ) → IsUtf8 text → FindsSplices (text_splice id text) }
     ensures rule { (id : ℕ) (lines : LineRange) (text : List ℕ) → IsUtf8 text → FindsSplices (rule_splice id lines text) }
+    ensures media { (id : ℕ) (lines : LineRange) (text : List ℕ) → IsUtf8 text → FindsSplices (media_splice id lines text) }
     ensures lead_back { (xs : List StyleEdit) → All HasText xs → LeadBack xs }
 {}

@@ -18,6 +18,7 @@ mod edits;
 mod faults;
 mod laws;
 mod lines;
+mod media_edits;
 mod rule_places;
 mod sheets;
 mod splice;
@@ -26,6 +27,7 @@ pub use edits::{StyleEdit, add_rule, set_selector, set_styles, set_styles_noting
 pub use faults::{SheetErr, SheetFault};
 pub use laws::{edits_law, splice_law};
 pub use lines::LineRange;
+pub use media_edits::set_media;
 pub use rule_places::{RulePlace, edited_rule};
 pub use sheets::{add_sheet, drop_sheet};
 pub use splice::{Splice, put_back};

@@ -9,9 +9,10 @@ ghost use Rattle.sheet_reader.specs.Forms.{range};
 ghost use Rattle.sheet_reader.specs.Books.{IsEntry};
 ghost use Rattle.style_edits.specs.Drafts.{IsAt, is_same_range};
 ghost use Rattle.style_edits.specs.Edits.{is_at, body_at, prelude_at, place_at};
+ghost use Rattle.style_edits.specs.MediaEdits.{media_at};
 
 use css_tokens::Range;
-use sheet_reader::{SheetEntry, StyleRule, byte_at};
+use sheet_reader::{MediaRule, SheetEntry, StyleRule, byte_at};
 
 /// A part of a text: from one line and column up to another, all from 0. A column counts UTF-16 units.
 #[derive(Clone, Copy)]
@@ -54,6 +55,16 @@ fn prelude_among(rules: &[StyleRule], wanted: Range) -> Option<Range>
     ensures { result ≡ find (is_same_range wanted) (map (λ r. r.prelude) rules.now) }
 {
     rules
+        .iter()
+        .map(|rule| rule.prelude)
+        .find(|prelude| is_same(wanted, *prelude))
+}
+
+/// The range, if a media rule has its prelude there.
+fn media_among(media: &[MediaRule], wanted: Range) -> Option<Range>
+    ensures { result ≡ find (is_same_range wanted) (map (λ m. m.prelude) media.now) }
+{
+    media
         .iter()
         .map(|rule| rule.prelude)
         .find(|prelude| is_same(wanted, *prelude))
@@ -112,4 +123,16 @@ pub(crate) fn place_at(entry: &SheetEntry, lines: LineRange) -> Option<Range>
         return None;
     };
     place_among(entry.reading.places.as_slice(), wanted)
+}
+
+/// The prelude of a media rule with these lines and columns.
+pub(crate) fn media_at(entry: &SheetEntry, lines: LineRange) -> Option<Range>
+    requires { IsEntry entry.now }
+    ensures value { result ≡ media_at entry.now.text lines }
+    ensures range { IfSome result (IsRangeOf entry.now.text) }
+{
+    let Some(wanted) = bytes_at(entry.text.as_str(), lines) else {
+        return None;
+    };
+    media_among(entry.reading.media.as_slice(), wanted)
 }

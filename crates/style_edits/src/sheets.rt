@@ -1,29 +1,26 @@
 //! Sheets that come and go.
 
-ghost use Rattle.std.specs.Prelude.{◌≡◌, ◌<◌, ◌^◌, ◌++◌, ◌∷◌, [], None, true, false, OnOk, OnErr, IfErr, IsSome};
+ghost use Rattle.std.specs.Prelude.{◌≡◌, ◌<◌, ◌++◌, ◌∷◌, [], None, true, false, OnOk, OnErr, IfErr, IsSome};
+ghost use Rattle.node_tree.specs.Numbers.{counted_limit};
 ghost use Rattle.sheet_reader.specs.Books.{entry_of, removed};
 ghost use Rattle.style_edits.specs.declared.faults.SheetFault.TheVariants.{NoSheet, TooBig};
 ghost use Rattle.style_edits.specs.Edits.{is_too_big, new_sheet, IfFault};
 
-use crate::drafts::MOST_BYTES;
 use crate::faults::{SheetErr, SheetFault};
-use node_tree::Text;
+use node_tree::{MAX_SHEET_BYTES, MAX_SHEETS, Text};
 use sheet_reader::{Origin, SheetBook, SheetEntry, read_sheet};
 use std::alloc::{AllocError, Global};
-
-/// The most sheets that a book has.
-const MOST_SHEETS: usize = 1000;
 
 fn is_too_big(book: &SheetBook, text: &str) -> bool
     ensures { result ≡ is_too_big text.now book.now }
 {
-    text.len() > MOST_BYTES || book.len() >= MOST_SHEETS
+    text.len() > MAX_SHEET_BYTES || book.len() >= MAX_SHEETS
 }
 
 /// Puts a new sheet last. On an error the book is as it was.
 pub fn add_sheet(book: &mut SheetBook, id: u64, origin: Origin, text: &str) -> Result<(), SheetErr>
     requires some { 0 < id }
-    requires id { id < 2 ^ 53 }
+    requires id { id < counted_limit }
     requires new { entry_of id book.old ≡ None }
     ensures last { OnOk result (book.new ≡ book.old ++ new_sheet id origin text.now ∷ []) }
     ensures fits { OnOk result (is_too_big text.now book.old ≡ false) }

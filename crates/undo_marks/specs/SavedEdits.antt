@@ -1,6 +1,7 @@
 -- What an edit makes of a saved page, the edit that leads back, and which edits a saved page takes.
 use Rattle.std.specs.Prelude.{◌≡◌, ℕ, ◌+◌, ◌^◌, ◌<◌, ◌≤◌, ◌==◌, List, [], ◌∷◌, length, map, slice_range, Option, Some, None, if◌then◌else◌}
 use Rattle.std.specs.Str.{IsUtf8}
+use Rattle.node_tree.specs.Numbers.{counted_limit, max_sheet_bytes}
 use Rattle.node_tree.specs.Nodes.{Branch}
 use Rattle.page_tree.specs.Pages.{PageRow, IsValid}
 use Rattle.page_tree.specs.Edits.{after_tree, back_tree}
@@ -52,9 +53,9 @@ splice_back s (x ∷ xs) =
 -- a sheet as a page has it: its number is from 1 to 2^53 - 1, and its text is UTF-8 of at most 2^24 bytes
 pub record IsSavedSheet (x : SavedSheet) : Type 0 where
   pub some : 0 < x.number
-  pub below : x.number < 2 ^ 53
+  pub below : x.number < counted_limit
   pub utf8 : IsUtf8 x.text
-  pub short : length x.text ≤ 2 ^ 24
+  pub short : length x.text ≤ max_sheet_bytes
 
 -- a sheet has the splice's number; the splice's bytes can be cut out of its text, the text in their place is UTF-8, and the
 -- whole has at most 2^24 bytes then
@@ -63,7 +64,7 @@ pub record TakesSheet (s : Splice) (sheets : List SavedSheet) : Type 0 where
   pub found : sheet_at s.sheet sheets ≡ Some sheet
   pub saved : IsSavedSheet sheet
   pub is : IsRangeOf sheet.text (range s.start s.end)
-  pub short : length (spliced sheet.text s.start s.end s.text) ≤ 2 ^ 24
+  pub short : length (spliced sheet.text s.start s.end s.text) ≤ max_sheet_bytes
   pub text : IsUtf8 s.text
 
 -- a page of that tree and that next serial is valid, and takes the edit

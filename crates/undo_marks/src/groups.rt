@@ -1,4 +1,5 @@
 ghost use Rattle.std.specs.Prelude.{◌≡◌, ◌+◌, ◌<◌, ◌^◌, [], ◌∷◌, length, option_map, OnOk, OnErr};
+ghost use Rattle.node_tree.specs.Numbers.{memory_limit, kept_before_group};
 ghost use Rattle.undo_marks.specs.Marks.{entry_count, newest, older, onto_newest};
 
 use crate::inverse_lists::Inverse;
@@ -27,7 +28,7 @@ impl Model for Groups {
 
     ghost view = { λ g. groups_in g.groups.items };
 
-    ghost invariant = { λ g. (g.count ≡ entry_count (groups_in g.groups.items)) × (g.count < 2 ^ 63) };
+    ghost invariant = { λ g. (g.count ≡ entry_count (groups_in g.groups.items)) × (g.count < memory_limit) };
 }
 
 impl Groups {
@@ -45,14 +46,14 @@ impl Groups {
     /// How many edits the groups have.
     pub fn count(&self) -> u64
         ensures value { result ≡ entry_count self.now }
-        ensures fits { result < 2 ^ 63 }
+        ensures fits { result < memory_limit }
     {
         self.count
     }
 
     /// Puts a group on top.
     pub fn push(&mut self, group: Vec<Inverse>) -> Result<(), AllocError>
-        requires room { entry_count self.old + length group.items < 2 ^ 63 }
+        requires room { entry_count self.old + length group.items < memory_limit }
         ensures ok { OnOk result (self.new ≡ group.items ∷ self.old) }
         ensures err { OnErr result (self.new ≡ self.old) }
     {
@@ -64,7 +65,7 @@ impl Groups {
 
     /// Puts a group of one edit on top.
     pub fn start(&mut self, inverse: Inverse) -> Result<(), AllocError>
-        requires room { entry_count self.old < 2 ^ 62 }
+        requires room { entry_count self.old < kept_before_group }
         ensures ok { OnOk result (self.new ≡ (inverse ∷ []) ∷ self.old) }
         ensures err { OnErr result (self.new ≡ self.old) }
     {
@@ -75,7 +76,7 @@ impl Groups {
 
     /// Puts the edit last into the newest group, or into a first one.
     pub fn join(&mut self, inverse: Inverse) -> Result<(), AllocError>
-        requires room { entry_count self.old < 2 ^ 62 }
+        requires room { entry_count self.old < kept_before_group }
         ensures ok { OnOk result (self.new ≡ onto_newest (inverse ∷ []) self.old) }
         ensures err { OnErr result (self.new ≡ self.old) }
     {

@@ -45,8 +45,8 @@ returns-in-Ok-clause-refused g c =
     let up = g.L.Link.up c.args.link.now in
     let down = g.L.Link.down c.args.link.now in
     let page = loaded_page c.args.form in
-    let start = run-first up down page (length c.args.lines) c.in_ok-ends.ends (g.L.Link.within_up c.args.link.now)
-    (g.L.Link.within_down c.args.link.now) c.requires.can c.requires.texts c.requires.few
+    let start = run-first up down page (length c.args.lines) c.in_ok-ends.ends (g.met.L.Link.within_up c.args.link.now)
+    (g.met.L.Link.within_down c.args.link.now) c.requires.can c.requires.texts c.requires.few
     c.in_ok-ends.ensures in
     let ran = c.in-Ok.ensures {u = c.in-Ok.field-0} in
     let carried = (ran.follows (loaded_state page) up down start).0 in
@@ -58,8 +58,8 @@ returns-in-Ok-clause-closes g c =
     let up = g.L.Link.up c.args.link.now in
     let down = g.L.Link.down c.args.link.now in
     let page = loaded_page c.args.form in
-    let start = run-first up down page (length c.args.lines) c.in_ok-ends.ends (g.L.Link.within_up c.args.link.now)
-    (g.L.Link.within_down c.args.link.now) c.requires.can c.requires.texts c.requires.few
+    let start = run-first up down page (length c.args.lines) c.in_ok-ends.ends (g.met.L.Link.within_up c.args.link.now)
+    (g.met.L.Link.within_down c.args.link.now) c.requires.can c.requires.texts c.requires.few
     c.in_ok-ends.ensures in
     let ran = c.in-Ok.ensures {u = c.in-Ok.field-0} in
     let carried = (ran.follows (loaded_state page) up down start).0 in
@@ -73,8 +73,8 @@ returns-in-Ok-clause-replies g c =
     let up = g.L.Link.up c.args.link.now in
     let down = g.L.Link.down c.args.link.now in
     let page = loaded_page c.args.form in
-    let start = run-first up down page (length c.args.lines) c.in_ok-ends.ends (g.L.Link.within_up c.args.link.now)
-    (g.L.Link.within_down c.args.link.now) c.requires.can c.requires.texts c.requires.few
+    let start = run-first up down page (length c.args.lines) c.in_ok-ends.ends (g.met.L.Link.within_up c.args.link.now)
+    (g.met.L.Link.within_down c.args.link.now) c.requires.can c.requires.texts c.requires.few
     c.in_ok-ends.ensures in
     let ran = c.in-Ok.ensures {u = c.in-Ok.field-0} in
     let carried = (ran.follows (loaded_state page) up down start).0 in
@@ -88,8 +88,8 @@ returns-clause-refused g c =
     let up = g.L.Link.up c.args.link.now in
     let down = g.L.Link.down c.args.link.now in
     let page = loaded_page c.args.form in
-    let start = run-first up down page (length c.args.lines) c.in_ok-ends.ends (g.L.Link.within_up c.args.link.now)
-    (g.L.Link.within_down c.args.link.now) c.requires.can c.requires.texts c.requires.few
+    let start = run-first up down page (length c.args.lines) c.in_ok-ends.ends (g.met.L.Link.within_up c.args.link.now)
+    (g.met.L.Link.within_down c.args.link.now) c.requires.can c.requires.texts c.requires.few
     c.in_ok-ends.ensures in
     ((c.in-Err.ensures {u = tt}).follows (loaded_state page) up down start).1
 
@@ -98,8 +98,8 @@ returns-in-Ok-clause-tells g c =
     let up = g.L.Link.up c.args.link.now in
     let down = g.L.Link.down c.args.link.now in
     let page = loaded_page c.args.form in
-    let start = run-first up down page (length c.args.lines) c.in_ok-ends.ends (g.L.Link.within_up c.args.link.now)
-    (g.L.Link.within_down c.args.link.now) c.requires.can c.requires.texts c.requires.few
+    let start = run-first up down page (length c.args.lines) c.in_ok-ends.ends (g.met.L.Link.within_up c.args.link.now)
+    (g.met.L.Link.within_down c.args.link.now) c.requires.can c.requires.texts c.requires.few
     c.in_ok-ends.ensures in
     let ran = c.in-Ok.ensures {u = c.in-Ok.field-0} in
     let carried = (ran.follows (loaded_state page) up down start).0 in
@@ -111,8 +111,8 @@ returns-clause-tells g c =
     let up = g.L.Link.up c.args.link.now in
     let down = g.L.Link.down c.args.link.now in
     let page = loaded_page c.args.form in
-    let start = run-first up down page (length c.args.lines) c.in_ok-ends.ends (g.L.Link.within_up c.args.link.now)
-    (g.L.Link.within_down c.args.link.now) c.requires.can c.requires.texts c.requires.few
+    let start = run-first up down page (length c.args.lines) c.in_ok-ends.ends (g.met.L.Link.within_up c.args.link.now)
+    (g.met.L.Link.within_down c.args.link.now) c.requires.can c.requires.texts c.requires.few
     c.in_ok-ends.ensures in
     ((c.in-Err.ensures {u = tt}).follows (loaded_state page) up down start).2
 

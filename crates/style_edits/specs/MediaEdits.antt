@@ -1,0 +1,59 @@
+-- What a client's edit of the prelude of a media rule comes to.
+use Rattle.std.specs.Prelude.{ℕ, ◌==◌, Bool, true, false, ◌&&◌, List, [], ◌∷◌, ◌++◌, map, length, Option, Some, None, Err}
+use Rattle.std.specs.Prelude.{if◌then◌else◌}
+use Rattle.std.specs.List.{find}
+use Rattle.css_tokens.specs.declared.token.Range.{Range}
+use Rattle.css_tokens.specs.declared.token.Token.{Token}
+use Rattle.css_tokens.specs.declared.token.TokenKind.{TokenKind}
+use Rattle.css_tokens.specs.declared.token.TokenKind.TheVariants.{AtKeyword}
+use Rattle.css_tokens.specs.Pieces.{pieces}
+use Rattle.selectors.specs.Words.{between}
+use Rattle.sheet_reader.specs.declared.book.SheetEntry.{SheetEntry}
+use Rattle.sheet_reader.specs.Sheets.{sheet_of}
+use Rattle.sheet_reader.specs.Sealing.{is_sealed_prelude}
+use Rattle.style_edits.specs.declared.faults.SheetFault.TheVariants.{BadRange, BadText}
+use Rattle.style_edits.specs.declared.lines.LineRange.{LineRange}
+use Rattle.style_edits.specs.Edits.{Found, is_at, placed_text, client_sheet, found_by}
+
+-- the prelude of a media rule with these lines and columns
+abbrev pub media_at : List ℕ → LineRange → Option Range
+media_at text lines = find (is_at text lines) (map (λ m. m.prelude) (sheet_of text).media)
+
+-- an at-keyword
+abbrev pub is_keyword_kind : TokenKind → Bool
+is_keyword_kind AtKeyword = true
+is_keyword_kind _ = false
+
+-- an at-keyword that ends at this place
+abbrev pub ends_keyword : ℕ → Token → Bool
+ends_keyword place t = is_keyword_kind t.kind && t.end == place
+
+-- a space right behind the keyword is one piece with it: it ends in the hex digits of an escape
+abbrev pub takes_space : List ℕ → Bool
+takes_space keyword = length (pieces (keyword ++ 32 ∷ [])) == 1
+
+-- between a keyword and what comes right behind it: a space, and before it one that the keyword takes, if it takes one
+abbrev pub spaces_behind : List ℕ → List ℕ
+spaces_behind keyword = if takes_space keyword then 32 ∷ 32 ∷ [] else 32 ∷ []
+
+-- the same behind the at-keyword that was found, and nothing where there is none
+abbrev pub spaces_by : List ℕ → Option Token → List ℕ
+spaces_by text None = []
+spaces_by text (Some t) = spaces_behind (between text t.start t.end)
+
+-- what goes before a text that is put at this place: nothing, unless an at-keyword ends there
+abbrev pub spaces_at : List ℕ → ℕ → List ℕ
+spaces_at text place = spaces_by text (find (ends_keyword place) (pieces text))
+
+-- a text in the place of the prelude that was found, if there is one and the text can be a prelude
+abbrev pub media_by : List ℕ → SheetEntry → Option Range → Found
+media_by text e None = Err BadRange
+media_by text e (Some part) = if is_sealed_prelude text then placed_text e part (spaces_at e.text part.start ++ text) else Err BadText
+
+-- the prelude of a media rule becomes a text that is sealed and has no `{` or `;` outside brackets
+abbrev pub media_in : LineRange → List ℕ → SheetEntry → Found
+media_in lines text e = media_by text e (media_at e.text lines)
+
+-- what an edit of a media rule's prelude comes to in a book
+abbrev pub media_splice : ℕ → LineRange → List ℕ → List SheetEntry → Found
+media_splice id lines text book = found_by (media_in lines text) (client_sheet id book)
