@@ -9,6 +9,3 @@ pub mod Laws
 pub mod IdLists
 pub mod Tables
 pub mod TableEdits
-pub mod Panels
-pub mod Places
-pub mod PanelTold

@@ -26,7 +26,7 @@ pub record IsNewSide (seat : Seat) (side : PageSide) (page : LoadedPage) : Type 
 pub record IsNew (e : Ends) (page : LoadedPage) : Type 0 where
   pub side : IsNewSide e.seat e.side page
   pub splitter : e.splitter ≡ record { whole = []; rest = [] }
-  pub front : e.front ≡ first_state []
+  pub front : e.front ≡ first_state
   pub up : e.up_there ≡ 0
   pub down : e.down_there ≡ 0
   pub told : e.told ≡ 0

@@ -24,7 +24,7 @@ use crate::pipes::{receive_down, receive_up, send_down, send_up};
 use crate::stop::Stop;
 use back_end::{Act, ActFault, PageForm, PageSide, Seat};
 use cdp_messages::Matched;
-use front_mirror::{Front, FrontErr, Kept, Mirror, Panel, SeenPause};
+use front_mirror::{Front, FrontErr, Kept, Mirror, SeenPause};
 use page_tree::Page;
 use pipe_frames::{Link, Splitter};
 use replay_script::Ask;
@@ -38,7 +38,7 @@ pub(crate) struct Ends {
     pub(crate) side: PageSide,
     pub(crate) seat: Seat,
     pub(crate) splitter: Splitter,
-    pub(crate) front: Front<Box<dyn Panel>>,
+    pub(crate) front: Front,
     pub(crate) up_there: u64,
     pub(crate) down_there: u64,
     pub(crate) told: usize,
@@ -71,7 +71,7 @@ impl Ends {
             side: PageSide::new(alloc, Some(form))?,
             seat: Seat::new(alloc),
             splitter: Splitter::new(alloc),
-            front: Front::new(alloc, Vec::new(alloc))?,
+            front: Front::new(alloc)?,
             up_there: 0,
             down_there: 0,
             told: 0,
@@ -94,7 +94,7 @@ impl Ends {
     }
 
     /// The front end.
-    pub(crate) fn front(&self) -> &Front<Box<dyn Panel>>
+    pub(crate) fn front(&self) -> &Front
         ensures { result.now ≡ self.now.front }
     {
         &self.front

@@ -21,7 +21,7 @@ use crate::stop::Stop;
 use crate::style_lines::styles_text;
 use back_end::{ActFault, EditFault, SheetFault};
 use cdp_messages::Matched;
-use front_mirror::{Front, Kept, Mirror, Panel, SeenPause, write_outline};
+use front_mirror::{Front, Kept, Mirror, SeenPause, write_outline};
 use page_tree::Page;
 use pipe_frames::{OutErr, Sink, write_all};
 use replay_script::LineFault;
@@ -121,11 +121,7 @@ pub(crate) fn print_page<K: Sink>(alloc: Global, page: &Page, out: &mut K) -> Re
 }
 
 /// Writes the sheets that the front end knows.
-pub(crate) fn print_sheets<K: Sink>(
-    alloc: Global,
-    front: &Front<Box<dyn Panel>>,
-    out: &mut K,
-) -> Result<(), Stop>
+pub(crate) fn print_sheets<K: Sink>(alloc: Global, front: &Front, out: &mut K) -> Result<(), Stop>
     ensures ok { OnOk result (Appends (K.taken out.old) (K.taken out.new)
         (codes "# sheets" ++ 10 ∷ known_lines front.now.value.sheets)) }
     ensures err { OnErr result (WrotePart (K.taken out.old) (K.taken out.new)

@@ -109,7 +109,6 @@ takes up0 down0 up down w frames e n piece in_world front_part =
             next = w.spent.asks + 1;
             fetches = w.spent.fetches;
             dead = false;
-            panels = [];
           }) taken
           ∙ ap (λ rest. good_front halves.middle rest (w.spent.asks + 1) w.spent.fetches) (sym (rest-given n w.down));
       is_fold =
@@ -371,7 +370,7 @@ world-told up0 down0 up down w frames e n in_world = record {
 pub world-first : (up0 down0 : Pipe) (page : LoadedPage) (seat : Seat) (side : PageSide) → CanLoadPage page → PageHasTexts page
     → up0.given ≡ up0.sent → down0.given ≡ down0.sent → StandsFor seat side (loaded_state page)
     → InWorld up0 down0 up0 down0 (loaded_world page) []
-    (record { seat = seat; side = side; back_rest = []; front = first_state []; up_there = 0; down_there = 0; told = nothing_told })
+    (record { seat = seat; side = side; back_rest = []; front = first_state; up_there = 0; down_there = 0; told = nothing_told })
 unfolding frames_of
 world-first up0 down0 page seat side can texts up_level down_level stands = record {
   up_is = carries-start up0 up_level;

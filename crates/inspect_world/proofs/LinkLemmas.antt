@@ -59,7 +59,7 @@ pub follows-start : (up0 down0 : Pipe) (state0 : Started) (seat : Seat) (side : 
     → state0.lines ≤ most_bytes → Drew state0.state 0 0 0 → state0.state.side.page.next ≤ (0 + 1) * (max_nodes + 1)
     → state0.state.side.next_sheet ≤ (0 + 1) * max_sheets + 1
     → Follows state0 up0 down0 up0 down0 []
-    (record { seat = seat; side = side; back_rest = []; front = first_state []; up_there = 0; down_there = 0; told = nothing_told })
+    (record { seat = seat; side = side; back_rest = []; front = first_state; up_there = 0; down_there = 0; told = nothing_told })
 unfolding frames_of
 follows-start up0 down0 state0 seat side up_within down_within none stands few drew serials numbers = record {
   sent_up = [];
@@ -439,7 +439,6 @@ module _ (state0 : Started) (up0 down0 : Pipe) where
         next = e.front.next;
         fetches = e.front.fetches;
         dead = false;
-        panels = [];
       }
   front-down up down waiting e piece f = ap (λ s. after_take s piece) f.front_is
 
@@ -472,7 +471,6 @@ module _ (state0 : Started) (up0 down0 : Pipe) where
               next = e.front.next;
               fetches = e.front.fetches;
               dead = false;
-              panels = [];
             }) none
             ∙ ap (λ n. good_front end.value (held_after (frames_of f.given_down).rest piece) n e.front.fetches) (sym next)
             ∙ ap (λ n. good_front end.value (held_after (frames_of f.given_down).rest piece) (after_take e.front piece).next n)

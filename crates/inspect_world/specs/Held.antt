@@ -24,9 +24,9 @@ pub record Ends : Type 0 where
   pub down_there : ℕ
   pub told : AlreadyTold
 
--- a front end without panels that has met no fault, by the id of its next ask and by how many fetches it has made
+-- a front end that has met no fault, by the id of its next ask and by how many fetches it has made
 abbrev pub good_front : FrontValue → List ℕ → ℕ → ℕ → FrontState
-good_front value rest next fetches = record { value = value; rest = rest; fault = None; next = next; fetches = fetches; dead = false; panels = [] }
+good_front value rest next fetches = record { value = value; rest = rest; fault = None; next = next; fetches = fetches; dead = false }
 
 -- Since the pipes were as `up0` and `down0`, the link and the ends have come to where the run is, the fetches of its settles
 -- included; `frames` are whole at the back end and not yet answered, or on their way to it.
