@@ -10,7 +10,7 @@ ghost use Rattle.sheet_reader.specs.Frames.{opened, with_media};
 use crate::frames::{Frame, Frames};
 use crate::parts::{Ending, Level, Part};
 use crate::sheet::{MediaRule, Sheet};
-use css_tokens::{Range, Token, TokenKind, unescape};
+use css_tokens::{Range, Token, TokenKind, spells};
 use selectors::{range_of, words_among};
 use std::alloc::{AllocError, Global};
 
@@ -33,29 +33,21 @@ pub(crate) fn level_of(around: Option<usize>) -> Level
 }
 
 /// Whether a piece is an at-keyword with the name `media`.
-fn names_media(alloc: Global, text: &str, piece: Token) -> Result<bool, AllocError>
+fn names_media(text: &str, piece: Token) -> bool
     requires { IsPieceOf text.now piece }
-    ensures { IfOk result (λ b. b ≡ names_media text.now piece piece.kind) }
+    ensures { result ≡ names_media text.now piece piece.kind }
 {
     match piece.kind {
-        TokenKind::AtKeyword => {
-            let mut name = unescape(alloc, &text[piece.start + 1..piece.end])?;
-            name.make_ascii_lowercase();
-            Ok(name.as_str() == "media")
-        }
-        _ => Ok(false),
+        TokenKind::AtKeyword => spells(&text[piece.start + 1..piece.end], "media"),
+        _ => false,
     }
 }
 
 /// The media rule that a part is, if it is one.
 #[tactic(auto, unfolding(crate::specs::Layout::media_form))]
-fn media_form<'a>(
-    alloc: Global,
-    text: &str,
-    part: Part<'a>,
-) -> Result<Option<Media<'a>>, AllocError>
+fn media_form<'a>(text: &str, part: Part<'a>) -> Option<Media<'a>>
     requires { All (IsPieceOf text.now) (part_pieces (part_seen part)) }
-    ensures { IfOk result (λ m. option_map media_seen m ≡ media_form text.now (part_seen part.entry)) }
+    ensures { option_map media_seen result ≡ media_form text.now (part_seen part.entry) }
 {
     match part {
         Part::AtRule {
@@ -63,17 +55,17 @@ fn media_form<'a>(
             prelude,
             ending: Ending::Block { body, .. },
         } => {
-            if names_media(alloc, text, keyword)? {
-                Ok(Some(Media {
+            if names_media(text, keyword) {
+                Some(Media {
                     keyword,
                     prelude,
                     inside: body,
-                }))
+                })
             } else {
-                Ok(None)
+                None
             }
         }
-        _ => Ok(None),
+        _ => None,
     }
 }
 
@@ -114,7 +106,7 @@ pub(crate) fn open_media<'a>(
     ensures frames { OnOk result (frames.new ≡ opened (length sheet.old.media) (media_form text.now (part_seen part.entry)) frames.old) }
     ensures sheet { OnOk result (sheet.new ≡ with_media text.now around (media_form text.now (part_seen part.entry)) sheet.old) }
 {
-    if let Some(media) = media_form(alloc, text, part)? {
+    if let Some(media) = media_form(text, part) {
         let place = sheet.media.len();
         let rule = media_rule(alloc, text, around, media)?;
         sheet.media.push(rule)?;

@@ -6,6 +6,6 @@ use Rattle.sheet_reader.proofs.media.open_media.Goals as goal
 
 pub media_rule-requires : goal.media_rule-requires
 media_rule-requires c =
-    let e = sym c.in_ok-media.ensures ∙ ap (option_map media_seen) c.in-Some.is in
+    let e = sym c.media_form.ensures ∙ ap (option_map media_seen) c.in-Some.is in
     let all = form_all (IsPieceOf c.args.text.now) c.args.text.now (part_seen c.args.part) (media_seen c.in-Some.media) e c.requires in
     all.0
