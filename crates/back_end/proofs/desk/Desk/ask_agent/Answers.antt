@@ -1,5 +1,5 @@
 -- What the agent is asked is carried out, or refused since DOM is off.
-use Rattle.std.proofs.Common.{refl}
+use Rattle.std.proofs.Common.{refl, sym}
 use Rattle.back_end.proofs.SeatLemmas.{asked-stands, asked-sent}
 use Rattle.back_end.proofs.AskCounts.{ask-few}
 use Rattle.back_end.proofs.desk.Desk.ask_agent.Goals as goal

@@ -196,26 +196,41 @@ returns-in-ReplayAct-clause-sent c = λ state both.
     (ap (λ params. commands.ReplayAct params) c.as_value-in-ReplayAct.ensures ∙ sym c.in-ReplayAct.is)
     (c.answer_act.ensures.sent state both.stands)
 
-pub disable-requires-clause-on : goal.disable-requires-clause-on
-disable-requires-clause-on c = met-on c.args.self.now.is_on c.args.self.now.css (commands.DomDisable) c.args.command c.in-DomDisable.is refl c.requires.met
+pub disable-requires : goal.disable-requires
+disable-requires c = record {
+  on = met-on c.args.self.now.is_on c.args.self.now.css (commands.DomDisable) c.args.command c.in-DomDisable.is refl c.requires.met;
+}
 
-pub enable_css-requires-clause-on : goal.enable_css-requires-clause-on
-enable_css-requires-clause-on c = met-on c.args.self.now.is_on c.args.self.now.css (commands.CssEnable) c.args.command c.in-CssEnable.is refl c.requires.met
+pub enable_css-requires : goal.enable_css-requires
+enable_css-requires c = record {
+  on = met-on c.args.self.now.is_on c.args.self.now.css (commands.CssEnable) c.args.command c.in-CssEnable.is refl c.requires.met;
+}
 
 pub disable_css-requires-clause-on : goal.disable_css-requires-clause-on
-disable_css-requires-clause-on c = met-on c.args.self.now.is_on c.args.self.now.css (commands.CssDisable) c.args.command c.in-CssDisable.is refl c.requires.met
+disable_css-requires-clause-on c =
+    met-on c.args.self.now.is_on c.args.self.now.css (commands.CssDisable)
+    c.args.command c.in-CssDisable.is refl c.requires.met
 
 pub answer_styles-requires-clause-on : goal.answer_styles-requires-clause-on
-answer_styles-requires-clause-on c = met-on c.args.self.now.is_on c.args.self.now.css (commands.AskCss c.in-AskCss.ask) c.args.command c.in-AskCss.is (ap needs_dom (styles-need-both c.in-AskCss.ask)) c.requires.met
+answer_styles-requires-clause-on c =
+    met-on c.args.self.now.is_on c.args.self.now.css (commands.AskCss c.in-AskCss.ask)
+    c.args.command c.in-AskCss.is (ap needs_dom (styles-need-both c.in-AskCss.ask)) c.requires.met
 
 pub answer_sheet_edit-requires-clause-on : goal.answer_sheet_edit-requires-clause-on
-answer_sheet_edit-requires-clause-on c = met-on c.args.self.now.is_on c.args.self.now.css (commands.EditCss c.in-EditCss.edit) c.args.command c.in-EditCss.is (ap needs_dom (style_edits-need-both c.in-EditCss.edit)) c.requires.met
+answer_sheet_edit-requires-clause-on c =
+    met-on c.args.self.now.is_on c.args.self.now.css (commands.EditCss c.in-EditCss.edit)
+    c.args.command c.in-EditCss.is (ap needs_dom (style_edits-need-both c.in-EditCss.edit)) c.requires.met
 
 pub answer_tree_edit-requires-clause-on : goal.answer_tree_edit-requires-clause-on
-answer_tree_edit-requires-clause-on c = met-on c.args.self.now.is_on c.args.self.now.css (commands.EditDom c.in-EditDom.edit) c.args.command c.in-EditDom.is (ap needs_dom (edits-need-dom c.in-EditDom.edit)) c.requires.met
+answer_tree_edit-requires-clause-on c =
+    met-on c.args.self.now.is_on c.args.self.now.css (commands.EditDom c.in-EditDom.edit)
+    c.args.command c.in-EditDom.is (ap needs_dom (edits-need-dom c.in-EditDom.edit)) c.requires.met
 
-pub end_group-requires-clause-on : goal.end_group-requires-clause-on
-end_group-requires-clause-on c = met-on c.args.self.now.is_on c.args.self.now.css (commands.MarkUndoableState) c.args.command c.in-MarkUndoableState.is refl c.requires.met
+pub end_group-requires : goal.end_group-requires
+end_group-requires c = record {
+  on = met-on c.args.self.now.is_on c.args.self.now.css (commands.MarkUndoableState)
+      c.args.command c.in-MarkUndoableState.is refl c.requires.met;
+}
 
 pub undo-requires-clause-on : goal.undo-requires-clause-on
 undo-requires-clause-on c = met-on c.args.self.now.is_on c.args.self.now.css (commands.Undo) c.args.command c.in-Undo.is refl c.requires.met
@@ -223,20 +238,34 @@ undo-requires-clause-on c = met-on c.args.self.now.is_on c.args.self.now.css (co
 pub redo-requires-clause-on : goal.redo-requires-clause-on
 redo-requires-clause-on c = met-on c.args.self.now.is_on c.args.self.now.css (commands.Redo) c.args.command c.in-Redo.is refl c.requires.met
 
-pub watch-requires-clause-on : goal.watch-requires-clause-on
-watch-requires-clause-on c = met-on c.args.self.now.is_on c.args.self.now.css (commands.SetBreakpoint c.in-SetBreakpoint.node c.in-SetBreakpoint.kind) c.args.command c.in-SetBreakpoint.is refl c.requires.met
+pub watch-requires : goal.watch-requires
+watch-requires c = record {
+  on = met-on c.args.self.now.is_on c.args.self.now.css (commands.SetBreakpoint c.in-SetBreakpoint.node c.in-SetBreakpoint.kind)
+      c.args.command c.in-SetBreakpoint.is refl c.requires.met;
+}
 
-pub unwatch-requires-clause-on : goal.unwatch-requires-clause-on
-unwatch-requires-clause-on c = met-on c.args.self.now.is_on c.args.self.now.css (commands.RemoveBreakpoint c.in-RemoveBreakpoint.node c.in-RemoveBreakpoint.kind) c.args.command c.in-RemoveBreakpoint.is refl c.requires.met
+pub unwatch-requires : goal.unwatch-requires
+unwatch-requires c = record {
+  on = met-on c.args.self.now.is_on c.args.self.now.css (commands.RemoveBreakpoint c.in-RemoveBreakpoint.node c.in-RemoveBreakpoint.kind)
+      c.args.command c.in-RemoveBreakpoint.is refl c.requires.met;
+}
 
 pub disable_css-requires-clause-css : goal.disable_css-requires-clause-css
-disable_css-requires-clause-css c = met-css c.args.self.now.is_on c.args.self.now.css (commands.CssDisable) c.args.command c.in-CssDisable.is refl c.requires.met
+disable_css-requires-clause-css c =
+    met-css c.args.self.now.is_on c.args.self.now.css (commands.CssDisable)
+    c.args.command c.in-CssDisable.is refl c.requires.met
 
 pub answer_styles-requires-clause-css : goal.answer_styles-requires-clause-css
-answer_styles-requires-clause-css c = met-css c.args.self.now.is_on c.args.self.now.css (commands.AskCss c.in-AskCss.ask) c.args.command c.in-AskCss.is (ap needs_both (styles-need-both c.in-AskCss.ask)) c.requires.met
+answer_styles-requires-clause-css c =
+    met-css c.args.self.now.is_on c.args.self.now.css (commands.AskCss c.in-AskCss.ask)
+    c.args.command c.in-AskCss.is (ap needs_both (styles-need-both c.in-AskCss.ask)) c.requires.met
 
 pub answer_sheet_edit-requires-clause-css : goal.answer_sheet_edit-requires-clause-css
-answer_sheet_edit-requires-clause-css c = met-css c.args.self.now.is_on c.args.self.now.css (commands.EditCss c.in-EditCss.edit) c.args.command c.in-EditCss.is (ap needs_both (style_edits-need-both c.in-EditCss.edit)) c.requires.met
+answer_sheet_edit-requires-clause-css c =
+    met-css c.args.self.now.is_on c.args.self.now.css (commands.EditCss c.in-EditCss.edit)
+    c.args.command c.in-EditCss.is (ap needs_both (style_edits-need-both c.in-EditCss.edit)) c.requires.met
 
 pub ask_agent-requires-clause-on : goal.ask_agent-requires-clause-on
-ask_agent-requires-clause-on c = met-ask c.args.self.now.is_on c.args.self.now.css c.in-AskDom.ask c.args.command c.in-AskDom.is c.requires.met
+ask_agent-requires-clause-on c =
+    met-ask c.args.self.now.is_on c.args.self.now.css c.in-AskDom.ask
+    c.args.command c.in-AskDom.is c.requires.met
