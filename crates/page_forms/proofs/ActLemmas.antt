@@ -12,8 +12,9 @@ use Rattle.page_forms.specs.declared.acts.Act.{Act}
 use Rattle.page_forms.specs.declared.acts.Act.TheVariants.{Insert}
 use Rattle.page_forms.specs.Acts.{fields_in, set_attr_row, set_attr_in, drop_attr_row, drop_attr_in, set_text_row, set_text_in, insert_row}
 use Rattle.page_forms.specs.Acts.{insert_in, remove_row, remove_in, move_row, move_in, add_sheet_in, drop_sheet_in, replace_sheet_in}
-use Rattle.page_forms.specs.Acts.{act_in, IsInsertable}
+use Rattle.page_forms.specs.Acts.{medium_act_in, act_in, IsInsertable}
 use Rattle.page_forms.specs.SheetActs.{add_sheet_row, drop_sheet_row, replace_sheet_row}
+use Rattle.page_forms.specs.Mediums.{medium_act_row}
 use Rattle.page_forms.specs.Texts.{FormHasTexts, ActHasTexts, ActsHaveTexts}
 use Rattle.page_forms.proofs.FieldTexts.{fields_utf8, if_read, if_mapped, either}
 use Rattle.page_forms.proofs.NodeTexts.{form_utf8}
@@ -40,7 +41,8 @@ act_formed d =
     (either IsInsertable (move_in d) _ (if_mapped (fields_in move_row d) IsInsertable _ (λ f is. tt))
     (either IsInsertable (add_sheet_in d) _ (if_mapped (fields_in add_sheet_row d) IsInsertable _ (λ f is. tt))
     (either IsInsertable (drop_sheet_in d) _ (if_mapped (fields_in drop_sheet_row d) IsInsertable _ (λ f is. tt))
-    (either IsInsertable (replace_sheet_in d) None (if_mapped (fields_in replace_sheet_row d) IsInsertable _ (λ f is. tt)) tt))))))))
+    (either IsInsertable (replace_sheet_in d) _ (if_mapped (fields_in replace_sheet_row d) IsInsertable _ (λ f is. tt))
+    (either IsInsertable (medium_act_in d) None (if_mapped (fields_in medium_act_row d) IsInsertable _ (λ f is. tt)) tt)))))))))
 
 -- so have those of any act
 pub act-insertable : (d : Data) (act : Act) → act_in d ≡ Some act → IsInsertable act
@@ -120,7 +122,8 @@ module _ (d : Data) (u : HasUtf8 d) where
       (either ActHasTexts (move_in d) _ (if_mapped (fields_in move_row d) ActHasTexts _ (λ f is. tt))
       (either ActHasTexts (add_sheet_in d) _ add_sheet_texts
       (either ActHasTexts (drop_sheet_in d) _ drop_sheet_texts
-      (either ActHasTexts (replace_sheet_in d) None replace_sheet_texts tt))))))))
+      (either ActHasTexts (replace_sheet_in d) _ replace_sheet_texts
+      (either ActHasTexts (medium_act_in d) None (if_mapped (fields_in medium_act_row d) ActHasTexts _ (λ f is. tt)) tt)))))))))
 
 pub acts_have_texts : ActsHaveTexts
 acts_have_texts d act u is = subst (IfSome ActHasTexts) is (act_texts d u)

@@ -24,6 +24,8 @@ use Rattle.sheet_reader.specs.declared.book.Origin.{Origin}
 use Rattle.sheet_reader.specs.declared.book.Origin.TheVariants.{UserAgent, Regular}
 use Rattle.page_forms.specs.declared.sheets.SheetForm.{SheetForm}
 use Rattle.page_forms.specs.Acts.{fields_in}
+use Rattle.media_rules.specs.declared.medium.Medium.{Medium}
+use Rattle.page_forms.specs.Mediums.{medium_at}
 use Rattle.page_forms.specs.Sheets.{origin_form, origin_word, all_origins, sheet_row, sheet_from, sheet_form, can_hold_sheets}
 use Rattle.page_forms.specs.Pages.{LoadedPage, page_row, sheets_at, page_with, page_in, first_page_fault, page_fault, CanLoadPage}
 use Rattle.page_forms.specs.Texts.{HaveTexts, SheetsHaveTexts, PageHasTexts, PagesHaveTexts}
@@ -32,12 +34,13 @@ use Rattle.page_forms.proofs.NodeTexts.{array_utf8, nodes_utf8}
 
 -- ---- a page without a fault
 
-parts : (nodes : Option (Nodes Label)) (sheets : Option (List SheetForm)) (page : LoadedPage) → page_with nodes sheets ≡ Some page
-    → (nodes ≡ Some page.nodes) × (sheets ≡ Some page.sheets)
-parts None sheets page e = absurd cc
-parts (Some n) None page e = absurd cc
-parts (Some n) (Some ss) page e =
-    let same : ◌≡◌ {A = LoadedPage} (record { nodes = n; sheets = ss }) page = cc in
+parts : (nodes : Option (Nodes Label)) (medium : Option Medium) (sheets : Option (List SheetForm)) (page : LoadedPage)
+    → page_with nodes medium sheets ≡ Some page → (nodes ≡ Some page.nodes) × (sheets ≡ Some page.sheets)
+parts None medium sheets page e = absurd cc
+parts (Some n) None sheets page e = absurd cc
+parts (Some n) (Some m) None page e = absurd cc
+parts (Some n) (Some m) (Some ss) page e =
+    let same : ◌≡◌ {A = LoadedPage} (record { nodes = n; medium = m; sheets = ss }) page = cc in
     (ap (λ (p : LoadedPage). Some p.nodes) same, ap (λ (p : LoadedPage). Some p.sheets) same)
 
 -- the first fault by the tests of its limits
@@ -53,8 +56,8 @@ clear true true named true e = (e, refl)
 -- a page may hold what it spells
 pub can_load_page : (d : Data) (page : LoadedPage) → page_in d ≡ Some page → page_fault d ≡ None → CanLoadPage page
 can_load_page d page is none =
-    let p = and_then_some (λ f. page_with (nodes_in f.0) (sheets_at f.1.0)) (fields_in page_row d) page is in
-    let q = parts (nodes_in p.0.0) (sheets_at p.0.1.0) page p.2 in
+    let p = and_then_some (λ f. page_with (nodes_in f.0) (medium_at f.1.0) (sheets_at f.1.1.0)) (fields_in page_row d) page is in
+    let q = parts (nodes_in p.0.0) (medium_at p.0.1.0) (sheets_at p.0.1.1.0) page p.2 in
     let r = clear (are_low page.nodes) (are_few page.nodes) (are_named page.nodes) (can_hold_sheets page.sheets)
     (sym (ap first_page_fault is) ∙ none) in
     record { nodes = can_load p.0.0 page.nodes q.0 r.0; sheets = r.1 }
@@ -72,7 +75,8 @@ sheet_lawful : LawfulRow sheet_row
 sheet_lawful = and_need_lawful (codes "origin") origin_lawful (and_need_lawful (codes "text") text_lawful ends_lawful refl) refl
 
 page_lawful : LawfulRow page_row
-page_lawful = and_need_lawful (codes "document") anything_lawful (and_may_lawful (codes "sheets") anything_lawful ends_lawful refl) refl
+page_lawful = and_need_lawful (codes "document") anything_lawful
+    (and_may_lawful (codes "medium") anything_lawful (and_may_lawful (codes "sheets") anything_lawful ends_lawful refl) refl) refl
 
 abbrev SheetHasText : SheetForm → Type 0
 SheetHasText sheet = IsUtf8 sheet.text
@@ -97,17 +101,26 @@ member_utf8 : (o : Option Data) → MembersHaveUtf8 (maybe_member (codes "sheets
 member_utf8 None u = tt
 member_utf8 (Some d) u = u.1
 
-with_utf8 : (nodes : Option (Nodes Label)) (sheets : Option (List SheetForm)) → IfSome HaveTexts nodes → IfSome SheetsHaveTexts sheets
-    → IfSome PageHasTexts (page_with nodes sheets)
-with_utf8 None sheets un us = tt
-with_utf8 (Some n) None un us = tt
-with_utf8 (Some n) (Some ss) un us = record { nodes = un; sheets = us }
+-- of the members behind a medium, if there is one
+behind_utf8 : (m o : Option Data)
+    → MembersHaveUtf8 (maybe_member (codes "medium") (option_map (λ d. d) m) (maybe_member (codes "sheets") (option_map (λ d. d) o) no_members))
+    → MembersHaveUtf8 (maybe_member (codes "sheets") (option_map (λ d. d) o) no_members)
+behind_utf8 None o u = u
+behind_utf8 (Some d) o u = u.2
+
+with_utf8 : (nodes : Option (Nodes Label)) (medium : Option Medium) (sheets : Option (List SheetForm)) → IfSome HaveTexts nodes
+    → IfSome SheetsHaveTexts sheets → IfSome PageHasTexts (page_with nodes medium sheets)
+with_utf8 None medium sheets un us = tt
+with_utf8 (Some n) None sheets un us = tt
+with_utf8 (Some n) (Some m) None un us = tt
+with_utf8 (Some n) (Some m) (Some ss) un us = record { nodes = un; sheets = us }
 
 page_texts : (d : Data) → HasUtf8 d → IfSome PageHasTexts (page_in d)
 page_texts d u =
-    if_read page_row (fields_in page_row d) PageHasTexts (λ f. page_with (nodes_in f.0) (sheets_at f.1.0))
-    (λ f is. let t = fields_utf8 page_row page_lawful d u f is in with_utf8 (nodes_in f.0) (sheets_at f.1.0) (nodes_utf8 f.0 t.1)
-    (at_utf8 f.1.0 (member_utf8 f.1.0 t.2)))
+    if_read page_row (fields_in page_row d) PageHasTexts (λ f. page_with (nodes_in f.0) (medium_at f.1.0) (sheets_at f.1.1.0))
+    (λ f is. let t = fields_utf8 page_row page_lawful d u f is in
+    with_utf8 (nodes_in f.0) (medium_at f.1.0) (sheets_at f.1.1.0) (nodes_utf8 f.0 t.1)
+    (at_utf8 f.1.1.0 (member_utf8 f.1.1.0 (behind_utf8 f.1.0 f.1.1.0 t.2))))
 
 pub pages_have_texts : PagesHaveTexts
 pages_have_texts d page u is = subst (IfSome PageHasTexts) is (page_texts d u)

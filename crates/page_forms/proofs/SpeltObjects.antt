@@ -15,6 +15,7 @@ use Rattle.node_tree.specs.declared.Kind.{Kind}
 use Rattle.node_tree.specs.declared.Kind.TheVariants.{Element}
 use Rattle.page_tree.specs.Loads.{labelled, branch_of, node_spelled}
 use Rattle.sheet_reader.specs.declared.book.Origin.{Origin}
+use Rattle.page_forms.specs.Mediums.{usual_medium}
 use Rattle.page_forms.specs.declared.sheets.SheetForm.{SheetForm}
 use Rattle.page_forms.specs.Sheets.{origin_word, all_origins, sheet_from}
 use Rattle.page_forms.specs.Pages.{page_with}
@@ -217,7 +218,7 @@ sheet_spelt word text origin e0 e1 e2 e3 e4 e5 is = record {
 module _ (old start middle new : List Token) (n : Nodes Label) (sheets : List SheetForm) where
   pub page_spelt : old ≡ begin_object ∷ (key (codes "document") ∷ (begin_array ∷ start)) → SpellsItems (nodes_form 60 true) start n middle
       → SpellsField sheets_field_form middle sheets (end_object ∷ new)
-      → ReadsAs page_form old (record { nodes = n; sheets = sheets }) new
+      → ReadsAs page_form old (record { nodes = n; medium = usual_medium; sheets = sheets }) new
   page_spelt e s (absent f g) = record {
     json = json.object (json.member (codes "document") (json.array s.json) json.no_members);
     value = datum.object (datum.member (codes "document") (datum.array s.items) datum.no_members);
@@ -228,7 +229,7 @@ module _ (old start middle new : List Token) (n : Nodes Label) (sheets : List Sh
         (option_and_then (λ d. Some (put (codes "document") d datum.no_members)) (option_map datum.array o))) s.means;
     shallow = omega (arith, s.shallow);
     whole = neither _ _ s.whole refl;
-    reads = ap₂ (λ o ss. page_with o (Some ss)) s.reads (sym g);
+    reads = ap₂ (λ o ss. page_with o (Some usual_medium) (Some ss)) s.reads (sym g);
   }
   page_spelt e s (there from f t) = record {
     json = json.object (json.member (codes "document") (json.array s.json)
@@ -247,5 +248,5 @@ module _ (old start middle new : List Token) (n : Nodes Label) (sheets : List Sh
         s.means t.means;
     shallow = omega (arith, s.shallow, t.shallow);
     whole = neither _ _ s.whole (neither _ _ t.whole refl);
-    reads = ap₂ page_with s.reads t.reads;
+    reads = ap₂ (λ o ss. page_with o (Some usual_medium) ss) s.reads t.reads;
   }

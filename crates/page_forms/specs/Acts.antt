@@ -8,8 +8,9 @@ use Rattle.page_tree.specs.Loads.{node_in}
 use Rattle.page_tree.specs.EditFaults.{CanInsert}
 use Rattle.page_forms.specs.declared.acts.Act.{Act}
 use Rattle.page_forms.specs.declared.acts.Act.TheVariants.{SetAttr, DropAttr, SetText, Insert, Remove, Move, AddSheet, DropSheet}
-use Rattle.page_forms.specs.declared.acts.Act.TheVariants.{ReplaceSheet}
+use Rattle.page_forms.specs.declared.acts.Act.TheVariants.{ReplaceSheet, Medium as SetMedium}
 use Rattle.page_forms.specs.SheetActs.{add_sheet_row, drop_sheet_row, replace_sheet_row}
+use Rattle.page_forms.specs.Mediums.{medium_act_row}
 
 -- an object of this row
 abbrev pub fields_in : {T : Type 0} → Row T → Data → Option T
@@ -87,6 +88,10 @@ drop_sheet_in d = option_map (λ f. DropSheet f.1.0) (fields_in drop_sheet_row d
 abbrev pub replace_sheet_in : Data → Option Act
 replace_sheet_in d = option_map (λ f. ReplaceSheet f.1.0 f.1.1.0) (fields_in replace_sheet_row d)
 
+-- another medium
+abbrev pub medium_act_in : Data → Option Act
+medium_act_in d = option_map (λ f. SetMedium (record { kind = f.1.0; width = f.1.1.0 })) (fields_in medium_act_row d)
+
 -- the first of these that is there
 abbrev pub first_act : List (Option Act) → Option Act
 first_act [] = None
@@ -96,7 +101,7 @@ first_act (act ∷ acts) = first_of act (first_act acts)
 abbrev pub act_in : Data → Option Act
 act_in d =
     first_act (set_attr_in d ∷ drop_attr_in d ∷ set_text_in d ∷ insert_in d ∷ remove_in d ∷ move_in d
-    ∷ add_sheet_in d ∷ drop_sheet_in d ∷ replace_sheet_in d ∷ [])
+    ∷ add_sheet_in d ∷ drop_sheet_in d ∷ replace_sheet_in d ∷ medium_act_in d ∷ [])
 
 -- the new nodes of an insert have the form that an insert asks for
 abbrev pub IsInsertable : Act → Type 0
@@ -109,3 +114,4 @@ IsInsertable (Move node parent before) = ⊤
 IsInsertable (AddSheet origin bytes) = ⊤
 IsInsertable (DropSheet sheet) = ⊤
 IsInsertable (ReplaceSheet sheet bytes) = ⊤
+IsInsertable (SetMedium medium) = ⊤

@@ -1,5 +1,6 @@
 pub mod Sheets
 pub mod SheetActs
+pub mod Mediums
 pub mod Acts
 pub mod Pages
 pub mod Texts

@@ -1,4 +1,5 @@
--- The usual form of a page: `{"document":[NODE,..],"sheets":[{"origin":ORIGIN,"text":TEXT},..]}`, where `sheets` may be absent.
+-- The usual form of a page: `{"document":[NODE,..],"sheets":[{"origin":ORIGIN,"text":TEXT},..]}`, where `sheets` may be absent and no
+-- medium is told.
 use Rattle.std.specs.Prelude.{List, [], codes}
 use Rattle.cdp_json.specs.Kinds.{read_items}
 use Rattle.page_forms.specs.declared.sheets.SheetForm.{SheetForm}

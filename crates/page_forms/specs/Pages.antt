@@ -1,4 +1,5 @@
--- A page that is loaded, as JSON spells it: `{"document":[NODE,..],"sheets":[SHEET,..]}`, with nothing else; `sheets` may be absent.
+-- A page that is loaded, as JSON spells it: `{"document":[NODE,..],"medium":MEDIUM,"sheets":[SHEET,..]}`, with nothing else; `medium` and
+-- `sheets` may be absent.
 use Rattle.std.specs.Prelude.{◌≡◌, List, [], ◌∷◌, codes, Bool, true, ◌&&◌, not, Option, None, Some, option_map, option_and_then, Result, Ok}
 use Rattle.std.specs.Prelude.{Err, ⊤}
 use Rattle.serde_json.specs.Data.{Data}
@@ -15,31 +16,36 @@ use Rattle.page_tree.specs.declared.faults.LoadErr.{LoadErr}
 use Rattle.page_tree.specs.declared.faults.LoadErr.TheVariants.{Fault, Memory}
 use Rattle.page_forms.specs.declared.sheets.SheetForm.{SheetForm}
 use Rattle.page_forms.specs.declared.pages.PageForm.{PageForm}
+use Rattle.media_rules.specs.declared.medium.Medium.{Medium}
 use Rattle.page_forms.specs.Sheets.{sheet_list, can_hold_sheets}
+use Rattle.page_forms.specs.Mediums.{medium_at}
 
--- a page that is loaded: the nodes below its document, and its sheets in their order
+-- a page that is loaded: the nodes below its document, the medium that it is shown on, and its sheets in their order
 pub record LoadedPage : Type 0 where
   pub nodes : Nodes Label
+  pub medium : Medium
   pub sheets : List SheetForm
 
 -- ---- what a value spells
 
--- the properties of a page: its list of nodes, and its list of sheets
-abbrev pub page_row : Row (Data × (Option Data × ⊤))
-page_row = and_need (codes "document") anything (and_may (codes "sheets") anything ends)
+-- the properties of a page: its list of nodes, its medium, and its list of sheets
+abbrev pub page_row : Row (Data × (Option Data × (Option Data × ⊤)))
+page_row = and_need (codes "document") anything (and_may (codes "medium") anything (and_may (codes "sheets") anything ends))
 
 -- the sheets at `sheets`; none where it is absent
 abbrev pub sheets_at : Option Data → Option (List SheetForm)
 sheets_at None = Some []
 sheets_at (Some list) = sheet_list.reads list
 
--- the page of these nodes and sheets, where both are there
-abbrev pub page_with : Option (Nodes Label) → Option (List SheetForm) → Option LoadedPage
-page_with nodes sheets = option_and_then (λ nodes. option_map (λ sheets. record { nodes = nodes; sheets = sheets }) sheets) nodes
+-- the page of these nodes, this medium and these sheets, where all are there
+abbrev pub page_with : Option (Nodes Label) → Option Medium → Option (List SheetForm) → Option LoadedPage
+page_with nodes medium sheets =
+    option_and_then (λ nodes. option_and_then (λ medium. option_map (λ sheets.
+    record { nodes = nodes; medium = medium; sheets = sheets }) sheets) medium) nodes
 
--- the page that a value spells; none where the value, a node or a sheet has not its form
+-- the page that a value spells; none where the value, a node, the medium or a sheet has not its form
 abbrev pub page_in : Data → Option LoadedPage
-page_in page = option_and_then (λ f. page_with (nodes_in f.0) (sheets_at f.1.0)) ((object_of page_row).reads page)
+page_in page = option_and_then (λ f. page_with (nodes_in f.0) (medium_at f.1.0) (sheets_at f.1.1.0)) ((object_of page_row).reads page)
 
 -- ---- faults
 
@@ -77,9 +83,9 @@ loaded_sheets page = page.sheets.items
 
 -- the page that is loaded
 abbrev pub loaded_page : PageForm → LoadedPage
-loaded_page page = record { nodes = loaded_nodes page; sheets = loaded_sheets page }
+loaded_page page = record { nodes = loaded_nodes page; medium = page.medium; sheets = loaded_sheets page }
 
--- What a read of a page answers: its nodes and its sheets where there is no fault, and else the first fault. Want of memory is free.
+-- What a read of a page answers: what it spells where there is no fault, and else the first fault. Want of memory is free.
 abbrev pub ReadsPage : Result PageForm LoadErr → Data → Type 0
 ReadsPage (Ok page) d = (page_in d ≡ Some (loaded_page page)) × (page_fault d ≡ None)
 ReadsPage (Err (Fault f)) d = page_fault d ≡ Some f

@@ -7,7 +7,7 @@ use Rattle.node_tree.specs.Labels.{Label}
 use Rattle.node_tree.specs.Labels.{LabelHasUtf8}
 use Rattle.page_forms.specs.declared.acts.Act.{Act}
 use Rattle.page_forms.specs.declared.acts.Act.TheVariants.{SetAttr, DropAttr, SetText, Insert, Remove, Move, AddSheet, DropSheet}
-use Rattle.page_forms.specs.declared.acts.Act.TheVariants.{ReplaceSheet}
+use Rattle.page_forms.specs.declared.acts.Act.TheVariants.{ReplaceSheet, Medium as SetMedium}
 use Rattle.page_forms.specs.Acts.{act_in}
 use Rattle.page_forms.specs.Pages.{LoadedPage, page_in}
 use Rattle.page_forms.specs.declared.sheets.SheetForm.{SheetForm}
@@ -41,6 +41,7 @@ ActHasTexts (Move serial parent before) = ⊤
 ActHasTexts (AddSheet origin text) = IsUtf8 text
 ActHasTexts (DropSheet sheet) = IsUtf8 sheet
 ActHasTexts (ReplaceSheet sheet text) = IsUtf8 sheet × IsUtf8 text
+ActHasTexts (SetMedium medium) = ⊤
 
 -- a page has the texts of its JSON
 abbrev pub PagesHaveTexts : Type 0

@@ -8,8 +8,10 @@ ghost use Rattle.cdp_json.specs.Rows.{left_with, need};
 ghost use Rattle.page_forms.specs.Acts.{set_attr_in, drop_attr_in, set_text_in, insert_in, remove_in, move_in, act_in, IsInsertable};
 ghost use Rattle.page_forms.specs.declared.acts.ActErr.TheVariants.{BadForm};
 
+use crate::mediums::medium_act_of;
 use crate::sheet_acts::{add_sheet_of, drop_sheet_of, replace_sheet_of};
 use cdp_json::Cursor;
+use media_rules::Medium;
 use node_tree::Text;
 use page_tree::{LoadErr, NodeForm, read_node};
 use serde_json::Value;
@@ -66,6 +68,10 @@ pub enum Act {
     ReplaceSheet {
         sheet: Text,
         text: Text,
+    },
+    /// Shows the page on another medium.
+    Medium {
+        medium: Medium,
     },
 }
 
@@ -279,7 +285,10 @@ pub fn read_act(alloc: Global, v: &Value) -> Result<Act, ActErr>
     if let Some(act) = drop_sheet_of(alloc, v)? {
         return Ok(act);
     }
-    match replace_sheet_of(alloc, v)? {
+    if let Some(act) = replace_sheet_of(alloc, v)? {
+        return Ok(act);
+    }
+    match medium_act_of(v) {
         Some(act) => Ok(act),
         None => Err(ActErr::BadForm),
     }

@@ -12,6 +12,7 @@
 
 mod acts;
 mod laws;
+mod mediums;
 mod node_scan;
 mod page_scan;
 mod pages;
@@ -21,6 +22,7 @@ mod sheets;
 pub use acts::{Act, ActErr, read_act};
 pub use cdp_json::ScanErr;
 pub use laws::texts_law;
+pub use mediums::usual_medium;
 pub use page_scan::scan_page;
 pub use pages::{PageForm, read_page};
 pub use sheets::SheetForm;

@@ -5,6 +5,7 @@ ghost use Rattle.page_forms.specs.Spelt.{ReadsAs, SpellsItems, SpellsField};
 ghost use Rattle.page_forms.specs.PageForms.{sheet_value, sheets_form, sheets_field_form, page_form};
 ghost use Rattle.page_forms.specs.Pages.{first_page_fault, loaded_page};
 
+use crate::mediums::usual_medium;
 use crate::node_scan::scan_nodes;
 use crate::pages::PageForm;
 use crate::sheets::{SheetForm, can_hold_sheets, origin_in};
@@ -91,7 +92,7 @@ fn can_load(page: &PageForm) -> bool
 }
 
 /// Reads the page whose tokens come next, where it is spelled in its usual form and has no fault: the fields `e`, `a`, `c` of an
-/// element, `document` and `sheets` of a page, `origin` and `text` of a sheet stand in this order, and no more than 60 levels of nodes
+/// element, `document` and `sheets` of a page, which tells no medium, `origin` and `text` of a sheet stand in this order, and no more than 60 levels of nodes
 /// are there. Any other tokens, which may spell a page all the same, are answered by an error.
 pub fn scan_page(alloc: Global, reader: &mut Reader<'_>) -> Result<PageForm, ScanErr>
     ensures spelt { IfOk result (λ page. ReadsAs page_form reader.old (loaded_page page) reader.new) }
@@ -102,7 +103,12 @@ pub fn scan_page(alloc: Global, reader: &mut Reader<'_>) -> Result<PageForm, Sca
     take_begin_array(reader)?;
     let nodes = scan_nodes(alloc, reader, LEVELS, true)?;
     let sheets = sheets_ahead(alloc, reader)?;
-    let page = PageForm { nodes, sheets };
+    let medium = usual_medium();
+    let page = PageForm {
+        nodes,
+        medium,
+        sheets,
+    };
     if !can_load(&page) {
         return Err(ScanErr::OtherForm);
     }

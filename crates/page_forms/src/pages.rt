@@ -4,11 +4,14 @@ ghost use Rattle.serde_json.specs.View.{view};
 ghost use Rattle.cdp_json.specs.Rows.{object_of};
 ghost use Rattle.node_tree.specs.Nodes.{Nodes};
 ghost use Rattle.node_tree.specs.Labels.{Label};
+ghost use Rattle.media_rules.specs.declared.medium.Medium.{Medium};
 ghost use Rattle.page_tree.specs.Loads.{first_load_fault};
 ghost use Rattle.page_forms.specs.Pages.{page_row, sheets_at, page_with, first_page_fault, loaded_page, CanLoadPage, ReadsPage};
 
+use crate::mediums::medium_at;
 use crate::sheets::{SheetForm, can_hold_sheets, read_sheets};
 use cdp_json::Cursor;
+use media_rules::Medium;
 use page_tree::{LoadErr, LoadFault, NodeForm, read_nodes};
 use serde_json::Value;
 use std::alloc::{AllocError, Global};
@@ -18,26 +21,37 @@ use std::alloc::{AllocError, Global};
 pub struct PageForm {
     /// The nodes below the document.
     pub nodes: Vec<NodeForm>,
+    /// What the page is shown on.
+    pub medium: Medium,
     /// The style sheets, in their order.
     pub sheets: Vec<SheetForm>,
 }
 
-// The two lists of an object that has nothing else.
+// The fields of an object that has nothing else.
 #[derive(Drop)]
-struct Lists<'a> {
+struct PageFields<'a> {
     document: &'a Value,
+    medium: Option<&'a Value>,
     sheets: Option<&'a Value>,
 }
 
-fn lists_of(page: &Value) -> Option<Lists<'_>>
-    ensures { option_map (λ l. (view l.document.now, (option_map (λ v. view v.now) l.sheets, tt))) result
+fn fields_of(page: &Value) -> Option<PageFields<'_>>
+    ensures { option_map (λ l. (
+      view l.document.now,
+      (option_map (λ v. view v.now) l.medium, (option_map (λ v. view v.now) l.sheets, tt)),
+    )) result
         ≡ (object_of page_row).reads (view page.now) }
 {
     let mut fields = Cursor::new(page.as_object()?);
     let document = fields.need("document")?;
+    let medium = fields.may("medium");
     let sheets = fields.may("sheets");
     if fields.is_done() {
-        Some(Lists { document, sheets })
+        Some(PageFields {
+            document,
+            medium,
+            sheets,
+        })
     } else {
         None
     }
@@ -55,8 +69,8 @@ fn sheets_at(alloc: Global, list: Option<&Value>) -> Result<Option<Vec<SheetForm
 
 // The first fault of a page whose nodes have this one: sheets that are too many come before a bad name.
 fn fault_beside(fault: LoadFault, sheets: &[SheetForm]) -> LoadFault
-    ensures { (nodes : Option (Nodes Label)) → first_load_fault nodes ≡ Some fault
-        → first_page_fault (page_with nodes (Some sheets.now)) ≡ Some result }
+    ensures { (nodes : Option (Nodes Label)) (medium : Medium) → first_load_fault nodes ≡ Some fault
+        → first_page_fault (page_with nodes (Some medium) (Some sheets.now)) ≡ Some result }
 {
     if can_hold_sheets(sheets) {
         return fault;
@@ -73,15 +87,22 @@ pub fn read_page(alloc: Global, v: &Value) -> Result<PageForm, LoadErr>
     ensures reads { ReadsPage result (view v.now) }
     ensures fit { IfOk result (λ page. CanLoadPage (loaded_page page)) }
 {
-    let Some(lists) = lists_of(v) else {
+    let Some(fields) = fields_of(v) else {
         return Err(LoadErr::Fault(LoadFault::BadForm));
     };
-    let Some(sheets) = sheets_at(alloc, lists.sheets)? else {
+    let Some(medium) = medium_at(fields.medium) else {
         return Err(LoadErr::Fault(LoadFault::BadForm));
     };
-    match read_nodes(alloc, lists.document) {
+    let Some(sheets) = sheets_at(alloc, fields.sheets)? else {
+        return Err(LoadErr::Fault(LoadFault::BadForm));
+    };
+    match read_nodes(alloc, fields.document) {
         Ok(nodes) => if can_hold_sheets(&sheets) {
-            Ok(PageForm { nodes, sheets })
+            Ok(PageForm {
+                nodes,
+                medium,
+                sheets,
+            })
         } else {
             Err(LoadErr::Fault(LoadFault::TooMany))
         },
