@@ -8,7 +8,7 @@ ghost use Rattle.page_forms.specs.Acts.{medium_act_in};
 ghost use Rattle.page_forms.specs.Mediums.{medium_word, all_mediums, medium_type, width_form, usual_medium, medium_in, medium_at};
 
 use crate::acts::{Act, does};
-use cdp_json::Cursor;
+use cdp_json::{Cursor, text_of};
 use media_rules::{Medium, MediumKind};
 use serde_json::Value;
 
@@ -26,13 +26,19 @@ fn kind_in(word: &str) -> Option<MediumKind>
     }
 }
 
+fn kind_of(value: &Value) -> Option<MediumKind>
+    ensures { result ≡ medium_type.reads (view value.now) }
+{
+    kind_in(text_of(value)?)
+}
+
 // The field `type`.
 fn kind_field(fields: &mut Cursor<'_>) -> Option<MediumKind>
     ensures { option_map (left_with (left fields.new)) result
         ≡ need medium_type.reads (codes "type") (left fields.old) }
 {
-    let word = fields.need_text("type")?;
-    kind_in(word)
+    let value = fields.need("type")?;
+    kind_of(value)
 }
 
 // The field `width`.

@@ -1,13 +1,19 @@
-use Rattle.std.proofs.Common.{◌∷◌, ap, ◌∙◌, codes}
+use Rattle.std.proofs.Common.{◌∷◌, ap, ◌∙◌, codes, sym, subst}
 use Rattle.json.specs.Token.{begin_object, key}
 use Rattle.node_tree.specs.Nodes.{nodes_of}
+use Rattle.media_rules.specs.declared.medium.Medium.{Medium}
+use Rattle.page_forms.specs.Spelt.{ReadsAs}
+use Rattle.page_forms.specs.PageForms.{page_form}
 use Rattle.page_forms.proofs.SpeltObjects.{page_spelt}
 use Rattle.page_forms.proofs.page_scan.scan_page.Goals as goal
 
 pub returns-clause-spelt : goal.returns-clause-spelt
 returns-clause-spelt c =
-    page_spelt c.args.reader.now c.take_begin_array.new.reader c.scan_nodes.new.reader c.sheets_ahead.new.reader
+    subst (λ (m : Medium). ReadsAs page_form c.args.reader.now
+    (record { nodes = nodes_of c.in_ok-nodes.nodes.items; medium = m; sheets = c.in_ok-sheets.sheets.items }) c.sheets_ahead.new.reader)
+    (sym c.usual_medium-medium.ensures)
+    (page_spelt c.args.reader.now c.take_begin_array.new.reader c.scan_nodes.new.reader c.sheets_ahead.new.reader
     (nodes_of c.in_ok-nodes.nodes.items) c.in_ok-sheets.sheets.items
     (c.in_ok-take_begin_object.ensures ∙ ap (λ ts. begin_object ∷ ts)
     (c.in_ok-take_key.ensures ∙ ap
-    (λ ts. key (codes "document") ∷ ts) c.in_ok-take_begin_array.ensures)) c.in_ok-nodes.ensures c.in_ok-sheets.ensures
+    (λ ts. key (codes "document") ∷ ts) c.in_ok-take_begin_array.ensures)) c.in_ok-nodes.ensures c.in_ok-sheets.ensures)
