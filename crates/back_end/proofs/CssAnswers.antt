@@ -23,7 +23,7 @@ use Rattle.css_agent.specs.Asks.{sheet_named, if_sheet, answer_move}
 use Rattle.css_agent.specs.ClassNames.{class_names}
 use Rattle.css_agent.proofs.TellableStyles.{both, entry-stored, ValuesAre, NodesHaveValues, zipper-has, styles-told, class-names-utf8}
 use Rattle.dom_agent.specs.Laws.{RowsHaveUtf8}
-use Rattle.back_end.specs.States.{State, book_in, first_medium, view_of, HoldsNow}
+use Rattle.back_end.specs.States.{State, book_in, view_of, HoldsNow}
 use Rattle.back_end.specs.Steps.{element_named, node_answer, text_answer, css_answer, css_step}
 use Rattle.back_end.specs.Laws.{MayAnswer, MayAnswerAll, TellsTextOf, TellTextOf, text_asked, reply_ids}
 use Rattle.back_end.proofs.SheetLemmas.{book-stored, named-is}
@@ -55,7 +55,7 @@ styles-answer : (id : ℕ) (ask : CssAsk) (target : ℕ) (r : Result ℕ Why) (s
 styles-answer id ask target (Err why) state same is low small = (refl, small)
 styles-answer id ask target (Ok serial) state same is low small =
     let tree = state.side.page.tree in
-    let told = styles-told first_medium (book_in state) (zipper_at serial tree) (stored state is low)
+    let told = styles-told state.side.medium (book_in state) (zipper_at serial tree) (stored state is low)
     (zipper-has serial tree (rows-have (alone tree) is.texts)) in
     (refl, record { id_fits = small; plain = refl; fits = told.0; texts = told.1; levels = omega arith })
 

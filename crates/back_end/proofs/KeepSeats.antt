@@ -22,8 +22,9 @@ use Rattle.back_end.specs.declared.desk.Desk.{Desk}
 use Rattle.back_end.specs.declared.side.PageSide.{PageSide}
 use Rattle.back_end.specs.declared.faults.ActFault.{ActFault}
 use Rattle.back_end.specs.Sheets.{as_book, SheetChange}
+use Rattle.back_end.specs.Steps.{on_medium}
 use Rattle.back_end.specs.States.{Side, State, book_in, Keeps}
-use Rattle.back_end.specs.Plans.{Deed, edits, restyles, act_fault, act_plan}
+use Rattle.back_end.specs.Plans.{Deed, edits, restyles, shows_on, act_fault, act_plan}
 use Rattle.cdp_messages.specs.declared.command.Command.{Command}
 use Rattle.cdp_messages.specs.declared.command.Command.TheVariants.{DomEnable, DomDisable, CssEnable, CssDisable, AskDom, AskCss}
 use Rattle.cdp_messages.specs.declared.command.Command.TheVariants.{SetBreakpoint, RemoveBreakpoint}
@@ -174,6 +175,7 @@ deed-kept h (edits plan) state k =
     keeps-crossed h state (script_steps plan.edits (with_page plan.page state)).state k
     (scripts-marks plan.edits (with_page plan.page state))
 deed-kept h (restyles changes) state k = keeps-crossed h state (sheet_steps changes state).state k (sheets-marks changes state)
+deed-kept h (shows_on medium) state k = keeps-crossed h state (on_medium medium state) k refl
 
 -- an act that is carried out empties the history
 pub acted-kept : (h : Marks Inverse) (state : State) (act : Act) → act_fault act state.side.page (book_in state) ≡ None → Keeps h state

@@ -64,6 +64,7 @@ push-stands d d1 s state serial page stands can page_is on_is css_is watches_is 
       page_is = stands.page_is;
       sheets_are = stands.sheets_are;
       next_is = stands.next_is;
+      medium_is = stands.medium_is;
       on_is = on_is ∙ stands.on_is;
       css_is = css_is ∙ stands.css_is;
       stands = subst (λ (a : BindingValue). Stands (page_nodes state) (push_of serial state).state a) (sym same) alike.stands;

@@ -76,6 +76,7 @@ edit-stands d d1 s s1 state e stands can texts ids serials sheets page_is sheets
       page_is = page_is ∙ ap (after e) same;
       sheets_are = ap (λ (b : NumberedBook). b.entries) sheets_is ∙ stands.sheets_are;
       next_is = ap (λ (b : NumberedBook). b.next) sheets_is ∙ stands.next_is;
+      medium_is = ap (λ (b : NumberedBook). b.medium) sheets_is ∙ stands.medium_is;
       on_is = on_is ∙ stands.on_is;
       css_is = css_is ∙ stands.css_is;
       watches_are = watches_is ∙ left-is e s.page d.watches state same stands.watches_are;
@@ -132,6 +133,7 @@ drawn-stands d s s1 state page stands is sheets_is valid same = record {
   page_is = is;
   sheets_are = ap (λ (b : NumberedBook). b.entries) sheets_is ∙ stands.sheets_are;
   next_is = ap (λ (b : NumberedBook). b.next) sheets_is ∙ stands.next_is;
+  medium_is = ap (λ (b : NumberedBook). b.medium) sheets_is ∙ stands.medium_is;
   on_is = stands.on_is;
   css_is = stands.css_is;
   watches_are = stands.watches_are;
@@ -337,6 +339,7 @@ stayed-stands d d1 s s1 state on_is css_is watches_is agent_is page_is sheets_is
   page_is = page_is ∙ stands.page_is;
   sheets_are = ap (λ (b : NumberedBook). b.entries) sheets_is ∙ stands.sheets_are;
   next_is = ap (λ (b : NumberedBook). b.next) sheets_is ∙ stands.next_is;
+  medium_is = ap (λ (b : NumberedBook). b.medium) sheets_is ∙ stands.medium_is;
   on_is = on_is ∙ stands.on_is;
   css_is = css_is ∙ stands.css_is;
   watches_are = watches_is ∙ stands.watches_are;

@@ -57,6 +57,7 @@ marks-stands marks d s state stands = record {
   page_is = stands.page_is;
   sheets_are = stands.sheets_are;
   next_is = stands.next_is;
+  medium_is = stands.medium_is;
   on_is = stands.on_is;
   css_is = stands.css_is;
   watches_are = stands.watches_are;
@@ -145,6 +146,7 @@ asked-stands d d1 s s1 state id c page fits is_off stands same_side sheets_is sa
       page_is = same_side ∙ stands.page_is;
       sheets_are = ap (λ (b : NumberedBook). b.entries) sheets_is ∙ stands.sheets_are;
       next_is = ap (λ (b : NumberedBook). b.next) sheets_is ∙ stands.next_is;
+      medium_is = ap (λ (b : NumberedBook). b.medium) sheets_is ∙ stands.medium_is;
       on_is = on_is ∙ on-after c state.side.page state.client d.is_on stands.on_is;
       css_is = css_is ∙ stands.css_is ∙ served-css c o state.client;
       watches_are = watches_is ∙ stands.watches_are ∙ served-watches c o state.client;
@@ -172,6 +174,7 @@ enabled-stands d d1 s s1 state id stands same sheets_is on css_is watches_is age
   page_is = same ∙ stands.page_is;
   sheets_are = ap (λ (b : NumberedBook). b.entries) sheets_is ∙ stands.sheets_are;
   next_is = ap (λ (b : NumberedBook). b.next) sheets_is ∙ stands.next_is;
+  medium_is = ap (λ (b : NumberedBook). b.medium) sheets_is ∙ stands.medium_is;
   on_is = on;
   css_is = css_is ∙ stands.css_is;
   watches_are = watches_is ∙ stands.watches_are;
@@ -196,6 +199,7 @@ disabled-stands d d1 s s1 state id stands was same sheets_is off css_off watches
       page_is = same ∙ stands.page_is;
       sheets_are = ap (λ (b : NumberedBook). b.entries) sheets_is ∙ stands.sheets_are;
       next_is = ap (λ (b : NumberedBook). b.next) sheets_is ∙ stands.next_is;
+      medium_is = ap (λ (b : NumberedBook). b.medium) sheets_is ∙ stands.medium_is;
       on_is = off;
       css_is = css_off ∙ sym (and-false state.client.css_on);
       watches_are = watches_is;

@@ -28,6 +28,7 @@ use Rattle.css_agent.specs.Asks.{sheet_named}
 use Rattle.cascade_match.proofs.MatchLemmas.{drop-at}
 use Rattle.css_agent.proofs.TellableStyles.{both, sheet-number}
 use Rattle.dom_agent.specs.Laws.{CanTellSheets}
+use Rattle.media_rules.specs.declared.medium.Medium.{Medium}
 use Rattle.back_end.specs.Sheets.{origin_in_book, entry_of_sheet, as_book, shown_sheet, numbered_sheets, AscendBetween, AreSheetTexts}
 use Rattle.back_end.specs.Sheets.{AreSheetsBelow, NumberedBook, AreBelow}
 
@@ -371,45 +372,46 @@ one-fewer n (e ∷ es) there = at (n == e.id) there (λ k. one-fewer n es k) whe
 
 -- ---- the sheets of a page that is loaded, in code
 
--- The sheets so far, and those that are left, make up the whole; and so do the numbers.
-abbrev pub LoadedSoFar : ℕ → List SheetForm → ℕ → NumberedBook → Type 0
-LoadedSoFar next forms i book =
+-- The sheets so far, and those that are left, make up the whole; and so do the numbers. The medium is this one.
+abbrev pub LoadedSoFar : ℕ → Medium → List SheetForm → ℕ → NumberedBook → Type 0
+LoadedSoFar next medium forms i book =
     (book.entries ++ as_book (numbered_sheets book.next (drop i forms)) ≡ as_book (numbered_sheets next forms))
-    × (book.next + length (drop i forms) ≡ next + length forms)
+    × (book.next + length (drop i forms) ≡ next + length forms) × (book.medium ≡ medium)
 
-pub loaded-turn : (next i : ℕ) (forms : List SheetForm) (f : SheetForm) (book later : NumberedBook) → slice_get forms i ≡ Some f
-    → LoadedSoFar next forms i book
-    → later ≡ record { entries = book.entries ++ new_sheet book.next f.origin f.text ∷ []; next = book.next + 1 }
-    → LoadedSoFar next forms (i + 1) later
-loaded-turn next i forms f book later at inv is =
+pub loaded-turn : (next i : ℕ) (medium : Medium) (forms : List SheetForm) (f : SheetForm) (book later : NumberedBook) → slice_get forms i ≡ Some f
+    → LoadedSoFar next medium forms i book
+    → later ≡ record book { entries = book.entries ++ new_sheet book.next f.origin f.text ∷ []; next = book.next + 1 }
+    → LoadedSoFar next medium forms (i + 1) later
+loaded-turn next i medium forms f book later at inv is =
     let split : drop i forms ≡ f ∷ drop (i + 1) forms = drop-at forms i f at in
     let rest = as_book (numbered_sheets (book.next + 1) (drop (i + 1) forms)) in
     let own : new_sheet book.next f.origin f.text ∷ rest ≡ as_book (numbered_sheets book.next (drop i forms)) =
     ap (λ (o : Origin). new_sheet book.next o f.text ∷ rest) (sym (origin-back f.origin)) ∙ ap
     (λ (fs : List SheetForm). as_book (numbered_sheets book.next fs)) (sym split) in
     let count : length (drop i forms) ≡ suc (length (drop (i + 1) forms)) = ap (λ (fs : List SheetForm). length fs) split in
-    let done : LoadedSoFar next forms (i + 1)
-    (record { entries = book.entries ++ new_sheet book.next f.origin f.text ∷ []; next = book.next + 1 }) = (
+    let done : LoadedSoFar next medium forms (i + 1)
+    (record book { entries = book.entries ++ new_sheet book.next f.origin f.text ∷ []; next = book.next + 1 }) = (
       append_assoc book.entries (new_sheet book.next f.origin f.text ∷ []) rest ∙ ap
           (λ (es : List SheetEntry). book.entries ++ es) own ∙ inv.0,
-      omega (arith, count, inv.1),
+      omega (arith, count, inv.1.0),
+      inv.1.1,
     ) in
-    subst (LoadedSoFar next forms (i + 1)) (sym is) done
+    subst (LoadedSoFar next medium forms (i + 1)) (sym is) done
 
-pub loaded-room : (next i : ℕ) (forms : List SheetForm) (book : NumberedBook) → next < 2 ^ 51 → can_hold_sheets forms ≡ true
-    → LoadedSoFar next forms i book → book.next < 2 ^ 52
-loaded-room next i forms book room can inv = let few = sheets-few forms can in omega (arith, room, few, inv.1)
+pub loaded-room : (next i : ℕ) (medium : Medium) (forms : List SheetForm) (book : NumberedBook) → next < 2 ^ 51 → can_hold_sheets forms ≡ true
+    → LoadedSoFar next medium forms i book → book.next < 2 ^ 52
+loaded-room next i medium forms book room can inv = let few = sheets-few forms can in omega (arith, room, few, inv.1.0)
 
-pub loaded-end : (next i : ℕ) (forms : List SheetForm) (book : NumberedBook) → length forms ≤ i → LoadedSoFar next forms i book
-    → book ≡ record { entries = as_book (numbered_sheets next forms); next = next + length forms }
-loaded-end next i forms book over inv =
+pub loaded-end : (next i : ℕ) (medium : Medium) (forms : List SheetForm) (book : NumberedBook) → length forms ≤ i → LoadedSoFar next medium forms i book
+    → book ≡ record { entries = as_book (numbered_sheets next forms); next = next + length forms; medium = medium }
+loaded-end next i medium forms book over inv =
     let nothing : drop i forms ≡ [] = drop-over forms i over in
     let entries : book.entries ≡ as_book (numbered_sheets next forms) =
     sym (append-nil book.entries) ∙ ap (λ (fs : List SheetForm). book.entries ++ as_book (numbered_sheets book.next fs))
     (sym nothing) ∙ inv.0 in
     let count : book.next ≡ next + length forms = let none_left = ap (λ (fs : List SheetForm). length fs) nothing in omega
-    (arith, none_left, inv.1) in
-    λ j. record { entries = entries j; next = count j }
+    (arith, none_left, inv.1.0) in
+    λ j. record { entries = entries j; next = count j; medium = inv.1.1 j }
   where
     drop-over : (fs : List SheetForm) (i : ℕ) → length fs ≤ i → drop i fs ≡ []
     drop-over [] zero over = refl
@@ -427,10 +429,10 @@ short-at (x ∷ xs) zero f all at =
 short-at (x ∷ xs) (suc i) f all at = short-at xs i f (and-right (is_short x) (list_all is_short xs) all) at
 
 -- each fits
-pub loaded-fits : (next i : ℕ) (forms : List SheetForm) (f : SheetForm) (book : NumberedBook) → can_hold_sheets forms ≡ true
-    → slice_get forms i ≡ Some f → LoadedSoFar next forms i book
+pub loaded-fits : (next i : ℕ) (medium : Medium) (forms : List SheetForm) (f : SheetForm) (book : NumberedBook) → can_hold_sheets forms ≡ true
+    → slice_get forms i ≡ Some f → LoadedSoFar next medium forms i book
     → is_too_big f.text book.entries ≡ true → ⊥
-loaded-fits next i forms f book can at inv big =
+loaded-fits next i medium forms f book can at inv big =
     let short = short-at forms i f (and-right (nat_le (length forms) max_sheets) (list_all is_short forms) can) at in
     let few = sheets-few forms can in
     let split : length (drop i forms)
@@ -462,23 +464,23 @@ got [] i f inside is = absurd (omega (arith, inside))
 got (x ∷ xs) zero f inside is = ap (λ (y : SheetForm). Some y) (sym is)
 got (x ∷ xs) (suc i) f inside is = got xs i f (omega (arith, inside)) is
 
-pub loaded-step : (next i : ℕ) (forms : List SheetForm) (f : SheetForm) (text : List ℕ) (book later : NumberedBook) → i < length forms
-    → f ≡ get_or forms i f → text ≡ f.text → LoadedSoFar next forms i book
-    → later ≡ record { entries = book.entries ++ new_sheet book.next f.origin text ∷ []; next = book.next + 1 }
-    → LoadedSoFar next forms (i + 1) later
-loaded-step next i forms f text book later inside at said inv is =
-    loaded-turn next i forms f book later (got forms i f inside at) inv
-    (is ∙ ap (λ (t : List ℕ). record { entries = book.entries ++ new_sheet book.next f.origin t ∷ []; next = book.next + 1 }) said)
+pub loaded-step : (next i : ℕ) (medium : Medium) (forms : List SheetForm) (f : SheetForm) (text : List ℕ) (book later : NumberedBook) → i < length forms
+    → f ≡ get_or forms i f → text ≡ f.text → LoadedSoFar next medium forms i book
+    → later ≡ record book { entries = book.entries ++ new_sheet book.next f.origin text ∷ []; next = book.next + 1 }
+    → LoadedSoFar next medium forms (i + 1) later
+loaded-step next i medium forms f text book later inside at said inv is =
+    loaded-turn next i medium forms f book later (got forms i f inside at) inv
+    (is ∙ ap (λ (t : List ℕ). record book { entries = book.entries ++ new_sheet book.next f.origin t ∷ []; next = book.next + 1 }) said)
 
 -- no sheet of a page that may be loaded is too big
-pub loaded-fault : (next i : ℕ) (forms : List SheetForm) (f : SheetForm) (text : List ℕ) (book : NumberedBook)
+pub loaded-fault : (next i : ℕ) (medium : Medium) (forms : List SheetForm) (f : SheetForm) (text : List ℕ) (book : NumberedBook)
     (result : Result Unit SheetErr) (error : SheetErr) (fault : SheetFault)
-    → can_hold_sheets forms ≡ true → i < length forms → f ≡ get_or forms i f → text ≡ f.text → LoadedSoFar next forms i book
+    → can_hold_sheets forms ≡ true → i < length forms → f ≡ get_or forms i f → text ≡ f.text → LoadedSoFar next medium forms i book
     → result ≡ Err error → error ≡ Fault fault → IfFault result (λ g. (g ≡ TooBig) × (is_too_big text book.entries ≡ true)) → ⊥
-loaded-fault next i forms f text book result error fault can inside at said inv failed is faulty =
+loaded-fault next i medium forms f text book result error fault can inside at said inv failed is faulty =
     let big = subst (λ (r : Result Unit SheetErr). IfFault r (λ g. (g ≡ TooBig) × (is_too_big text book.entries ≡ true)))
     (failed ∙ ap (λ (e : SheetErr). Err e) is) faulty in
-    loaded-fits next i forms f book can (got forms i f inside at) inv (ap (λ (t : List ℕ). is_too_big t book.entries) (sym said) ∙ big.1)
+    loaded-fits next i medium forms f book can (got forms i f inside at) inv (ap (λ (t : List ℕ). is_too_big t book.entries) (sym said) ∙ big.1)
 
 -- what the code keeps of its book
 abbrev pub KeepsNumbers : ℕ → List SheetEntry → Type 0

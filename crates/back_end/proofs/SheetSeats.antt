@@ -42,7 +42,8 @@ use Rattle.back_end.specs.declared.faults.ActFault.{ActFault}
 use Rattle.back_end.specs.declared.faults.ActFault.TheVariants.{Sheet}
 use Rattle.style_edits.specs.declared.faults.SheetFault.TheVariants.{TooBig}
 use Rattle.back_end.specs.Sheets.{origin_in_book, entry_of_sheet, as_book, numbered_sheets, SheetChange, leaves, comes, NumberedBook}
-use Rattle.back_end.specs.States.{State, page_nodes, book_in, first_medium, styled_in}
+use Rattle.media_rules.specs.declared.medium.Medium.{Medium}
+use Rattle.back_end.specs.States.{State, page_nodes, book_in, styled_in}
 use Rattle.back_end.specs.Plans.{Deed, restyles, size_fault, drop_fault, replace_fault, dropping, replacing}
 use Rattle.dom_breakpoints.specs.Watched.{unwatched}
 use Rattle.cdp_messages.specs.declared.command.Command.{Command}
@@ -126,6 +127,7 @@ css-enabled-stands d d1 s state id stands was on_is css_is watches_is agent_is =
       page_is = stands.page_is;
       sheets_are = stands.sheets_are;
       next_is = stands.next_is;
+      medium_is = stands.medium_is;
       on_is = on_is ∙ stands.on_is;
       css_is = css_is;
       watches_are = watches_is ∙ stands.watches_are;
@@ -160,6 +162,7 @@ css-disabled-stands d d1 s state id stands was css_was on_is css_is watches_is a
       page_is = stands.page_is;
       sheets_are = stands.sheets_are;
       next_is = stands.next_is;
+      medium_is = stands.medium_is;
       on_is = on_is ∙ stands.on_is;
       css_is = css_is;
       watches_are = watches_is ∙ stands.watches_are;
@@ -207,16 +210,19 @@ same-node page w b (Some serial) = refl
 
 -- an ask that names no node
 plain-asked : (d : Desk) (s : PageSide) (state : State) (id : ℕ) (ask : CssAsk) (page : PageValue) (book : List SheetEntry)
-    (old new : List ℕ) → DeskStandsFor d s state
-    → page ≡ s.page → book ≡ s.sheets.entries → new ≡ old ++ frames_of_moves
-    (answer_move id (css_outcome (styled_page page.tree book first_medium) 0 ask) ∷ [])
+    (medium : Medium) (old new : List ℕ) → DeskStandsFor d s state
+    → page ≡ s.page → book ≡ s.sheets.entries → medium ≡ s.sheets.medium → new ≡ old ++ frames_of_moves
+    (answer_move id (css_outcome (styled_page page.tree book medium) 0 ask) ∷ [])
     → new ≡ old ++ frames_of_moves (answer_move id (css_outcome (styled_in state) 0 ask) ∷ [])
-plain-asked d s state id ask page book old new stands page_is book_is sent =
+plain-asked d s state id ask page book medium old new stands page_is book_is medium_is sent =
     sent ∙ ap (λ (p : PageValue). old ++ frames_of_moves
-    (answer_move id (css_outcome (styled_page p.tree book first_medium) 0 ask) ∷ [])) (page_is ∙ stands.page_is)
+    (answer_move id (css_outcome (styled_page p.tree book medium) 0 ask) ∷ [])) (page_is ∙ stands.page_is)
     ∙ ap (λ (b : List SheetEntry). old ++ frames_of_moves
-    (answer_move id (css_outcome (styled_page state.side.page.tree b first_medium) 0 ask) ∷ []))
+    (answer_move id (css_outcome (styled_page state.side.page.tree b medium) 0 ask) ∷ []))
     (book_is ∙ stands.sheets_are)
+    ∙ ap (λ (m : Medium). old ++ frames_of_moves
+    (answer_move id (css_outcome (styled_page state.side.page.tree (book_in state) m) 0 ask) ∷ []))
+    (medium_is ∙ stands.medium_is)
 
 -- the ask names no node
 abbrev NamesNone : CssAsk → Type 0
@@ -232,13 +238,13 @@ plain-frames id (css.GetStyleSheetText sheet) state none = text-frames id (sheet
 plain-frames id (css.CollectClassNames sheet) state none = refl
 
 pub plain-sent : (d : Desk) (s : PageSide) (state : State) (id : ℕ) (ask : CssAsk) (page : PageValue) (book : List SheetEntry)
-    (old new : List ℕ) → DeskStandsFor d s state
+    (medium : Medium) (old new : List ℕ) → DeskStandsFor d s state
     → ((x : List ℕ) × (ask ≡ css.GetStyleSheetText x)) ⊎ ((x : List ℕ) × (ask ≡ css.CollectClassNames x)) → page ≡ s.page
-    → book ≡ s.sheets.entries
-    → new ≡ old ++ frames_of_moves (answer_move id (css_outcome (styled_page page.tree book first_medium) 0 ask) ∷ [])
+    → book ≡ s.sheets.entries → medium ≡ s.sheets.medium
+    → new ≡ old ++ frames_of_moves (answer_move id (css_outcome (styled_page page.tree book medium) 0 ask) ∷ [])
     → new ≡ old ++ frames_of_moves (css_step id ask state).moves
-plain-sent d s state id ask page book old new stands is page_is book_is sent =
-    plain-asked d s state id ask page book old new stands page_is book_is sent ∙ ap (λ (bs : List ℕ). old ++ bs)
+plain-sent d s state id ask page book medium old new stands is page_is book_is medium_is sent =
+    plain-asked d s state id ask page book medium old new stands page_is book_is medium_is sent ∙ ap (λ (bs : List ℕ). old ++ bs)
     (plain-frames id ask state (names is))
   where
     names : ((x : List ℕ) × (ask ≡ css.GetStyleSheetText x)) ⊎ ((x : List ℕ) × (ask ≡ css.CollectClassNames x)) → NamesNone ask
@@ -260,19 +266,23 @@ element-is d s state page named r stands page_is is =
     ∙ ap element_serial (same-node state.side.page w b (serial_at w (page_nodes state) named)))
 
 pub node-asked : (d : Desk) (s : PageSide) (state : State) (id named serial : ℕ) (page : PageValue) (book : List SheetEntry)
-    (old new : List ℕ) → DeskStandsFor d s state
-    → page ≡ s.page → book ≡ s.sheets.entries → element_named named state ≡ Ok serial
+    (medium : Medium) (old new : List ℕ) → DeskStandsFor d s state
+    → page ≡ s.page → book ≡ s.sheets.entries → medium ≡ s.sheets.medium → element_named named state ≡ Ok serial
     → new ≡ old ++ frames_of_moves
-    (answer_move id (css_outcome (styled_page page.tree book first_medium) serial (css.GetMatchedStyles named)) ∷ [])
+    (answer_move id (css_outcome (styled_page page.tree book medium) serial (css.GetMatchedStyles named)) ∷ [])
     → new ≡ old ++ frames_of_moves (css_step id (css.GetMatchedStyles named) state).moves
-node-asked d s state id named serial page book old new stands page_is book_is is sent =
+node-asked d s state id named serial page book medium old new stands page_is book_is medium_is is sent =
     sent ∙ ap (λ (p : PageValue). old
     ++ frames_of_moves
-    (answer_move id (css_outcome (styled_page p.tree book first_medium) serial (css.GetMatchedStyles named)) ∷ [])) (page_is ∙ stands.page_is)
+    (answer_move id (css_outcome (styled_page p.tree book medium) serial (css.GetMatchedStyles named)) ∷ [])) (page_is ∙ stands.page_is)
     ∙ ap (λ (b : List SheetEntry). old
     ++ frames_of_moves
-    (answer_move id (css_outcome (styled_page state.side.page.tree b first_medium) serial (css.GetMatchedStyles named)) ∷ []))
+    (answer_move id (css_outcome (styled_page state.side.page.tree b medium) serial (css.GetMatchedStyles named)) ∷ []))
     (book_is ∙ stands.sheets_are)
+    ∙ ap (λ (m : Medium). old
+    ++ frames_of_moves
+    (answer_move id (css_outcome (styled_page state.side.page.tree (book_in state) m) serial (css.GetMatchedStyles named)) ∷ []))
+    (medium_is ∙ stands.medium_is)
     ∙ ap (λ (r : Result ℕ Why). old ++ frames_of_moves (node_answer id (css.GetMatchedStyles named) r state ∷ [])) (sym is)
 
 pub node-refused : (state : State) (id named : ℕ) (why : Why) (old new : List ℕ) → element_named named state ≡ Err why
@@ -286,7 +296,7 @@ node-refused state id named why old new is sent = sent ∙ ap
 pub came-stands : (d : Desk) (s s1 : PageSide) (state : State) (origin : Origin) (text : List ℕ) → DeskStandsFor d s state → IsUtf8 text
     → is_too_big text s.sheets.entries ≡ false
     → s1.page ≡ s.page → s1.sheets
-    ≡ record { entries = s.sheets.entries ++ new_sheet s.sheets.next origin text ∷ []; next = s.sheets.next + 1 }
+    ≡ record s.sheets { entries = s.sheets.entries ++ new_sheet s.sheets.next origin text ∷ []; next = s.sheets.next + 1 }
     → DeskStandsFor d s1 (sheet_step (comes origin text) state).state
 came-stands d s s1 state origin text stands utf8 fits page_is sheets_is =
     let here : is_too_big text (book_in state) ≡ false = ap (is_too_big text) (sym stands.sheets_are) ∙ fits in
@@ -298,6 +308,7 @@ came-stands d s s1 state origin text stands utf8 fits page_is sheets_is =
           ∙ ap (λ n. book_in state ++ new_sheet n origin text ∷ []) stands.next_is ∙ sym
           (book-last state.side.next_sheet origin text state.side.sheets);
       next_is = ap (λ (b : NumberedBook). b.next) sheets_is ∙ ap (λ n. n + 1) stands.next_is;
+      medium_is = ap (λ (b : NumberedBook). b.medium) sheets_is ∙ stands.medium_is;
       on_is = stands.on_is;
       css_is = stands.css_is;
       watches_are = stands.watches_are;
@@ -335,7 +346,7 @@ came-sent d s state origin text old new stands sent =
 
 pub left-stands : (d : Desk) (s s1 : PageSide) (state : State) (number : ℕ) → DeskStandsFor d s state
     → IsSome (entry_of number s.sheets.entries)
-    → s1.page ≡ s.page → s1.sheets ≡ record { entries = removed number s.sheets.entries; next = s.sheets.next }
+    → s1.page ≡ s.page → s1.sheets ≡ record s.sheets { entries = removed number s.sheets.entries }
     → DeskStandsFor d s1 (sheet_step (leaves number) state).state
 left-stands d s s1 state number stands there page_is sheets_is = at (entry_of number (book_in state)) refl
     (subst (λ (es : List SheetEntry). IsSome (entry_of number es)) stands.sheets_are there) where
@@ -348,6 +359,7 @@ left-stands d s s1 state number stands there page_is sheets_is = at (entry_of nu
         sheets_are = ap (λ (b : NumberedBook). b.entries) sheets_is ∙ ap
             (removed number) stands.sheets_are ∙ book-without number state.side.sheets;
         next_is = ap (λ (b : NumberedBook). b.next) sheets_is ∙ stands.next_is;
+        medium_is = ap (λ (b : NumberedBook). b.medium) sheets_is ∙ stands.medium_is;
         on_is = stands.on_is;
         css_is = stands.css_is;
         watches_are = stands.watches_are;
@@ -568,14 +580,15 @@ named-there sheet es e h = at (sheet_in sheet) h where
 pub load-stands : (d d1 : Desk) (s s1 : PageSide) (state : State) (page : LoadedPage) → DeskStandsFor d s state → CanLoadPage page
     → PageHasTexts page
     → s1.page ≡ loaded s.page.next page.nodes → s1.sheets.entries ≡ as_book (numbered_sheets s.sheets.next page.sheets)
-    → s1.sheets.next ≡ s.sheets.next + length page.sheets
+    → s1.sheets.next ≡ s.sheets.next + length page.sheets → s1.sheets.medium ≡ page.medium
     → d1.is_on ≡ d.is_on → d1.css ≡ d.css → d1.watches ≡ unwatched → d1.agent ≡ cleared d.agent
     → DeskStandsFor d1 s1 (load_step page state).state
-load-stands d d1 s s1 state page stands can texts page_is sheets_are next_is on_is css_is watches_is agent_is = record {
+load-stands d d1 s s1 state page stands can texts page_is sheets_are next_is medium_is on_is css_is watches_is agent_is = record {
   now = load-is state page stands.now can texts;
   page_is = page_is ∙ ap (λ (p : PageValue). loaded p.next page.nodes) stands.page_is;
   sheets_are = sheets_are ∙ ap (λ n. as_book (numbered_sheets n page.sheets)) stands.next_is;
   next_is = next_is ∙ ap (λ n. n + length page.sheets) stands.next_is;
+  medium_is = medium_is;
   on_is = on_is ∙ stands.on_is;
   css_is = css_is ∙ stands.css_is ∙ both-on state.client.css_on state.client.dom_on stands.now.css_off;
   watches_are = watches_is;

@@ -125,9 +125,9 @@ edited-here s book x r same is = ap (λ (es : List SheetEntry). css_edited es x)
 pub restyled-both : (d : Desk) (h h1 : Marks Inverse) (s s1 : PageSide) (state : State) (id : ℕ) (x : CssEdit) (backs : List Splice)
     → BothStandFor d h s state → HasNumbersLeft d s → HasEditTexts x
     → d.is_on ≡ true → d.css ≡ true → edit_splices (css_edited s.sheets.entries x) ≡ Ok (s1.sheets.entries, backs) → s1.page ≡ s.page
-    → s1.sheets.next ≡ s.sheets.next
+    → s1.sheets.next ≡ s.sheets.next → s1.sheets.medium ≡ s.sheets.medium
     → h1 ≡ noted_singly (map (λ s. Sheet s) backs) h → BothStandFor d h1 s1 (command_step id (EditCss x) state).state
-restyled-both d h h1 s s1 state id x backs both room texts on css edited page_is next_is noted =
+restyled-both d h h1 s s1 state id x backs both room texts on css edited page_is next_is medium_is noted =
     let stands = both.stands in
     let made = did s.sheets.entries x s1.sheets.entries backs edited in
     let here : css_edited (book_in state) x ≡ Ok made.done = edited-here s (book_in state) x (Ok made.done) stands.sheets_are made.is in
@@ -140,6 +140,7 @@ restyled-both d h h1 s s1 state id x backs both room texts on css edited page_is
       page_is = page_is ∙ stands.page_is ∙ sym after.page;
       sheets_are = sym made.leads ∙ done.leads ∙ sym after.book;
       next_is = next_is ∙ stands.next_is ∙ sym after.next;
+      medium_is = medium_is ∙ stands.medium_is ∙ sym after.medium;
       on_is = stands.on_is ∙ ap (λ (c : Client). c.dom_on) (sym after.client);
       css_is = stands.css_is ∙ ap (λ (c : Client). c.css_on) (sym after.client);
       stands = subst (λ (p : PageValue). Stands (alone p.tree) (splice_steps ss state).state.client.session d.agent) (sym after.page)

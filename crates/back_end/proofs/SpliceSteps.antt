@@ -217,10 +217,11 @@ pub record Restyled (ss : List Splice) (state : State) : Type 0 where
   pub client : (splice_steps ss state).state.client ≡ state.client
   pub page : (splice_steps ss state).state.side.page ≡ state.side.page
   pub next : (splice_steps ss state).state.side.next_sheet ≡ state.side.next_sheet
+  pub medium : (splice_steps ss state).state.side.medium ≡ state.side.medium
   pub book : book_in (splice_steps ss state).state ≡ after_splices ss (book_in state)
 
 pub restyled : (ss : List Splice) (state : State) → HoldsNow state → AllTake ss (book_in state) → Restyled ss state
-restyled [] state is all = record { now = is; client = refl; page = refl; next = refl; book = refl }
+restyled [] state is all = record { now = is; client = refl; page = refl; next = refl; medium = refl; book = refl }
 restyled (s ∷ ss) state is all =
     let later = restyled ss (splice_step s state).state (splice-is s state is all.0) (taken-on s ss state all) in
     record {
@@ -228,6 +229,7 @@ restyled (s ∷ ss) state is all =
       client = later.client;
       page = later.page;
       next = later.next;
+      medium = later.medium;
       book = later.book ∙ ap (λ (book : List SheetEntry). after_splices ss book) (sym (splice-book s state all.0));
     }
 

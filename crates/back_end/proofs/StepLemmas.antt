@@ -18,7 +18,7 @@ use Rattle.page_tree.specs.declared.edits.TreeEdit.TheVariants as edit
 use Rattle.page_tree.specs.declared.edit_faults.EditFault.{EditFault}
 use Rattle.page_forms.specs.declared.acts.Act.{Act}
 use Rattle.page_forms.specs.declared.acts.Act.TheVariants.{SetAttr, DropAttr, SetText, Insert, Remove, Move, AddSheet, DropSheet}
-use Rattle.page_forms.specs.declared.acts.Act.TheVariants.{ReplaceSheet}
+use Rattle.page_forms.specs.declared.acts.Act.TheVariants.{ReplaceSheet, Medium as SetMedium}
 use Rattle.page_forms.specs.Acts.{IsInsertable}
 use Rattle.page_forms.specs.Pages.{LoadedPage, CanLoadPage}
 use Rattle.page_tree.proofs.EditLemmas.{valid-after, clear}
@@ -48,8 +48,10 @@ use Rattle.undo_marks.specs.Marks.{crossed_over}
 use Rattle.back_end.specs.declared.faults.ActFault.{ActFault}
 use Rattle.back_end.specs.declared.faults.ActFault.TheVariants.{Sheet}
 use Rattle.back_end.specs.Sheets.{as_book, AreSheetsBelow}
+use Rattle.media_rules.specs.declared.medium.Medium.{Medium}
+use Rattle.back_end.specs.Steps.{on_medium}
 use Rattle.back_end.specs.States.{Side, Client, State, book_in, sheets_shown, view_of, loaded_side, AreAmong, HoldsNow, HasHistory, IsState}
-use Rattle.back_end.specs.Plans.{Plan, Deed, edits, restyles, edit_fault, size_fault, drop_fault, replace_fault, dropping, replacing}
+use Rattle.back_end.specs.Plans.{Plan, Deed, edits, restyles, shows_on, edit_fault, size_fault, drop_fault, replace_fault, dropping, replacing}
 use Rattle.back_end.specs.Plans.{act_fault, act_plan}
 use Rattle.back_end.specs.Steps.{Step, with_page, watched_after, edit_step, pause_step, script_step, script_steps, with_crossed, crossing}
 use Rattle.back_end.specs.Steps.{deed_step, sheet_steps, planned_step, act_step, client_reset, load_step, Turn, acts, loads, turn_step}
@@ -239,6 +241,7 @@ form-few state parent before form h =
 abbrev CanDo : Deed → State → Type 0
 CanDo (edits plan) state = Planned state plan
 CanDo (restyles changes) state = CanChangeAll changes state × (length changes ≤ 2)
+CanDo (shows_on medium) state = ⊤
 
 unmapped : (o : Option EditFault) → edit_fault o ≡ None → o ≡ None
 unmapped None e = refl
@@ -302,6 +305,7 @@ can-do state (AddSheet origin text) is can texts h =
     ((fits-beside text state.side.sheets texts (fits-size text (book_in state) h), tt), omega arith)
 can-do state (DropSheet sheet) is can texts h = drops-can sheet state (sheet_named sheet (book_in state)) refl h
 can-do state (ReplaceSheet sheet text) is can texts h = replaces-can sheet text state (sheet_named sheet (book_in state)) texts.1 refl h
+can-do state (SetMedium medium) is can texts h = tt
 
 -- a state with the plan's page
 pub with-page-is : (state : State) (page : PageValue) → HoldsNow state → IsValid page → page.tree ≡ state.side.page.tree
@@ -356,12 +360,37 @@ plan-well state plan is room p =
       few_sheets = omega (arith, done.few_sheets);
     }
 
+-- a page that is shown on another medium
+medium-is : (state : State) (medium : Medium) → HoldsNow state → HoldsNow (on_medium medium state)
+medium-is state medium is = record {
+  page = is.page;
+  texts = is.texts;
+  sheets = is.sheets;
+  session = is.session;
+  off = is.off;
+  css_off = is.css_off;
+  watched = is.watched;
+  none_watched = is.none_watched;
+}
+
+medium-well : (state : State) (medium : Medium) → HoldsNow (with_crossed (on_medium medium state)) → HasRoom state
+    → Well state (deed_step (shows_on medium) state) 0 0 0
+medium-well state medium now room = record {
+  now = now;
+  course = refl;
+  few_ids = omega arith;
+  few_serials = omega arith;
+  few_sheets = omega arith;
+}
+
 deed-well : (state : State) (deed : Deed) → HoldsNow state → HasRoom state → CanDo deed state
     → Well state (deed_step deed state) 400002 100000 2
 deed-well state (edits plan) is room can = more (omega arith) (omega arith) (omega arith) (plan-well state plan is room can)
 deed-well state (restyles changes) is room can =
     more (omega arith) (omega arith) can.1
     (crossing-well (changes-well changes state is (room-numbers state room) (omega (arith, room.sheets, can.1)) can.0))
+deed-well state (shows_on medium) is room can =
+    more (omega arith) (omega arith) (omega arith) (medium-well state medium (crossed-is (on_medium medium state) (medium-is state medium is)) room)
 
 act-well : (state : State) (act : Act) → HoldsNow state → HasRoom state → IsInsertable act → ActHasTexts act
     → Well state (act_step act state) 400002 100000 2
@@ -456,6 +485,7 @@ turn-recalls (acts act) state history = at (act_fault act state.side.page (book_
       at : (o : Option ActFault) (deed : Deed) → Recalls state (planned_step o deed state).state 0 0
       at None (edits plan) = recalls-crossed state (script_steps plan.edits (with_page plan.page state)).state
       at None (restyles changes) = recalls-crossed state (sheet_steps changes state).state
+      at None (shows_on medium) = recalls-crossed state (on_medium medium state)
       at (Some f) deed = recalls-same state state history refl refl (omega arith)
 turn-recalls (loads page) state history = recalls-none state (load_step page state).state refl
 

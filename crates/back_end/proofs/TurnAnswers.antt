@@ -20,7 +20,7 @@ use Rattle.dom_breakpoints.specs.Pauses.{pause_of}
 use Rattle.back_end.specs.declared.faults.ActFault.{ActFault}
 use Rattle.back_end.specs.Sheets.{SheetChange, leaves, comes}
 use Rattle.back_end.specs.States.{Side, State, page_nodes, book_in}
-use Rattle.back_end.specs.Plans.{Deed, edits, restyles, act_fault, act_plan}
+use Rattle.back_end.specs.Plans.{Deed, edits, restyles, shows_on, act_fault, act_plan}
 use Rattle.back_end.specs.Steps.{edit_step, push_step, push_steps, met_step, followed_by, pause_step, script_step, script_steps, with_page}
 use Rattle.back_end.specs.Steps.{sheet_move, sheet_step, sheet_steps, moves_gone, moves_come, deed_step, planned_step, act_step, load_step}
 use Rattle.back_end.specs.Steps.{Turn, acts, loads, turn_step}
@@ -191,6 +191,7 @@ come-are-events (s ∷ ss) = (tt, come-are-events ss)
 deed-events : (deed : Deed) (state : State) → AreEvents (deed_step deed state).moves
 deed-events (edits plan) state = scripts-events plan.edits (with_page plan.page state)
 deed-events (restyles changes) state = changes-events changes state
+deed-events (shows_on medium) state = tt
 
 act-events : (act : Act) (state : State) → AreEvents (act_step act state).moves
 act-events act state = at (act_fault act state.side.page (book_in state)) where

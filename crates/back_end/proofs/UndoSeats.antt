@@ -261,7 +261,7 @@ takes-here d s state x stands t =
 
 pub put-stands : (d : Desk) (s s1 : PageSide) (state : State) (x : Splice) → DeskStandsFor d s state
     → TakesSheet x (map saved_sheet s.sheets.entries)
-    → s1.page ≡ s.page → s1.sheets ≡ record { entries = after_splice x s.sheets.entries; next = s.sheets.next }
+    → s1.page ≡ s.page → s1.sheets ≡ record s.sheets { entries = after_splice x s.sheets.entries }
     → DeskStandsFor d s1 (splice_step x state).state
 put-stands d s s1 state x stands t page_is sheets_is =
     let after = restyled (x ∷ []) state stands.now (takes-here d s state x stands t, tt) in
@@ -270,6 +270,7 @@ put-stands d s s1 state x stands t page_is sheets_is =
       page_is = page_is ∙ stands.page_is;
       sheets_are = ap (λ (b : NumberedBook). b.entries) sheets_is ∙ ap (after_splice x) stands.sheets_are ∙ sym after.book;
       next_is = ap (λ (b : NumberedBook). b.next) sheets_is ∙ stands.next_is;
+      medium_is = ap (λ (b : NumberedBook). b.medium) sheets_is ∙ stands.medium_is;
       on_is = stands.on_is;
       css_is = stands.css_is;
       watches_are = stands.watches_are;

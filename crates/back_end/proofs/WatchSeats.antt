@@ -47,6 +47,7 @@ module _ (d : Desk) (s : PageSide) (state : State) (id : ℕ) (command : Command
         page_is = stands.page_is;
         sheets_are = stands.sheets_are;
         next_is = stands.next_is;
+        medium_is = stands.medium_is;
         on_is = on_is ∙ stands.on_is;
         css_is = css_is ∙ stands.css_is;
         watches_are = watches_is ∙ ap (change serial) stands.watches_are;

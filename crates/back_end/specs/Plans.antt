@@ -1,4 +1,4 @@
--- What a script's change of the page comes to: edits of the page, or changes of its sheets, or the first fault.
+-- What a script's change of the page comes to: edits of the page, or changes of its sheets, or another medium, or the first fault.
 use Rattle.std.specs.Prelude.{ℕ, cond, List, [], ◌∷◌, Option, Some, None, option_map}
 use Rattle.page_tree.specs.Pages.{PageValue}
 use Rattle.page_tree.specs.Edits.{drawn, form_at, insert_edits, copy_edits, move_edits}
@@ -11,9 +11,10 @@ use Rattle.sheet_reader.specs.Books.{removed}
 use Rattle.style_edits.specs.declared.faults.SheetFault.TheVariants.{NoSheet, TooBig}
 use Rattle.style_edits.specs.Edits.{is_too_big}
 use Rattle.css_agent.specs.Asks.{sheet_named}
+use Rattle.media_rules.specs.declared.medium.Medium.{Medium}
 use Rattle.page_forms.specs.declared.acts.Act.{Act}
 use Rattle.page_forms.specs.declared.acts.Act.TheVariants.{SetAttr, DropAttr, SetText, Insert, Remove, Move, AddSheet, DropSheet}
-use Rattle.page_forms.specs.declared.acts.Act.TheVariants.{ReplaceSheet}
+use Rattle.page_forms.specs.declared.acts.Act.TheVariants.{ReplaceSheet, Medium as SetMedium}
 use Rattle.back_end.specs.declared.faults.ActFault.{ActFault}
 use Rattle.back_end.specs.declared.node_edits.TreeWish.{TreeWish}
 use Rattle.back_end.specs.declared.node_edits.TreeWish.TheVariants.{One, MoveNode, CopyNode}
@@ -31,6 +32,8 @@ pub data Deed : Type 0 where
   edits : Plan → Deed
   -- changes of its sheets, one after the other
   restyles : List SheetChange → Deed
+  -- another medium
+  shows_on : Medium → Deed
 
 -- one edit of the page
 abbrev pub one_edit : TreeEdit → PageValue → Deed
@@ -79,6 +82,7 @@ act_fault (Move node parent before) page book = edit_fault (move_fault node pare
 act_fault (AddSheet origin text) page book = size_fault text book
 act_fault (DropSheet sheet) page book = drop_fault (sheet_named sheet book)
 act_fault (ReplaceSheet sheet text) page book = replace_fault text book (sheet_named sheet book)
+act_fault (SetMedium medium) page book = None
 
 -- what an act without a fault comes to
 abbrev pub act_plan : Act → PageValue → List SheetEntry → Deed
@@ -91,6 +95,7 @@ act_plan (Move node parent before) page book = edits (record { page = page; edit
 act_plan (AddSheet origin text) page book = restyles (comes origin text ∷ [])
 act_plan (DropSheet sheet) page book = restyles (dropping (sheet_named sheet book))
 act_plan (ReplaceSheet sheet text) page book = restyles (replacing text (sheet_named sheet book))
+act_plan (SetMedium medium) page book = shows_on medium
 
 -- ---- a client's edits of the tree
 

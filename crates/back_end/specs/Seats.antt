@@ -10,6 +10,7 @@ use Rattle.dom_breakpoints.specs.declared.pauses.Pause.{Pause}
 use Rattle.dom_breakpoints.specs.Watched.{Watched, is_watched}
 use Rattle.page_forms.specs.declared.pages.PageForm.{PageForm}
 use Rattle.page_forms.specs.Pages.{LoadedPage, loaded_page}
+use Rattle.page_forms.specs.Mediums.{usual_medium}
 use Rattle.undo_marks.specs.Marks.{Marks, entry_count}
 use Rattle.undo_marks.specs.declared.inverse_lists.Inverse.{Inverse}
 use Rattle.back_end.specs.States.{State, HoldsNow, Keeps, page_nodes, book_in}
@@ -24,6 +25,7 @@ pub record DeskStandsFor (desk : Desk) (side : PageSide) (state : State) : Type 
   pub page_is : side.page ≡ state.side.page
   pub sheets_are : side.sheets.entries ≡ book_in state
   pub next_is : side.sheets.next ≡ state.side.next_sheet
+  pub medium_is : side.sheets.medium ≡ state.side.medium
   pub on_is : desk.is_on ≡ state.client.dom_on
   pub css_is : desk.css ≡ state.client.css_on
   pub stands : Stands (page_nodes state) state.client.session desk.agent
@@ -92,5 +94,5 @@ pub data IsPause (w : Watched) (n : Nodes PageRow) : Pause → Type 0 where
 
 -- the page that is loaded first: without one that of a document alone, with no sheets
 abbrev pub first_page : Option PageForm → LoadedPage
-first_page None = record { nodes = none; sheets = [] }
+first_page None = record { nodes = none; medium = usual_medium; sheets = [] }
 first_page (Some page) = loaded_page page

@@ -11,6 +11,8 @@ use Rattle.sheet_reader.specs.contracts.book.SheetEntry as entry
 use Rattle.style_edits.specs.Edits.{new_sheet}
 use Rattle.page_forms.specs.declared.sheets.SheetForm.{SheetForm}
 use Rattle.page_forms.specs.Sheets.{max_sheets, max_sheet_bytes}
+use Rattle.media_rules.specs.declared.medium.Medium.{Medium}
+use Rattle.media_rules.specs.contracts.medium.Medium as medium
 use Rattle.client_views.specs.Views.{ShownSheet}
 use Rattle.css_agent.specs.Told.{told_origin}
 
@@ -67,16 +69,17 @@ pub data SheetChange : Type 0 where
 
 -- ---- the book in code
 
--- the book, and the number that its next sheet gets
+-- what a page is styled by: the book, the number that its next sheet gets, and the medium that the page is shown on
 pub record NumberedBook : Type 0 where
   pub entries : List SheetEntry
   pub next : ℕ
+  pub medium : Medium
 
 -- a book by its parts
 abbrev pub coded_book : Coded NumberedBook
 coded_book =
-    code_by (List SheetEntry × ℕ) (coded× (coded_list entry.the_row.coded) coded_ℕ)
-    (λ b. (b.entries, b.next)) (λ p. record { entries = p.0; next = p.1 }) (λ _. refl)
+    code_by (List SheetEntry × ℕ × Medium) (coded× (coded_list entry.the_row.coded) (coded× coded_ℕ medium.the_row.coded))
+    (λ b. (b.entries, b.next, b.medium)) (λ p. record { entries = p.0; next = p.1; medium = p.2 }) (λ _. refl)
 
 -- each number is below the next one
 abbrev pub AreBelow : ℕ → List SheetEntry → Type 0

@@ -16,7 +16,6 @@ use Rattle.dom_agent.specs.Laws.{RowsHaveUtf8, session_view as seen_by}
 use Rattle.page_forms.specs.Pages.{LoadedPage}
 use Rattle.sheet_reader.specs.declared.book.SheetEntry.{SheetEntry}
 use Rattle.media_rules.specs.declared.medium.Medium.{Medium}
-use Rattle.media_rules.specs.declared.medium.MediumKind.TheVariants.{Screen}
 use Rattle.css_agent.specs.Asks.{StyledPage, styled_page}
 use Rattle.back_end.specs.Sheets.{as_book, numbered_sheets, AreSheetsBelow}
 use Rattle.back_end.specs.Texts.{KeptHasTexts}
@@ -24,11 +23,12 @@ use Rattle.back_end.specs.Texts.{KeptHasTexts}
 -- ---- states
 
 -- The page's side: what the page is, whoever inspects it. Its sheets stand in their order; the next new one gets the number
--- `next_sheet`.
+-- `next_sheet`. It is shown on the medium.
 pub record Side : Type 0 where
   pub page : PageValue
   pub sheets : List ShownSheet
   pub next_sheet : ℕ
+  pub medium : Medium
 
 -- What one client has of the page: which domains are on, what is opened and the ids, the watched nodes, and the history of its
 -- edits, by the pages before and after each.
@@ -52,13 +52,9 @@ page_nodes state = alone state.side.page.tree
 abbrev pub book_in : State → List SheetEntry
 book_in state = as_book state.side.sheets
 
--- the medium that every page is shown on: a screen of 1280 pixels
-abbrev pub first_medium : Medium
-first_medium = record { kind = Screen; width = 1280 }
-
 -- the page as its styles are told
 abbrev pub styled_in : State → StyledPage
-styled_in state = styled_page state.side.page.tree (book_in state) first_medium
+styled_in state = styled_page state.side.page.tree (book_in state) state.side.medium
 
 -- the sheets that the client was told of: the page's while the domain CSS is on
 abbrev pub sheets_shown : State → List ShownSheet
@@ -78,6 +74,7 @@ loaded_side serial number page = record {
   page = loaded serial page.nodes;
   sheets = numbered_sheets number page.sheets;
   next_sheet = number + length page.sheets;
+  medium = page.medium;
 }
 
 -- a page that was just loaded, with serials and numbers of sheets from 1 on; nothing is known of it

@@ -58,8 +58,9 @@ use Rattle.cdp_messages.specs.declared.dom_edit.DomEdit.TheVariants as tree
 use Rattle.back_end.specs.declared.node_edits.TreeWish.{TreeWish}
 use Rattle.back_end.specs.declared.node_edits.TreeWish.TheVariants.{One, MoveNode, CopyNode}
 use Rattle.back_end.specs.Sheets.{shown_sheet, SheetChange, leaves, comes}
+use Rattle.media_rules.specs.declared.medium.Medium.{Medium}
 use Rattle.back_end.specs.States.{Side, Client, State, page_nodes, book_in, styled_in, new_client, loaded_side, saved_now}
-use Rattle.back_end.specs.Plans.{Plan, node_edit_fault, node_edit_plan, node_put, Deed, edits, restyles, one_edit, edit_fault, act_fault}
+use Rattle.back_end.specs.Plans.{Plan, node_edit_fault, node_edit_plan, node_put, Deed, edits, restyles, shows_on, one_edit, edit_fault, act_fault}
 use Rattle.back_end.specs.Plans.{act_plan}
 use Rattle.back_end.specs.OwnMethods.{edit_why, sheet_why, load_asked, act_judged, act_asked}
 use Rattle.cdp_messages.specs.declared.command.Command.{Command}
@@ -220,6 +221,12 @@ abbrev pub sheet_steps : List SheetChange → State → Step
 sheet_steps [] state = record { state = state; moves = [] }
 sheet_steps (c ∷ cs) state = let first = sheet_step c state in telling_first first.moves (sheet_steps cs first.state)
 
+-- ---- the medium
+
+-- the state whose page is shown on that medium
+abbrev pub on_medium : Medium → State → State
+on_medium medium state = record state { side = record state.side { medium = medium } }
+
 -- ---- edits of sheets' texts
 
 -- a splice of a sheet's text, which is told while the domain CSS is on
@@ -300,6 +307,7 @@ crossing done = record done { state = with_crossed done.state }
 abbrev pub deed_step : Deed → State → Step
 deed_step (edits plan) state = crossing (script_steps plan.edits (with_page plan.page state))
 deed_step (restyles changes) state = crossing (sheet_steps changes state)
+deed_step (shows_on medium) state = crossing (idle (on_medium medium state))
 
 -- an act that is refused changes nothing, and tells nothing
 abbrev pub planned_step : Option ActFault → Deed → State → Step

@@ -191,6 +191,10 @@ impl Desk {
             Act::ReplaceSheet { sheet, text } => {
                 self.replace_sheet(side, sheet.as_str(), text.as_str(), out)
             }
+            Act::Medium { medium } => {
+                side.sheets.show_on(medium);
+                Ok(None)
+            }
         }
     }
 

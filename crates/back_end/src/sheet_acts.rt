@@ -108,6 +108,7 @@ impl Desk {
         requires there { IsSome (entry_of number side.old.sheets.entries) }
         ensures entries { side.new.sheets.entries ≡ removed number side.old.sheets.entries }
         ensures next { side.new.sheets.next ≡ side.old.sheets.next }
+        ensures medium { side.new.sheets.medium ≡ side.old.sheets.medium }
         ensures stands { (state : State) → DeskStandsFor self.old side.old state
             → OnOk result (DeskStandsFor self.new side.new (sheet_step (leaves number) state).state) }
         ensures sent { (state : State) → DeskStandsFor self.old side.old state

@@ -12,6 +12,7 @@ ghost use Rattle.back_end.specs.Sheets.{as_book, numbered_sheets};
 ghost use Rattle.page_forms.specs.Sheets.{can_hold_sheets, max_sheet_bytes};
 
 use cdp_messages::CssEdit;
+use media_rules::Medium;
 use css_agent::CssAgent;
 use node_tree::{MAX_SHEET_BYTES, MAX_SHEETS};
 use page_forms::SheetForm;
@@ -30,11 +31,12 @@ fn is_too_long(text: &str) -> bool
     text.len() > MAX_SHEET_BYTES
 }
 
-/// A book of sheets whose numbers are below that of the next one.
+/// What a page is styled by: a book of sheets whose numbers are below that of the next one, and the medium that it is shown on.
 #[derive(Drop)]
 pub(crate) struct PageSheets {
     book: SheetBook,
     next: u64,
+    medium: Medium,
 }
 
 impl Model for PageSheets {
@@ -45,20 +47,21 @@ impl Model for PageSheets {
 
     ghost coded = { coded_book };
 
-    ghost view = { λ s. record { entries = s.book; next = s.next } };
+    ghost view = { λ s. record { entries = s.book; next = s.next; medium = s.medium } };
 
     ghost invariant = { λ s. (0 < s.next) × AreBelow s.next s.book };
 }
 
 impl PageSheets {
-    /// No sheets; the next one gets this number.
-    pub(crate) fn new(alloc: Global, next: u64) -> PageSheets
+    /// No sheets; the next one gets this number, and the page is shown on this medium.
+    pub(crate) fn new(alloc: Global, next: u64, medium: Medium) -> PageSheets
         requires some { 0 < next }
-        ensures { result ≡ record { entries = []; next = next } }
+        ensures { result ≡ record { entries = []; next = next; medium = medium } }
     {
         PageSheets {
             book: SheetBook::new(alloc),
             next,
+            medium,
         }
     }
 
@@ -75,6 +78,20 @@ impl PageSheets {
         ensures some { 0 < result }
     {
         self.next
+    }
+
+    /// The medium that the page is shown on.
+    pub(crate) fn medium(&self) -> &Medium
+        ensures { result.now ≡ self.now.medium }
+    {
+        &self.medium
+    }
+
+    /// Shows the page on another medium.
+    pub(crate) fn show_on(&mut self, medium: Medium)
+        ensures { self.new ≡ record self.old { medium = medium } }
+    {
+        self.medium = medium;
     }
 
     /// Whether a new sheet with this text does not fit.
@@ -98,7 +115,7 @@ impl PageSheets {
     pub(crate) fn add(&mut self, origin: Origin, text: &str) -> Result<(), SheetErr>
         requires room { self.old.next < drawn_before_call }
         ensures last { OnOk result (self.new
-            ≡ record { entries = self.old.entries ++ new_sheet self.old.next origin text.now ∷ []; next = self.old.next + 1 }) }
+            ≡ record self.old { entries = self.old.entries ++ new_sheet self.old.next origin text.now ∷ []; next = self.old.next + 1 }) }
         ensures fits { OnOk result (is_too_big text.now self.old.entries ≡ false) }
         ensures fault { IfFault result (λ f. (f ≡ TooBig) × (is_too_big text.now self.old.entries ≡ true)) }
         ensures unchanged { OnErr result (self.new ≡ self.old) }
@@ -110,7 +127,7 @@ impl PageSheets {
 
     /// Takes a sheet out; the others keep their order.
     pub(crate) fn remove(&mut self, number: u64) -> Result<(), SheetFault>
-        ensures others { self.new ≡ record { entries = removed number self.old.entries; next = self.old.next } }
+        ensures others { self.new ≡ record self.old { entries = removed number self.old.entries } }
         ensures there { OnOk result (IsSome (entry_of number self.old.entries)) }
         ensures fault { IfErr result (λ f. (f ≡ NoSheet) × (entry_of number self.old.entries ≡ None)) }
     {
@@ -128,6 +145,7 @@ impl PageSheets {
     ) -> Result<Vec<Splice>, SheetErr>
         ensures done { IfOk result (λ backs. edit_splices (css_edited self.old.entries edit.now) ≡ Ok (self.new.entries, backs.items)) }
         ensures next { OnOk result (self.new.next ≡ self.old.next) }
+        ensures medium { OnOk result (self.new.medium ≡ self.old.medium) }
         ensures sent { OnOk result (out.new.items ≡ out.old.items ++ frames_of_moves (edit_moves id self.old.entries edit.now)) }
         ensures fault { IfFault result (λ f. css_edited self.old.entries edit.now ≡ Err f) }
         ensures unchanged { IfFault result (λ f. self.new ≡ self.old) }
@@ -149,25 +167,27 @@ impl PageSheets {
     /// Makes a splice, and answers the one that leads back. On an error nothing has changed.
     pub(crate) fn put_back(&mut self, splice: Splice) -> Result<Splice, AllocError>
         requires fits { FitsSplice splice self.old.entries }
-        ensures done { OnOk result (self.new ≡ record { entries = after_splice splice self.old.entries; next = self.old.next }) }
+        ensures done { OnOk result (self.new ≡ record self.old { entries = after_splice splice self.old.entries }) }
         ensures back { IfOk result (λ back. back ≡ back_splice splice self.old.entries) }
         ensures unchanged { OnErr result (self.new ≡ self.old) }
     {
         put_back(&mut self.book, splice)
     }
 
-    /// The sheets of a page that is loaded, with the numbers from this one on.
+    /// The sheets of a page that is loaded and shown on this medium, with the numbers from this one on.
     pub(crate) fn loaded(
         alloc: Global,
         next: u64,
+        medium: Medium,
         forms: &[SheetForm],
     ) -> Result<PageSheets, AllocError>
         requires some { 0 < next }
         requires room { next < drawn_before_edit }
         requires can { can_hold_sheets forms.now ≡ true }
-        ensures { IfOk result (λ s. s ≡ record { entries = as_book (numbered_sheets next forms.now); next = next + length forms.now }) }
+        ensures { IfOk result (λ s. s
+            ≡ record { entries = as_book (numbered_sheets next forms.now); next = next + length forms.now; medium = medium }) }
     {
-        let mut sheets = PageSheets::new(alloc, next);
+        let mut sheets = PageSheets::new(alloc, next, medium);
         for i in 0..forms.len() {
             let form = &forms[i];
             match sheets.add(form.origin, form.text.as_str()) {

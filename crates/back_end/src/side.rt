@@ -6,7 +6,8 @@ ghost use Rattle.back_end.specs.Sheets.{as_book, numbered_sheets};
 ghost use Rattle.back_end.specs.Seats.{first_page};
 
 use crate::sheets::PageSheets;
-use page_forms::PageForm;
+use media_rules::Medium;
+use page_forms::{PageForm, usual_medium};
 use page_tree::Page;
 use sheet_reader::SheetBook;
 use std::alloc::{AllocError, Global};
@@ -26,6 +27,7 @@ impl PageSide {
         ensures page { IfOk result (λ side. side.page ≡ loaded 1 (first_page form).nodes) }
         ensures sheets { IfOk result (λ side. side.sheets.entries ≡ as_book (numbered_sheets 1 (first_page form).sheets)) }
         ensures next { IfOk result (λ side. side.sheets.next ≡ 1 + length (first_page form).sheets) }
+        ensures medium { IfOk result (λ side. side.sheets.medium ≡ (first_page form).medium) }
     {
         match form {
             Some(form) => PageSide::loaded(alloc, 1, 1, form),
@@ -35,6 +37,7 @@ impl PageSide {
                 1,
                 PageForm {
                     nodes: Vec::new(alloc),
+                    medium: usual_medium(),
                     sheets: Vec::new(alloc),
                 },
             ),
@@ -54,8 +57,9 @@ impl PageSide {
         ensures page { IfOk result (λ side. side.page ≡ loaded serial (loaded_nodes form)) }
         ensures sheets { IfOk result (λ side. side.sheets.entries ≡ as_book (numbered_sheets number (loaded_sheets form))) }
         ensures next { IfOk result (λ side. side.sheets.next ≡ number + length (loaded_sheets form)) }
+        ensures medium { IfOk result (λ side. side.sheets.medium ≡ form.medium) }
     {
-        let sheets = PageSheets::loaded(alloc, number, form.sheets.as_slice())?;
+        let sheets = PageSheets::loaded(alloc, number, form.medium, form.sheets.as_slice())?;
         let page = Page::load(alloc, serial, form.nodes)?;
         Ok(PageSide { page, sheets })
     }
@@ -72,5 +76,12 @@ impl PageSide {
         ensures { result.now ≡ self.now.sheets.entries }
     {
         self.sheets.book()
+    }
+
+    /// The medium that the page is shown on.
+    pub fn medium(&self) -> &Medium
+        ensures { result.now ≡ self.now.sheets.medium }
+    {
+        self.sheets.medium()
     }
 }

@@ -15,16 +15,9 @@ ghost use Rattle.back_end.specs.Seats.{DeskStandsFor};
 use crate::desk::Desk;
 use crate::side::PageSide;
 use cdp_messages::{CssAsk, ReplyBody, Why, write_reply};
-use media_rules::{Medium, MediumKind};
 use node_binding::find_in;
 use page_tree::Page;
 use std::alloc::AllocError;
-
-/// The medium that every page is shown on.
-const FIRST_MEDIUM: Medium = Medium {
-    kind: MediumKind::Screen,
-    width: 1280,
-};
 
 impl Desk {
     /// `CSS.enable`: each sheet comes, where CSS was off.
@@ -100,7 +93,7 @@ impl Desk {
                 id,
                 &ask,
                 out,
-                &FIRST_MEDIUM,
+                side.medium(),
             ),
             Err(why) => self.refuse(id, why, out),
         }
@@ -121,7 +114,7 @@ impl Desk {
             CssAsk::GetMatchedStyles { node } => self.answer_matched(side, id, *node, out),
             CssAsk::GetStyleSheetText { .. } | CssAsk::CollectClassNames { .. } => {
                 self.css
-                    .ask(side.page(), side.book(), 0, id, ask, out, &FIRST_MEDIUM)
+                    .ask(side.page(), side.book(), 0, id, ask, out, side.medium())
             }
         }
     }

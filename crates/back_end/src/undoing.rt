@@ -49,6 +49,7 @@ impl Desk {
         ensures page { side.new.page ≡ side.old.page }
         ensures entries { OnOk result (side.new.sheets.entries ≡ after_splice splice side.old.sheets.entries) }
         ensures numbers { OnOk result (side.new.sheets.next ≡ side.old.sheets.next) }
+        ensures medium { OnOk result (side.new.sheets.medium ≡ side.old.sheets.medium) }
         ensures back { IfOk result (λ back. back ≡ back_splice splice side.old.sheets.entries) }
         ensures stands { (state : State) → DeskStandsFor self.now side.old state
             → TakesSheet splice (map saved_sheet side.old.sheets.entries)

@@ -2,7 +2,7 @@
 use Rattle.std.proofs.Common.{◌≡◌, ◌⊎◌, inl, inr, ℕ, ◌+◌, ◌≤◌, length, Option, Some, None, refl, ap, arith}
 use Rattle.back_end.specs.declared.faults.ActFault.{ActFault}
 use Rattle.back_end.specs.States.{State, book_in}
-use Rattle.back_end.specs.Plans.{Deed, edits, restyles, act_fault, act_plan}
+use Rattle.back_end.specs.Plans.{Deed, edits, restyles, shows_on, act_fault, act_plan}
 use Rattle.back_end.specs.Steps.{Turn, acts, loads, planned_step, turn_step}
 use Rattle.back_end.specs.Laws.{most_ids, tree_edits, edits_kept, StepsWell}
 
@@ -13,6 +13,7 @@ Crosses before after = ((tree_edits after ≡ 0) × (edits_kept after ≡ 0)) �
 deed-crosses : (deed : Deed) (state : State) → Crosses state (planned_step None deed state).state
 deed-crosses (edits plan) state = inl (refl, refl)
 deed-crosses (restyles changes) state = inl (refl, refl)
+deed-crosses (shows_on medium) state = inl (refl, refl)
 
 plan-crosses : (fault : Option ActFault) (deed : Deed) (state : State) → Crosses state (planned_step fault deed state).state
 plan-crosses None deed state = deed-crosses deed state

@@ -12,7 +12,7 @@ use Rattle.cdp_messages.specs.declared.css_ask.CssAsk.{CssAsk}
 use Rattle.cdp_messages.specs.declared.css_ask.CssAsk.TheVariants as css
 use Rattle.css_agent.specs.Asks.{css_ask_in}
 use Rattle.css_agent.specs.MatchedStyles.{matched_styles}
-use Rattle.back_end.specs.States.{State, book_in, first_medium, loaded_state}
+use Rattle.back_end.specs.States.{State, book_in, loaded_state}
 use Rattle.back_end.specs.Steps.{Turn, Stepped, element_named, step, turn}
 
 -- the matched styles that answered the ask with this id
@@ -37,7 +37,7 @@ run_start page = record { back = loaded_state page; styles = [] }
 
 -- the matched styles of the element with that serial: those of the page and its sheets in this state
 abbrev pub styles_of_element : State → ℕ → Matched
-styles_of_element state serial = matched_styles first_medium (book_in state) (zipper_at serial state.side.page.tree)
+styles_of_element state serial = matched_styles state.side.medium (book_in state) (zipper_at serial state.side.page.tree)
 
 -- the serial of an element, if one was named
 abbrev pub if_named : Result ℕ Why → Option ℕ

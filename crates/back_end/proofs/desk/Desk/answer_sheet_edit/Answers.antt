@@ -30,7 +30,7 @@ returns-in-Ok-clause-stands c = λ state both.
     on_ok c.note_splices.result _ _ c.note_splices.ensures
     (restyled-both c.args.self.now c.args.history.now c.note_splices.new.history c.args.side.now
     (record { page = c.args.side.now.page; sheets = c.edit.new.self }) state c.args.id c.args.edit.now c.in-Ok.backs.items both
-    c.requires.room c.requires.texts c.requires.on c.requires.css c.in-Ok.ensures.done refl c.in-Ok.ensures.next)
+    c.requires.room c.requires.texts c.requires.on c.requires.css c.in-Ok.ensures.done refl c.in-Ok.ensures.next c.in-Ok.ensures.medium)
 
 pub returns-in-Ok-clause-sent : goal.returns-in-Ok-clause-sent
 returns-in-Ok-clause-sent c = λ state stands.
