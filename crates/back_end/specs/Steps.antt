@@ -60,8 +60,8 @@ use Rattle.back_end.specs.declared.node_edits.TreeWish.TheVariants.{One, MoveNod
 use Rattle.back_end.specs.Sheets.{shown_sheet, SheetChange, leaves, comes}
 use Rattle.media_rules.specs.declared.medium.Medium.{Medium}
 use Rattle.back_end.specs.States.{Side, Client, State, page_nodes, book_in, styled_in, new_client, loaded_side, saved_now}
-use Rattle.back_end.specs.Plans.{Plan, node_edit_fault, node_edit_plan, node_put, Deed, edits, restyles, shows_on, one_edit, edit_fault, act_fault}
-use Rattle.back_end.specs.Plans.{act_plan}
+use Rattle.back_end.specs.Plans.{Plan, node_edit_fault, node_edit_plan, node_put, Deed, edits, restyles, shows_on, one_edit, edit_fault}
+use Rattle.back_end.specs.Plans.{act_fault, act_plan}
 use Rattle.back_end.specs.OwnMethods.{edit_why, sheet_why, load_asked, act_judged, act_asked}
 use Rattle.cdp_messages.specs.declared.command.Command.{Command}
 use Rattle.cdp_messages.specs.declared.command.Command.TheVariants.{DomEnable, DomDisable, CssEnable, CssDisable, AskDom, AskCss, EditDom}

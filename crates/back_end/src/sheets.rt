@@ -12,8 +12,8 @@ ghost use Rattle.back_end.specs.Sheets.{as_book, numbered_sheets};
 ghost use Rattle.page_forms.specs.Sheets.{can_hold_sheets, max_sheet_bytes};
 
 use cdp_messages::CssEdit;
-use media_rules::Medium;
 use css_agent::CssAgent;
+use media_rules::Medium;
 use node_tree::{MAX_SHEET_BYTES, MAX_SHEETS};
 use page_forms::SheetForm;
 use sheet_reader::{Origin, SheetBook};

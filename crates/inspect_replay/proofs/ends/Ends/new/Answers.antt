@@ -10,6 +10,7 @@ invariant_of-result c = record {
     page_is = (c.in_ok-new.ensures {u = tt}).page;
     sheets_are = (c.in_ok-new.ensures {u = tt}).sheets;
     next_is = (c.in_ok-new.ensures {u = tt}).next;
+    medium_is = (c.in_ok-new.ensures {u = tt}).medium;
     off = c.new-2.ensures.off;
     css = c.new-2.ensures.css;
     agent_is = c.new-2.ensures.agent;
@@ -24,6 +25,7 @@ returns c = record {
     page_is = (c.in_ok-new.ensures {u = tt}).page;
     sheets_are = (c.in_ok-new.ensures {u = tt}).sheets;
     next_is = (c.in_ok-new.ensures {u = tt}).next;
+    medium_is = (c.in_ok-new.ensures {u = tt}).medium;
     off = c.new-2.ensures.off;
     css = c.new-2.ensures.css;
     agent_is = c.new-2.ensures.agent;
