@@ -78,8 +78,8 @@ pub record NumberedBook : Type 0 where
 -- a book by its parts
 abbrev pub coded_book : Coded NumberedBook
 coded_book =
-    code_by (List SheetEntry × ℕ × Medium) (coded× (coded_list entry.the_row.coded) (coded× coded_ℕ medium.the_row.coded))
-    (λ b. (b.entries, b.next, b.medium)) (λ p. record { entries = p.0; next = p.1; medium = p.2 }) (λ _. refl)
+    code_by (List SheetEntry × (ℕ × Medium)) (coded× (coded_list entry.the_row.coded) (coded× coded_ℕ medium.the_row.coded))
+    (λ b. (b.entries, (b.next, b.medium))) (λ p. record { entries = p.0; next = p.1.0; medium = p.1.1 }) (λ _. refl)
 
 -- each number is below the next one
 abbrev pub AreBelow : ℕ → List SheetEntry → Type 0
