@@ -393,14 +393,14 @@ loaded-turn next i medium forms f book later at inv is =
     (record book { entries = book.entries ++ new_sheet book.next f.origin f.text ∷ []; next = book.next + 1 }) = (
       append_assoc book.entries (new_sheet book.next f.origin f.text ∷ []) rest ∙ ap
           (λ (es : List SheetEntry). book.entries ++ es) own ∙ inv.0,
-      omega (arith, count, inv.1.0),
-      inv.1.1,
+      omega (arith, count, inv.1),
+      inv.2,
     ) in
     subst (LoadedSoFar next medium forms (i + 1)) (sym is) done
 
 pub loaded-room : (next i : ℕ) (medium : Medium) (forms : List SheetForm) (book : NumberedBook) → next < 2 ^ 51 → can_hold_sheets forms ≡ true
     → LoadedSoFar next medium forms i book → book.next < 2 ^ 52
-loaded-room next i medium forms book room can inv = let few = sheets-few forms can in omega (arith, room, few, inv.1.0)
+loaded-room next i medium forms book room can inv = let few = sheets-few forms can in omega (arith, room, few, inv.1)
 
 pub loaded-end : (next i : ℕ) (medium : Medium) (forms : List SheetForm) (book : NumberedBook) → length forms ≤ i → LoadedSoFar next medium forms i book
     → book ≡ record { entries = as_book (numbered_sheets next forms); next = next + length forms; medium = medium }
@@ -410,8 +410,8 @@ loaded-end next i medium forms book over inv =
     sym (append-nil book.entries) ∙ ap (λ (fs : List SheetForm). book.entries ++ as_book (numbered_sheets book.next fs))
     (sym nothing) ∙ inv.0 in
     let count : book.next ≡ next + length forms = let none_left = ap (λ (fs : List SheetForm). length fs) nothing in omega
-    (arith, none_left, inv.1.0) in
-    λ j. record { entries = entries j; next = count j; medium = inv.1.1 j }
+    (arith, none_left, inv.1) in
+    λ j. record { entries = entries j; next = count j; medium = inv.2 j }
   where
     drop-over : (fs : List SheetForm) (i : ℕ) → length fs ≤ i → drop i fs ≡ []
     drop-over [] zero over = refl

@@ -36,7 +36,7 @@ use Rattle.sheet_reader.specs.Books.{removed}
 use Rattle.style_edits.specs.declared.faults.SheetFault.TheVariants.{TooBig}
 use Rattle.style_edits.specs.Edits.{is_too_big}
 use Rattle.client_views.specs.Views.{ShownSheet, sheets_without}
-use Rattle.client_views.specs.Moves.{CanBeTold, Course}
+use Rattle.client_views.specs.Moves.{CanBeTold, Course, ends}
 use Rattle.css_agent.specs.Asks.{sheet_named}
 use Rattle.dom_agent.specs.Laws.{CanTell, CanTellSheets, RowsHaveUtf8, session_view as seen_by}
 use Rattle.dom_agent.specs.EditLaws.{session_edited}
@@ -49,7 +49,7 @@ use Rattle.back_end.specs.declared.faults.ActFault.{ActFault}
 use Rattle.back_end.specs.declared.faults.ActFault.TheVariants.{Sheet}
 use Rattle.back_end.specs.Sheets.{as_book, AreSheetsBelow}
 use Rattle.media_rules.specs.declared.medium.Medium.{Medium}
-use Rattle.back_end.specs.Steps.{on_medium}
+use Rattle.back_end.specs.Steps.{idle, on_medium}
 use Rattle.back_end.specs.States.{Side, Client, State, book_in, sheets_shown, view_of, loaded_side, AreAmong, HoldsNow, HasHistory, IsState}
 use Rattle.back_end.specs.Plans.{Plan, Deed, edits, restyles, shows_on, edit_fault, size_fault, drop_fault, replace_fault, dropping, replacing}
 use Rattle.back_end.specs.Plans.{act_fault, act_plan}
@@ -63,7 +63,7 @@ use Rattle.back_end.proofs.SheetSteps.{CanChangeAll, changes-well, load-course}
 use Rattle.back_end.proofs.PushSteps.{not-begun, begun-edited}
 use Rattle.back_end.proofs.WatchedLemmas.{none-set, among-after}
 use Rattle.back_end.proofs.PauseSteps.{Pauses, edit-pauses}
-use Rattle.back_end.proofs.WellSteps.{Well, HasNumbers, room-numbers, can-sheets, can-tell, told-with, now-marked, stays, then-well, more}
+use Rattle.back_end.proofs.WellSteps.{Well, HasNumbers, room-numbers, can-sheets, can-tell, told-view, told-with, now-marked, stays, then-well, more}
 use Rattle.back_end.proofs.KeptSteps.{Recalls, recalls-same, recalls-none, recalls-crossed, steps-well}
 
 -- ---- one edit
@@ -373,11 +373,10 @@ medium-is state medium is = record {
   none_watched = is.none_watched;
 }
 
-medium-well : (state : State) (medium : Medium) → HoldsNow (with_crossed (on_medium medium state)) → HasRoom state
-    → Well state (deed_step (shows_on medium) state) 0 0 0
-medium-well state medium now room = record {
-  now = now;
-  course = refl;
+medium-well : (state : State) (medium : Medium) → HoldsNow state → HasRoom state → Well state (idle (on_medium medium state)) 0 0 0
+medium-well state medium is room = record {
+  now = medium-is state medium is;
+  course = ends (view_of state) (told-view state is (room-numbers state room));
   few_ids = omega arith;
   few_serials = omega arith;
   few_sheets = omega arith;
@@ -390,7 +389,7 @@ deed-well state (restyles changes) is room can =
     more (omega arith) (omega arith) can.1
     (crossing-well (changes-well changes state is (room-numbers state room) (omega (arith, room.sheets, can.1)) can.0))
 deed-well state (shows_on medium) is room can =
-    more (omega arith) (omega arith) (omega arith) (medium-well state medium (crossed-is (on_medium medium state) (medium-is state medium is)) room)
+    more (omega arith) (omega arith) (omega arith) (crossing-well (medium-well state medium is room))
 
 act-well : (state : State) (act : Act) → HoldsNow state → HasRoom state → IsInsertable act → ActHasTexts act
     → Well state (act_step act state) 400002 100000 2
