@@ -1,4 +1,4 @@
-ghost use Rattle.std.specs.Prelude.{◌≡◌, ◌+◌, ◌<◌, ◌^◌, [], ◌∷◌, length, option_map, OnOk, OnErr};
+ghost use Rattle.std.specs.Prelude.{◌≡◌, ◌+◌, ◌<◌, [], ◌∷◌, length, option_map, OnOk, OnErr};
 ghost use Rattle.node_tree.specs.Numbers.{memory_limit, kept_before_group};
 ghost use Rattle.undo_marks.specs.Marks.{entry_count, newest, older, onto_newest};
 
@@ -15,7 +15,8 @@ pub struct Groups {
 }
 
 impl Model for Groups {
-    ghost use Rattle.std.specs.Prelude.{◌≡◌, ◌<◌, ◌^◌, List};
+    ghost use Rattle.std.specs.Prelude.{◌≡◌, ◌<◌, List};
+    ghost use Rattle.node_tree.specs.Numbers.{memory_limit};
     ghost use Rattle.undo_marks.specs.declared.inverse_lists.Inverse.{Inverse};
     ghost use Rattle.undo_marks.specs.Codes.{coded_inverses};
     ghost use Rattle.std.specs.Coded.{coded_list};
