@@ -43,6 +43,7 @@ stands-first seat side page can texts new =
         page_is = new.page_is;
         sheets_are = new.sheets_are;
         next_is = new.next_is;
+        medium_is = new.medium_is;
         on_is = new.off;
         css_is = new.css;
         watches_are = new.watches_are;

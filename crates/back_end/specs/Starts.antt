@@ -18,6 +18,7 @@ pub record IsNewSeat (seat : Seat) (side : PageSide) (page : LoadedPage) : Type 
   pub page_is : side.page ≡ loaded 1 page.nodes
   pub sheets_are : side.sheets.entries ≡ as_book (numbered_sheets 1 page.sheets)
   pub next_is : side.sheets.next ≡ 1 + length page.sheets
+  pub medium_is : side.sheets.medium ≡ page.medium
   pub off : seat.desk.is_on ≡ false
   pub css : seat.desk.css ≡ false
   pub agent_is : seat.desk.agent ≡ empty_from 1
