@@ -3,6 +3,7 @@
 // `act` with a value tells the act that it spells. `page` with a value tells how many nodes stand right below the document, and the
 // sheets. `sheets` with a count and a node tells so of a page with that node and that many empty sheets.
 use crate::row_parts::{Answer, first_word, push_layers, value_of};
+use media_rules::{Medium, MediumKind};
 use page_forms::{Act, ActErr, read_act, read_page};
 use serde_json::Value;
 use sheet_reader::Origin;
@@ -94,7 +95,16 @@ fn push_sheet_act(act: &Act, answer: &mut Answer) {
             push_text(sheet.as_str(), answer);
             push_text(text.as_str(), answer);
         }
+        Act::Medium { medium } => push_numbers(medium_word(medium), &[medium.width], answer),
         _ => answer.push("another act"),
+    }
+}
+
+/// The words for a medium.
+fn medium_word(medium: &Medium) -> &'static str {
+    match medium.kind {
+        MediumKind::Screen => "medium screen",
+        MediumKind::Print => "medium print",
     }
 }
 
