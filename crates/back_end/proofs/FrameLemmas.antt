@@ -39,6 +39,9 @@ use Rattle.dom_agent.proofs.MoveLemmas.{steps_are_moves, replies_answer}
 use Rattle.dom_breakpoints.specs.Watched.{Watched, with_watch, without_watch}
 use Rattle.cdp_messages.specs.declared.dom_edit.DomEdit.{DomEdit}
 use Rattle.cdp_messages.specs.declared.dom_edit.DomEdit.TheVariants as tree
+use Rattle.cdp_messages.specs.declared.method.Domains.{Domains}
+use Rattle.cdp_messages.specs.Methods.{needs_both}
+use Rattle.cdp_messages.proofs.MethodRows.{styles-need-both}
 use Rattle.back_end.specs.Texts.{HasTreeTexts}
 use Rattle.back_end.proofs.TreeSteps.{AsksFor, tree-edit-answered}
 use Rattle.back_end.specs.States.{State, page_nodes, book_in, sheets_shown, view_of, HoldsNow, HasHistory, IsState}
@@ -371,6 +374,10 @@ asks-for (tree.RemoveNode node) = (refl, refl)
 asks-for (tree.MoveTo node target before) = λ id. (refl, refl)
 asks-for (tree.CopyTo node target before) = λ id. (refl, refl)
 
+-- what the CSS agent is asked needs its domain on
+needs-both-on : (ask : CssAsk) (on : Bool) → (needs_css (AskCss ask) && not on) ≡ false → (true && not on) ≡ false
+needs-both-on ask on met = subst (λ (d : Domains). (needs_both d && not on) ≡ false) (styles-need-both ask) met
+
 serves : (id : ℕ) (c : Command) (state : State) → fits_command c ≡ true → HasServedTexts c → IsState state → HasRoom state
     → is_counted id ≡ true → Serves state (command_step id c state) id c (most_edits c)
 serves id DomEnable state fits texts is room small =
@@ -427,7 +434,7 @@ serves id (AskCss ask) state fits texts is room small =
     let c : Command = AskCss ask in
     command-serves id c 0 state is room small (λ dom css. serves-plain {ids = 0} c (omega arith)
     (more (omega arith) (omega arith) (omega arith)
-    (css-well id ask state is.now (room-numbers state room) (on-by state.client.css_on css) small))
+    (css-well id ask state is.now (room-numbers state room) (on-by state.client.css_on (needs-both-on ask state.client.css_on css)) small))
     (recalls-same state state is.history refl refl (omega arith))
     (css-once id ask state) (css-may id ask state) (css-text id ask state))
 serves id (EditCss edit) state fits texts is room small =

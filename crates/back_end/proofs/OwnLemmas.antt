@@ -1,5 +1,5 @@
 -- What our own two methods come to is a step that a script may make, and then the reply.
-use Rattle.std.proofs.Common.{◌≡◌, ◌∙◌, ℕ, Bool, true, false, cond, List, [], ◌∷◌, ◌++◌, Option, Some, None, Result, Ok, Err, refl, sym, ap}
+use Rattle.std.proofs.Common.{◌≡◌, ◌∙◌, ℕ, Bool, true, false, not, cond, List, [], ◌∷◌, ◌++◌, Option, Some, None, Result, Ok, Err, refl, sym, ap}
 use Rattle.std.proofs.Common.{arith}
 use Rattle.std.specs.Prelude.{option_map}
 use Rattle.std.specs.List.{flat_map}
@@ -9,10 +9,12 @@ use Rattle.cdp_json.specs.Kinds.{is_counted}
 use Rattle.cdp_json.specs.Lookups.{then_ok}
 use Rattle.cdp_json.specs.Plain.{HasUtf8}
 use Rattle.page_tree.specs.Pages.{PageValue}
+use Rattle.page_tree.specs.declared.faults.LoadFault.{LoadFault}
+use Rattle.page_tree.specs.declared.faults.LoadFault.TheVariants as load_fault
 use Rattle.sheet_reader.specs.declared.book.SheetEntry.{SheetEntry}
 use Rattle.page_forms.specs.declared.acts.Act.{Act}
 use Rattle.page_forms.specs.Acts.{act_in}
-use Rattle.page_forms.specs.Pages.{LoadedPage, page_in, first_page_fault}
+use Rattle.page_forms.specs.Pages.{LoadedPage, page_in, first_page_fault, page_fault}
 use Rattle.page_forms.proofs.ActLemmas.{act-insertable, acts_have_texts}
 use Rattle.page_forms.proofs.PageLemmas.{can_load_page, pages_have_texts}
 use Rattle.cdp_messages.specs.declared.command.Param.TheVariants.{Params}
@@ -30,6 +32,25 @@ use Rattle.back_end.proofs.AnswerLemmas.{flat-append, turn-answers}
 use Rattle.back_end.proofs.WellSteps.{told-view}
 use Rattle.back_end.proofs.KeptSteps.{after-numbers}
 use Rattle.back_end.proofs.StepLemmas.{turn-steps-well}
+
+-- ---- a load that is refused
+
+-- a load that is refused with this
+abbrev pub refused_with : Why → Result LoadedPage Why
+refused_with why = Err why
+
+-- the fault of what is no page, or of a page that has one
+fault-refused : (o : Option LoadedPage) (f : LoadFault) → first_page_fault o ≡ Some f → load_form o ≡ Err (load_why f)
+fault-refused None f e = let same : load_fault.BadForm ≡ f = cc in ap (λ (g : LoadFault). refused_with (load_why g)) same
+fault-refused (Some page) f e = ap (λ (o : Option LoadFault). unless_why (option_map load_why o) page) e
+
+-- of parameters whose numbers are whole
+pub load-refused : (params : Data) (f : LoadFault) (whole : Bool) → whole ≡ not (has_float params) → whole ≡ true
+    → page_fault params ≡ Some f → load_asked params ≡ Err (load_why f)
+load-refused params f whole is all fault = at (has_float params) (sym is ∙ all) where
+  at : (b : Bool) → not b ≡ true → cond b (Err (BadParam Params)) (load_form (page_in params)) ≡ Err (load_why f)
+  at true e = absurd cc
+  at false e = fault-refused (page_in params) f fault
 
 -- ---- what is found
 
