@@ -10,6 +10,6 @@ use Rattle.cdp_messages.proofs.event_read.watch_field.Goals as goal
 
 pub returns : goal.returns
 returns c =
-    ap (option_map (left_with (left c.need_text.new.self))) c.named.ensures
+    ap (option_map (left_with (left c.need_text.new.self))) c.watch_named.ensures
     ∙ need_through as_str (named watch_name all_watches) (codes "type") (left c.args.fields.now) c.in_ok-word.word.now
     (left c.need_text.new.self) c.in_ok-word.ensures.value
