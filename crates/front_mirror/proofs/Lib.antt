@@ -23,3 +23,8 @@ pub mod TurnLemmas
 pub mod MirrorLemmas
 pub mod ReadLemmas
 pub mod EditTableLemmas
+mod PanelTurns
+mod EditTurns
+mod CountLemmas
+mod PanelsTold
+mod PlaceLemmas

@@ -9,3 +9,6 @@ pub mod Laws
 pub mod IdLists
 pub mod Tables
 pub mod TableEdits
+pub mod Panels
+pub mod Places
+pub mod PanelTold

@@ -1,24 +1,27 @@
 ghost use Rattle.std.specs.Prelude.{◌≡◌, ◌≢◌, ◌↔◌, ◌<◌, ◌++◌, length, IsTrue, IsSome, is_some, Some, option_map, unwrap_or, slice_get};
 ghost use Rattle.std.specs.Prelude.{None, true, IfOk, IfSome, OnOk};
-ghost use Rattle.node_tree.specs.Nodes.{none, alone, width, tree_at};
+ghost use Rattle.node_tree.specs.Nodes.{none, alone, width, tree_at, branch_count};
 ghost use Rattle.std.specs.Option.{option_copied};
 ghost use Rattle.node_tree.specs.Keys.{has, find, parent_of, level_of, spot};
-ghost use Rattle.node_tree.specs.Seen.{is_opened, seen_id, seen_serial};
+ghost use Rattle.node_tree.specs.Seen.{is_opened, shows_count, seen_id, seen_serial};
 ghost use Rattle.dom_objects.specs.Told.{count_in, seen_nodes};
 ghost use Rattle.dom_objects.specs.NodeData.{fits_tree};
 ghost use Rattle.front_mirror.specs.Shown.{known_at, root_id};
+ghost use Rattle.client_views.specs.Moves.{has_tree, removes};
+ghost use Rattle.front_mirror.specs.PanelTold.{panel_change};
 ghost use Rattle.front_mirror.specs.Outline.{lines_at, seen_line};
 ghost use Rattle.front_mirror.specs.Tables.{mirror_row, root_ids, TableLooks};
 
 use crate::checks::MOST_LEVELS;
 use crate::edits::NodeChange;
+use crate::panels::Change;
 use crate::slots::{IdList, Slot};
 use crate::table::Table;
 use cdp_messages::Kind;
 use dom_objects::NodeTree;
 use std::alloc::{AllocError, Global};
 use std::marker::Model;
-use std::mem;
+use std::{mem, slice};
 
 /// The page as the messages that came show it: its known nodes, each with an id of the session and its serial in the
 /// page, or nothing. The readers take no memory. A node is known by its id.
@@ -128,7 +131,7 @@ impl Mirror {
         self.table.get(id)
     }
 
-    fn at(&self, id: u64) -> &Slot
+    pub(crate) fn at(&self, id: u64) -> &Slot
         requires known { IsSome (find seen_id id self.now) }
         ensures row { mirror_row result.now ≡ (known_at id self.now).row }
         ensures children { result.now.children ≡ root_ids (known_at id self.now).children }
@@ -228,6 +231,14 @@ impl Mirror {
         self.at(id).is_opened()
     }
 
+    /// Whether it can have children, and they are only counted.
+    pub fn is_unopened(&self, id: u64) -> bool
+        requires known { IsSome (find seen_id id self.now) }
+        ensures { result ≡ shows_count (known_at id self.now).row.hold }
+    {
+        self.at(id).is_unopened()
+    }
+
     /// How many children it has, known or only counted.
     pub fn count(&self, id: u64) -> u64
         requires known { IsSome (find seen_id id self.now) }
@@ -251,6 +262,34 @@ impl Mirror {
         ensures { Some result ≡ option_map (λ b. b.row.id) (tree_at i (known_at id self.now).children) }
     {
         self.at(id).children.at(i)
+    }
+
+    /// How many known nodes stand at and below the node of that id.
+    pub(crate) fn count_below(&self, alloc: Global, id: u64) -> Result<usize, AllocError>
+        requires known { IsSome (find seen_id id self.now) }
+        ensures { IfOk result (λ count. count ≡ branch_count (known_at id self.now)) }
+    {
+        let mut ids = Vec::new(alloc);
+        self.table
+            .list_all(slice::from_ref(&id), MOST_LEVELS, &mut ids)?;
+        Ok(ids.len())
+    }
+
+    /// What panels are told where the child of that id leaves.
+    pub(crate) fn removal(&self, alloc: Global, id: u64, child: u64) -> Result<Change, AllocError>
+        requires known { IsSome (find seen_id id self.now) }
+        requires child { has_tree child (known_at id self.now).children ≡ true }
+        ensures { IfOk result (λ change. change ≡ panel_change id (removes child) (known_at id self.now)) }
+    {
+        self.valid();
+        let place = self.at(id).children.place(child);
+        let known = self.count_below(alloc, child)?;
+        Ok(Change::Removed {
+            parent: id,
+            place,
+            node: child,
+            known,
+        })
     }
 
     /// How many attributes the node of that id has.

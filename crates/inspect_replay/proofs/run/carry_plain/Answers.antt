@@ -179,6 +179,18 @@ returns-in-ShowPauses g c = record {
       (ap seen c.in-ShowPauses.is) (c.show_pauses.ensures.runs c.args.number);
 }
 
+pub returns-in-ShowPanels : goal.returns-in-ShowPanels
+returns-in-ShowPanels g c = record {
+  honest = search rules;
+  cause = search rules;
+  follows = λ state0 up0 down0 run. c.show_panels.ensures.follows state0 up0 down0
+      (run-fewer state0 up0 down0 _ _ c.args.ends.now run);
+  some = c.show_panels.ensures.some;
+  runs = same-carries c.show_panels.result _ _ _ _ _ _ _ _ c.args.ends.now c.show_panels.new.ends c.args.number show_panels
+      (seen c.args.line)
+      (ap seen c.in-ShowPanels.is) (c.show_panels.ensures.runs c.args.number);
+}
+
 pub unreachable-requires : goal.unreachable-requires
 unreachable-requires g c =
     let shows : ◌≡◌ {A = Option ℕ} (Some c.in-ShowStyles.field-0) None = sym
