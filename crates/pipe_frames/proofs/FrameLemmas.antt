@@ -1,6 +1,8 @@
 -- The frames of bytes that are joined, and of texts that are framed.
-use Rattle.std.proofs.Common.{subst, ◌≡◌, ◌≢◌, ℕ, ◌+◌, ◌-◌, ◌<◌, ◌≤◌, List, [], ◌∷◌, ◌++◌, length, take, drop, get_or, refl, sym, ◌∙◌, ap, inl, inr}
-use Rattle.std.proofs.Common.{append_assoc, append-nil, arith, length-append, length-take, length-drop, eqb-true, true, ◌==◌, Result, Ok, Err, OnOk, OnErr}
+use Rattle.std.proofs.Common.{subst, ◌≡◌, ◌≢◌, ℕ, ◌+◌, ◌-◌, ◌<◌, ◌≤◌, List, [], ◌∷◌, ◌++◌, length, take}
+use Rattle.std.proofs.Common.{drop, get_or, refl, sym, ◌∙◌, ap, inl, inr}
+use Rattle.std.proofs.Common.{append_assoc, append-nil, arith, length-append, length-take, length-drop, eqb-true, true, ◌==◌}
+use Rattle.std.proofs.Common.{Result, Ok, Err, OnOk, OnErr}
 use Rattle.std.proofs.Math.Seq.{take-add}
 use Rattle.std.proofs.lemmas.Bool.{cases_eq, ne_eqb}
 use Rattle.std.proofs.lemmas.List.Elements.{All-nil, All-cons, All-head, All-tail}
@@ -270,9 +272,11 @@ took_text old now mid piece start len before text =
 
 -- the first zero byte of what is left of a piece, by its place in the piece
 pub zero_in : (piece : List ℕ) (start len : ℕ) → len < length (take (length piece - start) (drop start piece))
-    → (get_or (take (length piece - start) (drop start piece)) len 0 == 0) ≡ true → (start + len < length piece) × (get_or piece (start + len) 0 ≡ 0)
+    → (get_or (take (length piece - start) (drop start piece)) len 0 == 0) ≡ true
+    → (start + len < length piece) × (get_or piece (start + len) 0 ≡ 0)
 zero_in piece start len within is_zero =
-    let inside : start + len < length piece = omega (arith, length-take (length piece - start) (drop start piece), length-drop start piece, within) in
+    let inside : start + len < length piece
+    = omega (arith, length-take (length piece - start) (drop start piece), length-drop start piece, within) in
     (inside, sym (get_or-drop start piece len 0) ∙ ap (λ bytes. get_or bytes len 0) (sym (take_rest piece start))
     ∙ eqb-true (get_or (take (length piece - start) (drop start piece)) len 0) 0 is_zero)
 

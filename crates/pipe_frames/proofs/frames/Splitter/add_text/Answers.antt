@@ -8,7 +8,8 @@ use Rattle.pipe_frames.proofs.frames.Splitter.add_text.Goals as goal
 pub returns-then-is_empty-clause-ok : goal.returns-then-is_empty-clause-ok
 returns-then-is_empty-clause-ok c =
     rw (← c.self.view_is)
-    (sym (ap (continued _) (nil_from_length c.args.text.now (eqb-true (length c.args.text.now) 0 (sym c.is_empty.ensures ∙ c.if-is_empty.true)))
+    (sym (ap (continued _)
+    (nil_from_length c.args.text.now (eqb-true (length c.args.text.now) 0 (sym c.is_empty.ensures ∙ c.if-is_empty.true)))
     ∙ continued-nil _ c.self.invariant.partial))
 
 pub returns-clause-ok : goal.returns-clause-ok

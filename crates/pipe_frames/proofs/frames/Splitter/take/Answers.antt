@@ -20,7 +20,8 @@ loop-len-preserved c =
     let zero = zero_in c.args.piece.now c.loop-len.start c.in-Some.len c.in-Some.ensures.0.high c.in-Some.ensures.1 in
     record {
       within = omega (arith, zero.0);
-      same = took_frame _ _ _ _ c.args.piece.now _ _ zero.0 zero.1 c.loop-len.invariant.same c.in_ok-add_text.ensures.ok c.in_ok-end_frame.ensures.ok;
+      same = took_frame _ _ _ _ c.args.piece.now _ _ zero.0 zero.1 c.loop-len.invariant.same c.in_ok-add_text.ensures.ok
+          c.in_ok-end_frame.ensures.ok;
     }
 
 pub returns-clause-ok : goal.returns-clause-ok
