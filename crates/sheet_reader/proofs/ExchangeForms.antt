@@ -1,13 +1,12 @@
 -- Where nested pieces behind a `{` are exchanged for others, component values end where they did.
-use Rattle.std.proofs.Common.{◌≡◌, ℕ, zero, suc, ◌+◌, ◌≤◌, Bool, true, false, ◌&&◌, List, [], ◌∷◌, ◌++◌, length, Option, Some, None}
-use Rattle.std.proofs.Common.{refl, sym, ap, subst, ◌∙◌, append_assoc, length-append, arith}
+use Rattle.std.proofs.Common.{◌≡◌, ℕ, suc, ◌+◌, ◌≤◌, Bool, true, false, ◌&&◌, List, [], ◌∷◌, ◌++◌, length, Option}
+use Rattle.std.proofs.Common.{refl, ap, ◌∙◌, append_assoc, length-append, arith}
 use Rattle.css_tokens.specs.declared.token.Token.{Token}
-use Rattle.css_tokens.specs.declared.token.TokenKind.{TokenKind}
 use Rattle.css_tokens.specs.declared.token.TokenKind.TheVariants as tokens
 use Rattle.sheet_reader.specs.declared.brackets.Bracket.{Bracket}
 use Rattle.sheet_reader.specs.declared.brackets.Bracket.TheVariants.{Curly}
 use Rattle.sheet_reader.specs.declared.brackets.Stop.{Stop}
-use Rattle.sheet_reader.specs.Brackets.{opened_by, closed_by, open_by, open_after, is_none_open, stops_at, until_in, until}
+use Rattle.sheet_reader.specs.Brackets.{closed_by, open_by, open_after, is_none_open, stops_at, until_in, until}
 use Rattle.sheet_reader.specs.Grammar.{AreNested, none_nested, plain_and, nested_and}
 use Rattle.sheet_reader.proofs.BracketLemmas.{stop_here, go_on}
 use Rattle.sheet_reader.proofs.ValueForms.{closes_one}

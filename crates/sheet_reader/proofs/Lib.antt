@@ -5,6 +5,7 @@ pub mod SheetLemmas
 pub mod PositionLemmas
 pub mod BookLemmas
 pub mod ValueForms
+pub mod EndForms
 pub mod GrammarForms
 pub mod LayoutForms
 pub mod FrameForms

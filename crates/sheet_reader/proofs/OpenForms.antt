@@ -1,6 +1,6 @@
 -- In a block that is closed no block is left open.
-use Rattle.std.proofs.Common.{◌≡◌, ◌⊎◌, inl, inr, ℕ, zero, suc, ◌+◌, ◌≤◌, Bool, true, false, cond, ◌&&◌, List, [], ◌∷◌, ◌++◌, length}
-use Rattle.std.proofs.Common.{Option, Some, None, refl, sym, ap, subst, ◌∙◌, append_assoc, append-nil, length-append, arith}
+use Rattle.std.proofs.Common.{◌≡◌, ◌⊎◌, inl, inr, ℕ, suc, ◌+◌, ◌≤◌, Bool, true, false, cond, ◌&&◌, List, [], ◌∷◌, ◌++◌, length}
+use Rattle.std.proofs.Common.{Option, Some, None, refl, sym, ap, ◌∙◌, append_assoc, append-nil, length-append, arith}
 use Rattle.css_tokens.specs.declared.token.Token.{Token}
 use Rattle.css_tokens.specs.declared.token.TokenKind.{TokenKind}
 use Rattle.css_tokens.specs.declared.token.TokenKind.TheVariants as tokens
@@ -9,11 +9,10 @@ use Rattle.sheet_reader.specs.declared.brackets.Bracket.TheVariants.{Round, Squa
 use Rattle.sheet_reader.specs.declared.brackets.Stop.{Stop}
 use Rattle.sheet_reader.specs.declared.brackets.Stop.TheVariants as stops
 use Rattle.sheet_reader.specs.declared.parts.Level.{Level}
-use Rattle.sheet_reader.specs.declared.parts.Level.TheVariants.{Inner}
 use Rattle.sheet_reader.specs.Brackets.{opened_by, closed_by, is_same, open_by, open_after, is_none_open, stops_at, until_in, until}
-use Rattle.sheet_reader.specs.Parts.{EndingForm, text_end, semicolon, block, PartForm, passed, at_rule, qualified, is_passed, ending_pieces}
+use Rattle.sheet_reader.specs.Parts.{EndingForm, block, PartForm, is_passed, ending_pieces}
 use Rattle.sheet_reader.specs.Parts.{part_pieces, parts}
-use Rattle.sheet_reader.specs.Grammar.{outside, AreValues, EndsBefore, IsEnding, at_text_end, at_semicolon, in_block, in_open_block, IsPart}
+use Rattle.sheet_reader.specs.Grammar.{IsEnding, at_text_end, at_semicolon, in_block, in_open_block, IsPart}
 use Rattle.sheet_reader.specs.Grammar.{passed_part, at_rule_part, qualified_part, AreParts, IsRule, IsShutEnding, IsShut, AreShut}
 use Rattle.sheet_reader.proofs.BracketLemmas.{stop_here, go_on}
 use Rattle.sheet_reader.proofs.ValueForms.{until_is}

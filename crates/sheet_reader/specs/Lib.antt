@@ -10,6 +10,7 @@ pub mod Positions
 pub mod Seen
 pub mod Books
 pub mod Grammar
+pub mod Ends
 pub mod Usable
 pub mod Around
 pub mod Lone

@@ -28,8 +28,10 @@ pub fn grammar_law()
     ensures parts { (level : Level) (ts : List Token) → AreParts level (parts level ts) ts }
     ensures parts_only { (level : Level) (ps : List PartForm) (ts : List Token) → AreParts level ps ts → ps ≡ parts level ts }
     ensures laid { (text : List ℕ) → AreLaid text None 0 (parts Top (pieces text)) (laid_out text None 0 (pieces text)) }
-    ensures laid_only { (text : List ℕ) (ls : List Laid) → AreLaid text None 0 (parts Top (pieces text)) ls → ls ≡ laid_out text None 0 (pieces text) }
-    ensures shut { (first close : Token) (inside rest : List Token) → IsEnding (block first inside (Some close)) rest → AreShut (parts Inner inside) }
+    ensures laid_only { (text : List ℕ) (ls : List Laid) → AreLaid text None 0 (parts Top (pieces text)) ls
+        → ls ≡ laid_out text None 0 (pieces text) }
+    ensures shut { (first close : Token) (inside rest : List Token) → IsEnding (block first inside (Some close)) rest
+        → AreShut (parts Inner inside) }
     ensures items { (ts : List Token) → AreItems (items_after 0 ts) ts }
     ensures items_only { (xs : List ItemForm) (ts : List Token) → AreItems xs ts → xs ≡ items_after 0 ts }
 {}
@@ -64,5 +66,6 @@ pub fn usable_law()
 pub fn around_law()
     ensures there { (text : List ℕ) → AreThere (sheet_of text) }
     ensures held { (holds : MediaRule → Bool) (ms : List MediaRule) (around : Option ℕ) → AreBelow 0 ms → IsBelow (length ms) around
-        → (held_at (held holds ms) around ≡ true → AllHold holds ms around) × (AllHold holds ms around → held_at (held holds ms) around ≡ true) }
+        → (held_at (held holds ms) around ≡ true → AllHold holds ms around)
+        × (AllHold holds ms around → held_at (held holds ms) around ≡ true) }
 {}

@@ -16,6 +16,7 @@
 mod book;
 mod brackets;
 mod declarations;
+mod ends;
 mod frames;
 mod laws;
 mod lists;

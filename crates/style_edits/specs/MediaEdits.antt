@@ -1,14 +1,13 @@
 -- What a client's edit of the prelude of a media rule comes to.
-use Rattle.std.specs.Prelude.{ℕ, ◌==◌, Bool, true, false, ◌&&◌, List, [], ◌∷◌, ◌++◌, map, length, Option, Some, None, Err}
+use Rattle.std.specs.Prelude.{ℕ, ◌==◌, Bool, ◌&&◌, List, [], ◌∷◌, ◌++◌, map, length, Option, Some, None, Err}
 use Rattle.std.specs.Prelude.{if◌then◌else◌}
 use Rattle.std.specs.List.{find}
 use Rattle.css_tokens.specs.declared.token.Range.{Range}
 use Rattle.css_tokens.specs.declared.token.Token.{Token}
-use Rattle.css_tokens.specs.declared.token.TokenKind.{TokenKind}
-use Rattle.css_tokens.specs.declared.token.TokenKind.TheVariants.{AtKeyword}
 use Rattle.css_tokens.specs.Pieces.{pieces}
 use Rattle.selectors.specs.Words.{between}
 use Rattle.sheet_reader.specs.declared.book.SheetEntry.{SheetEntry}
+use Rattle.sheet_reader.specs.Grammar.{is_at_keyword}
 use Rattle.sheet_reader.specs.Sheets.{sheet_of}
 use Rattle.sheet_reader.specs.Sealing.{is_sealed_prelude}
 use Rattle.style_edits.specs.declared.faults.SheetFault.TheVariants.{BadRange, BadText}
@@ -19,14 +18,9 @@ use Rattle.style_edits.specs.Edits.{Found, is_at, placed_text, client_sheet, fou
 abbrev pub media_at : List ℕ → LineRange → Option Range
 media_at text lines = find (is_at text lines) (map (λ m. m.prelude) (sheet_of text).media)
 
--- an at-keyword
-abbrev pub is_keyword_kind : TokenKind → Bool
-is_keyword_kind AtKeyword = true
-is_keyword_kind _ = false
-
 -- an at-keyword that ends at this place
 abbrev pub ends_keyword : ℕ → Token → Bool
-ends_keyword place t = is_keyword_kind t.kind && t.end == place
+ends_keyword place t = is_at_keyword t.kind && t.end == place
 
 -- a space right behind the keyword is one piece with it: it ends in the hex digits of an escape
 abbrev pub takes_space : List ℕ → Bool

@@ -5,7 +5,7 @@ ghost use Rattle.std.specs.List.{find};
 ghost use Rattle.css_tokens.specs.Marks.{IsPieceOf};
 ghost use Rattle.sheet_reader.specs.Books.{IsEntry};
 ghost use Rattle.style_edits.specs.Edits.{edited, IfFault};
-ghost use Rattle.style_edits.specs.MediaEdits.{is_keyword_kind, ends_keyword, takes_space, spaces_behind, spaces_at, media_in, media_splice};
+ghost use Rattle.style_edits.specs.MediaEdits.{ends_keyword, takes_space, spaces_behind, spaces_at, media_in, media_splice};
 ghost use Rattle.style_edits.specs.Drafts.{Drafts};
 
 use crate::drafts::{Draft, apply, placed};
