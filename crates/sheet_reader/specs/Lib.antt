@@ -13,3 +13,4 @@ pub mod Grammar
 pub mod Usable
 pub mod Around
 pub mod Lone
+pub mod Moves
