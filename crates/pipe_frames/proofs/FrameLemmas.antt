@@ -276,9 +276,11 @@ pub zero_in : (piece : List ℕ) (start len : ℕ) → len < length (take (lengt
     → (start + len < length piece) × (get_or piece (start + len) 0 ≡ 0)
 zero_in piece start len within is_zero =
     let inside : start + len < length piece
-    = omega (arith, length-take (length piece - start) (drop start piece), length-drop start piece, within) in
-    (inside, sym (get_or-drop start piece len 0) ∙ ap (λ bytes. get_or bytes len 0) (sym (take_rest piece start))
-    ∙ eqb-true (get_or (take (length piece - start) (drop start piece)) len 0) 0 is_zero)
+    = omega (arith, length-take (length piece - start) (drop start piece), length-drop start piece, within) in (
+      inside,
+      sym (get_or-drop start piece len 0) ∙ ap (λ bytes. get_or bytes len 0) (sym (take_rest piece start))
+          ∙ eqb-true (get_or (take (length piece - start) (drop start piece)) len 0) 0 is_zero,
+    )
 
 -- a splitter that took more bytes of a piece, and then all of them
 pub took_all : {T E : Type 0} (result : Result T E) (old now new : Frames) (piece : List ℕ) (start : ℕ) → start ≤ length piece

@@ -59,7 +59,7 @@ none_is [] e = refl
 none_is (b ∷ bs) e = absurd (cc)
 
 -- behind component values that end before a piece no bracket is open
-values_shut : (stop : Stop) (xs : List Token) (y : Token) (ys : List Token) → until stop (xs ++ y ∷ ys) ≡ length xs → opens [] xs ≡ []
+pub values_shut : (stop : Stop) (xs : List Token) (y : Token) (ys : List Token) → until stop (xs ++ y ∷ ys) ≡ length xs → opens [] xs ≡ []
 values_shut stop xs y ys e =
     let on = passes stop xs (y ∷ ys) [] (omega (arith, e)) in
     none_is (opens [] xs) (stops_with_none stop (opens [] xs) y ys (omega (arith, on, e)))
@@ -70,16 +70,17 @@ closes_stops tokens.CloseRound e = absurd (cc)
 closes_stops tokens.CloseSquare e = absurd (cc)
 closes_stops _ e = absurd (cc)
 
-under_by : (bs : List Bracket) (kind : TokenKind) (o c : Option Bracket) → (is_none_open bs && stops_at stops.BlockEnd kind) ≡ false
-    → closed_by kind ≡ c → open_by (bs ++ Curly ∷ []) o c ≡ open_by bs o c ++ Curly ∷ []
-under_by bs kind (Some b) c goes f = refl
-under_by bs kind None None goes f = refl
-under_by [] kind None (Some Round) goes f = refl
-under_by [] kind None (Some Square) goes f = refl
-under_by [] kind None (Some Curly) goes f = let no : true ≡ false = sym (closes_stops kind f) ∙ goes in absurd (cc)
-under_by (first ∷ bs) kind None (Some b) goes f = by (is_same b first)
+pub under_by : (bs outer : List Bracket) (kind : TokenKind) (o c : Option Bracket)
+    → (is_none_open bs && stops_at stops.BlockEnd kind) ≡ false → closed_by kind ≡ c
+    → open_by (bs ++ Curly ∷ outer) o c ≡ open_by bs o c ++ Curly ∷ outer
+under_by bs outer kind (Some b) c goes f = refl
+under_by bs outer kind None None goes f = refl
+under_by [] outer kind None (Some Round) goes f = refl
+under_by [] outer kind None (Some Square) goes f = refl
+under_by [] outer kind None (Some Curly) goes f = let no : true ≡ false = sym (closes_stops kind f) ∙ goes in absurd (cc)
+under_by (first ∷ bs) outer kind None (Some b) goes f = by (is_same b first)
   where
-    by : (x : Bool) → cond x (bs ++ Curly ∷ []) (first ∷ (bs ++ Curly ∷ [])) ≡ cond x bs (first ∷ bs) ++ Curly ∷ []
+    by : (x : Bool) → cond x (bs ++ Curly ∷ outer) (first ∷ (bs ++ Curly ∷ outer)) ≡ cond x bs (first ∷ bs) ++ Curly ∷ outer
     by true = refl
     by false = refl
 
@@ -90,7 +91,7 @@ under_step : (bs : List Bracket) (t : Token) (ts ys : List Token) (x : Bool) →
 under_step bs t ts ys true e more fits = let here = stop_here stops.BlockEnd bs t (ts ++ ys) e in absurd (omega (arith, here, fits))
 under_step bs t ts ys false e more fits =
     let on = go_on stops.BlockEnd bs t (ts ++ ys) e in
-    ap (λ (cs : List Bracket). opens cs ts) (under_by bs t.kind (opened_by t.kind) (closed_by t.kind) e refl)
+    ap (λ (cs : List Bracket). opens cs ts) (under_by bs [] t.kind (opened_by t.kind) (closed_by t.kind) e refl)
     ∙ more (open_after bs t.kind) (omega (arith, on, fits))
 
 -- a `{` stays open under pieces among which its block does not end
@@ -101,9 +102,9 @@ under [] ys bs fits = refl
 under (t ∷ ts) ys bs fits =
     under_step bs t ts ys (is_none_open bs && stops_at stops.BlockEnd t.kind) refl (λ cs. under ts ys cs) fits
 
-some_open : (bs : List Bracket) → is_none_open (bs ++ Curly ∷ []) ≡ false
-some_open [] = refl
-some_open (b ∷ bs) = refl
+pub some_open : (bs outer : List Bracket) → is_none_open (bs ++ Curly ∷ outer) ≡ false
+some_open [] outer = refl
+some_open (b ∷ bs) outer = refl
 
 -- behind a `{` and what follows it, where its block does not end there
 opened_under : (front within ys : List Token) (first : Token) → opens [] front ≡ [] → first.kind ≡ tokens.OpenCurly
@@ -147,7 +148,7 @@ ending_shut front _ rest close more none (in_open_block first within is values o
     let at = ap (λ (xs : List Token). until_in stops.BlockEnd (opens [] within ++ Curly ∷ []) (xs ++ close ∷ more)) over in
     let none_left = ap (λ (xs : List Token). length xs) over in
     let yes = stops_with_none stops.BlockEnd (opens [] within ++ Curly ∷ []) close more (omega (arith, total, on, last, at, none_left)) in
-    let no : true ≡ false = sym yes ∙ some_open (opens [] within) in
+    let no : true ≡ false = sym yes ∙ some_open (opens [] within) [] in
     absurd (cc)
 
 passed_none : (level : Level) (kind : TokenKind) → is_passed level kind ≡ true → open_after [] kind ≡ []

@@ -14,3 +14,4 @@ pub mod Ends
 pub mod Usable
 pub mod Around
 pub mod Lone
+pub mod Moves
