@@ -16,8 +16,8 @@ use crate::tree_messages::append_tree;
 use crate::write::append;
 use cdp_json::{ObjectBuilder, whole_list};
 use css_objects::{
-    class_names_value, matched_value, new_media_value, new_rule_value, new_selectors_value, sheet_text_value,
-    styles_value,
+    class_names_value, matched_value, new_media_value, new_rule_value, new_selectors_value,
+    sheet_text_value, styles_value,
 };
 use dom_objects::NodeTree;
 use node_tree::Attributes;

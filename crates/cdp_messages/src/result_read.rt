@@ -17,7 +17,8 @@ use crate::numbers::Numbers;
 use crate::result_forms::ResultForm;
 use cdp_json::{Cursor, wholes_of};
 use css_objects::{
-    class_names_of, matched_of, new_media_of, new_rule_of, new_selectors_of, sheet_text_of, styles_of,
+    class_names_of, matched_of, new_media_of, new_rule_of, new_selectors_of, sheet_text_of,
+    styles_of,
 };
 use dom_objects::{DownErr, Manner, are_attribute_names, attributes_of, is_ascending, tree_of};
 use node_tree::{Attributes, Text};

@@ -278,7 +278,6 @@ result-told (edit.AddRule sheet rule_text location) book d all utf8 h =
       answers = refl;
       styles = tt;
     }) h
-
 result-told (edit.SetMediaText sheet range text) book d all utf8 h =
     media-result (edit.SetMediaText sheet range text) (media_splice (number_named sheet) (line_range range) text book) book d all
     (λ s k. media_splice_found (number_named sheet) (line_range range) text book s all utf8 k)

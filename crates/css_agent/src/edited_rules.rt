@@ -144,7 +144,11 @@ fn empty_media(alloc: Global, sheet: u64) -> Media
 }
 
 /// The media rule whose prelude an edit made, by the splice that leads back.
-pub(crate) fn media_told(alloc: Global, book: &SheetBook, back: &Splice) -> Result<Media, AllocError>
+pub(crate) fn media_told(
+    alloc: Global,
+    book: &SheetBook,
+    back: &Splice,
+) -> Result<Media, AllocError>
     ensures { IfOk result (λ m. m ≡ media_told book.now back.now) }
 {
     let place = edited_media(book, back);
