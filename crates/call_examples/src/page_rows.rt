@@ -4,7 +4,10 @@
 // `text NODE VALUE`, `detach NODE`, `insert PARENT BEFORE NODE`, `copy NODE PARENT BEFORE` and `move NODE PARENT BEFORE`. The first
 // five load a page; `chain` is one of so many rows, each below the one before. Behind each other edit but a move its way back is
 // carried out too: `and back` says that all nodes are as before.
+ghost use Rattle.std.specs.Prelude.{IfOk};
+ghost use Rattle.node_tree.specs.Nodes.{nodes_of};
 ghost use Rattle.page_tree.specs.EditFaults.{CanInsert, IsReady};
+ghost use Rattle.page_tree.specs.Forms.{CanLoad};
 
 use crate::row_parts::{Answer, first_word, push_layers, value_of, values_from};
 use page_tree::{
@@ -110,7 +113,9 @@ fn put_in_place(
     page: &mut Page,
     read: Result<Vec<NodeForm>, LoadErr>,
     answer: &mut Answer,
-) -> Result<(), AllocError> {
+) -> Result<(), AllocError>
+    requires { IfOk read (λ forms. CanLoad (nodes_of forms.items)) }
+{
     match read {
         Ok(forms) => {
             *page = Page::load(alloc, 1, forms)?;
