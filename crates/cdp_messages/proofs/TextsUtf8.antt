@@ -8,10 +8,10 @@ use Rattle.cdp_json.specs.Kinds.{whole}
 use Rattle.cdp_json.proofs.ReadBack.{IsUtf8-compact_text}
 use Rattle.css_objects.specs.Sheets.{is_sheet, header_kind}
 use Rattle.css_objects.proofs.Objects.{sheet_sound, header_sound, class_names_sound, sheet_text_sound, styles_sound, new_selectors_sound}
-use Rattle.css_objects.proofs.Objects.{new_rule_sound, matched_sound}
+use Rattle.css_objects.proofs.Objects.{new_rule_sound, new_media_sound, matched_sound}
 use Rattle.cdp_messages.specs.declared.down.ReplyBody.{ReplyBody}
 use Rattle.cdp_messages.specs.declared.down.ReplyBody.TheVariants.{Nothing, Root, Node, NodeId, NodeIds, Attributes, ClassNames, SheetText}
-use Rattle.cdp_messages.specs.declared.down.ReplyBody.TheVariants.{Styles, Selectors, Rule, Matched}
+use Rattle.cdp_messages.specs.declared.down.ReplyBody.TheVariants.{Styles, Selectors, Rule, Media, Matched}
 use Rattle.dom_objects.specs.declared.node_rules.Manner.TheVariants.{Pushed, Described}
 use Rattle.dom_objects.specs.NodeData.{fits_nodes, fits_tree}
 use Rattle.cdp_messages.specs.Events.{News, attribute_modified, attribute_removed, text_modified, count_updated, inserted, removed}
@@ -45,6 +45,7 @@ body_utf8 (SheetText text) f u = sheet_text_sound.utf8 text f u
 body_utf8 (Styles styles) f u = styles_sound.utf8 styles f u
 body_utf8 (Selectors selectors) f u = new_selectors_sound.utf8 selectors f u
 body_utf8 (Rule rule) f u = new_rule_sound.utf8 rule f u
+body_utf8 (Media media) f u = new_media_sound.utf8 media f u
 body_utf8 (Matched matched) f u = matched_sound.utf8 matched f u
 
 pub replies_are_utf8 : RepliesAreUtf8

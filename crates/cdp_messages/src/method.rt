@@ -66,6 +66,8 @@ pub enum Method {
     SetStyleSheetText,
     /// `CSS.addRule`
     AddRule,
+    /// `CSS.setMediaText`
+    SetMediaText,
     /// `DOMDebugger.setDOMBreakpoint`
     SetBreakpoint,
     /// `DOMDebugger.removeDOMBreakpoint`
@@ -146,7 +148,7 @@ pub(crate) struct MethodRow {
 }
 
 // Each method once.
-const METHODS: [Method; 32] = [
+const METHODS: [Method; 33] = [
     Method::DomEnable,
     Method::DomDisable,
     Method::GetDocument,
@@ -175,6 +177,7 @@ const METHODS: [Method; 32] = [
     Method::SetRuleSelector,
     Method::SetStyleSheetText,
     Method::AddRule,
+    Method::SetMediaText,
     Method::SetBreakpoint,
     Method::RemoveBreakpoint,
     Method::ReplayLoad,
@@ -308,6 +311,7 @@ impl Method {
             Method::SetRuleSelector => sheets("CSS.setRuleSelector", Form::Selectors),
             Method::SetStyleSheetText => sheets("CSS.setStyleSheetText", Form::Nothing),
             Method::AddRule => sheets("CSS.addRule", Form::Rule),
+            Method::SetMediaText => sheets("CSS.setMediaText", Form::Media),
             Method::SetBreakpoint => seat(
                 "DOMDebugger.setDOMBreakpoint",
                 Domains::Dom,

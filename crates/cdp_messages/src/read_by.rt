@@ -215,6 +215,15 @@ fn add_rule(alloc: Global, params: &Map<String, Value>) -> Result<Command, Comma
     }))
 }
 
+fn set_media_text(alloc: Global, params: &Map<String, Value>) -> Result<Command, CommandErr>
+    ensures { Commands result (command_by method.SetMediaText (members_view params.now.entries)) }
+{
+    let sheet = text(alloc, params, Param::StyleSheetId)?;
+    let range = place(params, Param::Range)?;
+    let text = text(alloc, params, Param::Text)?;
+    Ok(Command::EditCss(CssEdit::SetMediaText { sheet, range, text }))
+}
+
 fn set_breakpoint(params: &Map<String, Value>) -> Result<Command, Why>
     ensures { result ≡ command_by method.SetBreakpoint (members_view params.now.entries) }
 {
@@ -280,6 +289,7 @@ pub(crate) fn command_by(
         Method::SetRuleSelector => set_rule_selector(alloc, members),
         Method::SetStyleSheetText => set_style_sheet_text(alloc, members),
         Method::AddRule => add_rule(alloc, members),
+        Method::SetMediaText => set_media_text(alloc, members),
         Method::SetBreakpoint => small(set_breakpoint(members)),
         Method::RemoveBreakpoint => small(remove_breakpoint(members)),
         Method::ReplayLoad => {

@@ -12,5 +12,6 @@ pub(crate) enum ResultForm {
     Styles,
     Selectors,
     Rule,
+    Media,
     Matched,
 }
