@@ -782,7 +782,7 @@ begins honest up down kinds page e is_honest can texts up_level down_level new =
       so_far = record {
         is_honest = is_honest;
         in_world = subst
-        (λ h. InWorld up down up down (loaded_world kinds page) (e.splitter.whole ++ awaited (loaded_world kinds page).up) h) same
+            (λ h. InWorld up down up down (loaded_world kinds page) (e.splitter.whole ++ awaited (loaded_world kinds page).up) h) same
             (subst (λ fs. InWorld up down up down (loaded_world kinds page) fs (first_ends kinds e.seat e.side)) frames
             (world-first up down kinds page e.seat e.side can texts up_level down_level (stands-first page e.seat e.side can texts new.side)));
       };

@@ -57,10 +57,7 @@ fn write_panel<P: Panel>(
 }
 
 /// A heading and what the panels show that stand open, in the order of their places.
-pub(crate) fn panels_text<P: Panel>(
-    alloc: Global,
-    front: &Front<P>,
-) -> Result<Vec<u8>, AllocError>
+pub(crate) fn panels_text<P: Panel>(alloc: Global, front: &Front<P>) -> Result<Vec<u8>, AllocError>
     ensures { front.now.dead ≡ false
         → IfOk result (λ text. text.items ≡ codes "# panels" ++ 10 ∷ panels_text front.now.panels front.now.value.tree) }
 {

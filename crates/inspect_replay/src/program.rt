@@ -19,10 +19,10 @@ use crate::serve::serve;
 use crate::status::Status;
 use crate::stop::Stop;
 use crate::words::{is_replay, is_serve};
+use front_mirror::Panel;
 use inspect_world::fits_law;
 use pipe_frames::{Link, ReadErr, Sink, Source, read_all};
 use replay_script::has_long_line;
-use front_mirror::Panel;
 use std::alloc::Global;
 
 /// The most bytes of an input.

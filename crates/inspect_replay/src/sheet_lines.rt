@@ -75,10 +75,7 @@ fn write_known<P: Panel>(
 }
 
 /// A heading and the lines of the sheets that the front end knows.
-pub(crate) fn sheets_text<P: Panel>(
-    alloc: Global,
-    front: &Front<P>,
-) -> Result<Vec<u8>, AllocError>
+pub(crate) fn sheets_text<P: Panel>(alloc: Global, front: &Front<P>) -> Result<Vec<u8>, AllocError>
     ensures { IfOk result (λ text. text.items ≡ codes "# sheets" ++ 10 ∷ known_lines front.now.value.sheets) }
 {
     let mut text = Vec::from_slice(alloc, b"# sheets\n")?;

@@ -129,7 +129,11 @@ fn tell<W: Write>(alloc: Global, out: &mut W, example: Example<'_>) -> io::Resul
     let mut sink = MemSink::new(alloc, example.sink);
     let mut link = MemLink::new(alloc, example.link);
     let mut panels: Vec<Box<dyn Panel>> = Vec::new(alloc);
-    let usual = [PanelKind::Outline, PanelKind::Counts, PanelKind::Watch(WATCHED)];
+    let usual = [
+        PanelKind::Outline,
+        PanelKind::Counts,
+        PanelKind::Watch(WATCHED),
+    ];
     let kinds = if example.panels.is_empty() {
         &usual[..]
     } else {
