@@ -488,8 +488,7 @@ pub input-folds : (stop : Stop) (before after : ℕ) (passed : Passed) → IsInp
 input-folds stop before after passed is good = let s : Says = says (status_of stop) in at-input s.phase s.lie
     (PartRose (source_counts before after) s.failed) is
   where
-    at-input : (phase : Phase) (lie : Option Lie) (P : Type 0) (g : Ghosts P) → InReadOnly phase P
-    → FoldsAt phase lie passed × LessAt phase passed
+    at-input : (phase : Phase) (lie : Option Lie) (P : Type 0) → InReadOnly phase P → FoldsAt phase lie passed × LessAt phase passed
     at-input untouched lie P is = absurd is
     at-input reading lie P is = good
     at-input underway lie P is = absurd is

@@ -36,7 +36,7 @@ use Rattle.inspect_replay.proofs.FollowLemmas.{run-came}
 
 -- ---- one line
 
-pub at-end : (phase : Phase) (P : Type 0) (g : Ghosts P) → P → AtEnd phase P
+pub at-end : (phase : Phase) (P : Type 0) → P → AtEnd phase P
 at-end untouched P p = tt
 at-end reading P p = tt
 at-end underway P p = tt
@@ -52,7 +52,7 @@ not-ended ended P Q amid = absurd amid
 not-ended anywhen P Q amid = tt
 
 -- a call that came to its end, or not
-pub tells-came : (result : Result (Unit {0}) Stop) (sink0 sink1 link0 link1 : ℕ) (P : Type 0) (g : Ghosts P)
+pub tells-came : (result : Result (Unit {0}) Stop) (sink0 sink1 link0 link1 : ℕ) (P : Type 0)
     → HasStopCause sink0 sink1 link0 link1 result
     → OnOk result P → AtEnd (says_of result).phase P
 tells-came (Ok value) sink0 sink1 link0 link1 P cause p = p
