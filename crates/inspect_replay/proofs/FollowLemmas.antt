@@ -1,5 +1,5 @@
 -- What the calls on the link and on the ends keep over every link.
-use Rattle.std.proofs.Common.{◌≡◌, is_some, ◌+◌, ◌*◌, ◌≤◌, ℕ, suc, ◌<◌, ◌^◌, List, [], ◌∷◌, ◌++◌, length, drop, codes, Option, Some, None}
+use Rattle.std.proofs.Common.{◌≡◌, is_some, ◌+◌, ◌*◌, ◌≤◌, ℕ, suc, ◌<◌, ◌^◌, List, [], ◌∷◌, ◌++◌, length, map, drop, codes, Option, Some, None}
 use Rattle.std.proofs.Common.{true, false, refl, sym, ◌∙◌, ap, subst, arith, append_assoc, length-append, Result, Ok, Err}
 use Rattle.std.proofs.Math.Seq.{drop-append_seam}
 use Rattle.std.proofs.lemmas.List.{drop_all}

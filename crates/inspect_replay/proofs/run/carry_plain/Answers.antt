@@ -200,4 +200,4 @@ unreachable-requires g c =
 pub unreachable-in-Close-requires : goal.unreachable-in-Close-requires
 unreachable-in-Close-requires g c =
     let drops : ◌≡◌ {A = Option ℕ} (Some c.in-Close.field-0) None = sym
-    (ap (λ line. closed_by (seen line)) c.in-Close.is) ∙ c.requires.open in absurd cc
+    (ap (λ line. closed_by (seen line)) c.in-Close.is) ∙ c.requires.keeps in absurd cc
