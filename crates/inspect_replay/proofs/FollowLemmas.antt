@@ -1,6 +1,6 @@
 -- What the calls on the link and on the ends keep over every link.
-use Rattle.std.proofs.Common.{◌≡◌, is_some, ◌+◌, ◌*◌, ◌≤◌, ℕ, suc, ◌<◌, ◌^◌, List, [], ◌∷◌, ◌++◌, length, drop, codes, Option, Some, None}
-use Rattle.std.proofs.Common.{true, false, refl, sym, ◌∙◌, ap, subst, arith, append_assoc, length-append, Result, Ok, Err}
+use Rattle.std.proofs.Common.{◌≡◌, is_some, ◌+◌, ◌*◌, ◌≤◌, ℕ, suc, ◌<◌, ◌^◌, List, [], ◌∷◌, ◌++◌, length, map, drop, codes, Option, Some}
+use Rattle.std.proofs.Common.{None, true, false, refl, sym, ◌∙◌, ap, subst, arith, append_assoc, length-append, Result, Ok, Err}
 use Rattle.std.proofs.Math.Seq.{drop-append_seam}
 use Rattle.std.proofs.lemmas.List.{drop_all}
 use Rattle.std.specs.Result.{OnOk, IsOk}
@@ -445,8 +445,8 @@ run-first up down kinds page lines e up_within down_within can texts few new =
     record {
       so_far = subst (λ h. Follows start up down up down e.splitter.whole h) (sym same)
           (subst (λ frames. Follows start up down up down frames (first_ends kinds e.seat e.side)) (sym none)
-          (follows-start up down kinds start e.seat e.side up_within down_within refl refl (stands-first page e.seat e.side can texts new.side) few
-          drew (omega (arith, serials))
+          (follows-start up down kinds start e.seat e.side up_within down_within refl refl
+          (stands-first page e.seat e.side can texts new.side) few drew (omega (arith, serials))
           (omega (arith, numbers))));
       none_whole = none;
     }
@@ -488,8 +488,7 @@ pub input-folds : (stop : Stop) (before after : ℕ) (passed : Passed) → IsInp
 input-folds stop before after passed is good = let s : Says = says (status_of stop) in at-input s.phase s.lie
     (PartRose (source_counts before after) s.failed) is
   where
-    at-input : (phase : Phase) (lie : Option Lie) (P : Type 0) (g : Ghosts P) → InReadOnly phase P
-    → FoldsAt phase lie passed × LessAt phase passed
+    at-input : (phase : Phase) (lie : Option Lie) (P : Type 0) → InReadOnly phase P → FoldsAt phase lie passed × LessAt phase passed
     at-input untouched lie P is = absurd is
     at-input reading lie P is = good
     at-input underway lie P is = absurd is
