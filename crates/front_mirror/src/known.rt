@@ -372,7 +372,7 @@ impl Known {
             return Err(FrameErr::Refused(kind));
         }
         let taken = self.next_place()?;
-        let told = edit.told(self.alloc, id, &self.mirror)?;
+        let told = edit.told(id, &self.mirror);
         self.mirror.change(self.alloc, id, edit)?;
         self.taken = taken;
         Ok(Some(told))
