@@ -1,5 +1,5 @@
 -- Nothing but its own declarations stands inside the body of a rule, in any reading.
-use Rattle.std.proofs.Common.{◌≡◌, ◌⊎◌, inl, inr, ℕ, suc, ◌+◌, ◌<◌, ◌≤◌, ◌^◌, Bool, true, false, cond, nat_le, List, [], ◌∷◌, ◌++◌, map}
+use Rattle.std.proofs.Common.{◌≡◌, ◌⊎◌, inl, inr, ℕ, suc, ◌+◌, ◌<◌, ◌≤◌, Bool, true, false, cond, nat_le, List, [], ◌∷◌, ◌++◌, map}
 use Rattle.std.proofs.Common.{take, drop, All}
 use Rattle.std.proofs.Common.{length, Option, Some, None, refl, ap, sym, ◌∙◌, subst, append_assoc, length-append, arith}
 use Rattle.std.specs.Prelude.{slice_get, slice_index, option_map, option_to_list}
@@ -7,6 +7,7 @@ use Rattle.std.proofs.lemmas.List.{append-nil}
 use Rattle.std.proofs.lemmas.List.Elements.{All-nil, All-cons}
 use Rattle.std.proofs.lemmas.Bool.Decides.{nat_tests}
 use Rattle.std.proofs.Math.Seq.{take-append_seam}
+use Rattle.node_tree.specs.Numbers.{number_limit}
 use Rattle.css_tokens.specs.declared.token.Range.{Range}
 use Rattle.css_tokens.specs.declared.token.Token.{Token}
 use Rattle.css_tokens.specs.Pieces.{pieces, pieces_after}
@@ -328,7 +329,7 @@ path_head text r q g s around k _ _ _ _ _ keep (in_media m first last inner ps w
 
 -- the body of a rule may be replaced in every reading
 pub body_clear : (text : List ℕ) (k : ℕ) (r : RuleForm) (ps : List Property) (n : ℕ) → slice_get (sheet_of text).rules k ≡ Some r
-    → All (IsPropertyWithin n) ps → length text + n < 2 ^ 64 → CanMoveBody (sheet_of text) k ps n r
+    → All (IsPropertyWithin n) ps → length text + n < number_limit → CanMoveBody (sheet_of text) k ps n r
 body_clear text k r ps n e within small =
     let top = parts Top (pieces text) in
     let ls = laid_out text None 0 (pieces text) in

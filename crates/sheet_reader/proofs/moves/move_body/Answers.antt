@@ -91,6 +91,8 @@ returns c =
     ∙ (λ i. moved_rules gap (c.new.ensures i) c.args.rule (rules i)) in
     let p : c.new-3.result ≡ map (moved_place gap) c.args.old.places =
     c.new-3.ensures ∙ back2 ∙ c.move_places.ensures ∙ ap (map (moved_place gap)) places in
-    let m = c.move_behind.ensures in
-    (λ i. record { rules = r i; places = p i; media = m i })
-    ∙ ap (moved_by c.args.old c.args.rule c.args.properties.items c.args.size) (sym a.1)
+    let m = c.move_behind.ensures.moved in
+    record {
+      moved = (λ i. record { rules = r i; places = p i; media = m i })
+          ∙ ap (moved_by c.args.old c.args.rule c.args.properties.items c.args.size) (sym a.1);
+    }
