@@ -4,7 +4,9 @@
 //! Every text has one reading. Places are bytes from 0, unless a name says otherwise.
 //!
 //! Promise: `read_sheet` and `read_style` give exactly that reading; `position` and `byte_at` are the lines and UTF-16 columns
-//! of bytes; a `SheetBook` is the list of its entries, each with the reading of its text.
+//! of bytes; a `SheetBook` is the list of its entries, each with the reading of its text. `reread` gives the reading of a text of
+//! which a part was replaced: where that is the body of a rule, no more than the new body is read. `plan_reread` takes the memory
+//! that it wants, `carry_out` and `SheetBook::retell` take none.
 //!
 //! Way in: those, `reread` for a text of which a part was replaced, `sealed` for one that may stand between braces, and `lone_rule`
 //! for one that is one rule.

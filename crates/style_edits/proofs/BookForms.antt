@@ -6,7 +6,7 @@ use Rattle.std.specs.List.{list_any}
 use Rattle.std.proofs.lemmas.Bool.{eqb-true}
 use Rattle.std.proofs.lemmas.List.Elements.{All-weaker, All-pop}
 use Rattle.sheet_reader.specs.declared.book.SheetEntry.{SheetEntry}
-use Rattle.sheet_reader.specs.Books.{IsEntry, entry_of, book_changed, removed}
+use Rattle.sheet_reader.specs.Books.{entry_of, book_changed, removed}
 use Rattle.style_edits.specs.Drafts.{IsOld, olds_restored}
 
 same_nat : (n : ℕ) → nat_eq n n ≡ true

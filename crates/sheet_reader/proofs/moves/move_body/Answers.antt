@@ -1,11 +1,10 @@
-use Rattle.std.proofs.Common.{◌≡◌, ◌+◌, ℕ, suc, List, All, length, take, drop, get_or, map, sym, ap, ◌∙◌, subst, arith, Some}
+use Rattle.std.proofs.Common.{◌≡◌, ◌+◌, ℕ, suc, List, All, length, take, drop, map, sym, ap, ◌∙◌, subst, arith}
 use Rattle.std.proofs.lemmas.List.{length-map}
 use Rattle.std.specs.Prelude.{slice_get, IfSome}
 use Rattle.sheet_reader.specs.declared.sheet.StyleRule.{StyleRule}
-use Rattle.sheet_reader.specs.declared.sheet.Property.{Property}
 use Rattle.sheet_reader.specs.Forms.{rule_seen, RuleForm}
 use Rattle.selectors.specs.Moves.{cut, moved_place, CanPlace}
-use Rattle.sheet_reader.specs.Moves.{body_cut, moved_rules, moved_by, CanPlaceRule, CanPlaceHead, CanMoveBody, IsPropertyWithin}
+use Rattle.sheet_reader.specs.Moves.{moved_rules, moved_by, CanPlaceRule, CanPlaceHead, IsPropertyWithin}
 use Rattle.sheet_reader.proofs.MoveAround.{asked, lent}
 use Rattle.sheet_reader.proofs.moves.move_body.Goals as goal
 

@@ -1,4 +1,4 @@
-use Rattle.std.proofs.Common.{◌≡◌, List, None, get_or, set, length, map, ap, ◌∙◌, arith}
+use Rattle.std.proofs.Common.{None, get_or, set, ap, ◌∙◌, arith}
 use Rattle.std.proofs.lemmas.List.Edits.{map_over_more}
 use Rattle.std.proofs.lemmas.List.{get_or_default}
 use Rattle.css_tokens.specs.declared.token.Range.{Range}

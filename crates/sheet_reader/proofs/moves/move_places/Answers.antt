@@ -1,4 +1,4 @@
-use Rattle.std.proofs.Common.{◌≡◌, List, ℕ, get_or, set, length, map, ap, ◌∙◌, refl, arith}
+use Rattle.std.proofs.Common.{ℕ, get_or, set, ap, ◌∙◌, arith}
 use Rattle.std.proofs.lemmas.List.Edits.{map_over_more}
 use Rattle.std.proofs.lemmas.List.{get_or_default}
 use Rattle.selectors.specs.Moves.{cut, moved_place, CanPlace}

@@ -1,6 +1,5 @@
-use Rattle.std.proofs.Common.{◌≡◌, List, get_or, set, length, map, ap, ◌∙◌, refl, arith}
+use Rattle.std.proofs.Common.{get_or, set, ap, ◌∙◌}
 use Rattle.std.proofs.lemmas.List.Edits.{map_over_more}
-use Rattle.css_tokens.specs.declared.token.Range.{Range}
 use Rattle.sheet_reader.specs.declared.sheet.Property.{Property}
 use Rattle.selectors.specs.Moves.{cut, moved_place}
 use Rattle.sheet_reader.specs.Moves.{placed_property, CanPlaceProperty}

@@ -3,7 +3,7 @@ use Rattle.std.proofs.lemmas.List.Edits.{map_over_more}
 use Rattle.css_tokens.specs.declared.token.Range.{Range}
 use Rattle.selectors.specs.declared.selector.Selector.{Selector}
 use Rattle.std.proofs.lemmas.List.{with_items_is}
-use Rattle.selectors.specs.Forms.{SelectorForm, selector_seen}
+use Rattle.selectors.specs.Forms.{selector_seen}
 use Rattle.selectors.specs.Moves.{cut, moved_place, placed_selector, CanPlaceRange}
 use Rattle.selectors.proofs.MoveForms.{placed, still_holds, all_changed}
 use Rattle.selectors.proofs.selector.SelectorList.move_behind.Goals as goal

@@ -1,7 +1,7 @@
 use Rattle.std.proofs.Common.{List, sym, ap, subst, ◌∙◌}
 use Rattle.std.specs.Prelude.{IsSomeAnd}
 use Rattle.sheet_reader.specs.declared.book.SheetEntry.{SheetEntry}
-use Rattle.sheet_reader.specs.Books.{entry_of, entries_in, book_changed}
+use Rattle.sheet_reader.specs.Books.{entry_of, book_changed}
 use Rattle.sheet_reader.specs.Rereads.{CanRetell, retold}
 use Rattle.sheet_reader.proofs.BookLemmas.{known_there, put_found, put_twice, asked_of, if_found}
 use Rattle.sheet_reader.proofs.book.SheetBook.retell.Goals as goal
