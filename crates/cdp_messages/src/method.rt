@@ -66,6 +66,12 @@ pub enum Method {
     SetStyleSheetText,
     /// `CSS.addRule`
     AddRule,
+    /// `DOM.performSearch`
+    PerformSearch,
+    /// `DOM.getSearchResults`
+    GetSearchResults,
+    /// `DOM.discardSearchResults`
+    DiscardSearchResults,
     /// `DOMDebugger.setDOMBreakpoint`
     SetBreakpoint,
     /// `DOMDebugger.removeDOMBreakpoint`
@@ -146,7 +152,7 @@ pub(crate) struct MethodRow {
 }
 
 // Each method once.
-const METHODS: [Method; 32] = [
+const METHODS: [Method; 35] = [
     Method::DomEnable,
     Method::DomDisable,
     Method::GetDocument,
@@ -175,6 +181,9 @@ const METHODS: [Method; 32] = [
     Method::SetRuleSelector,
     Method::SetStyleSheetText,
     Method::AddRule,
+    Method::PerformSearch,
+    Method::GetSearchResults,
+    Method::DiscardSearchResults,
     Method::SetBreakpoint,
     Method::RemoveBreakpoint,
     Method::ReplayLoad,
@@ -308,6 +317,13 @@ impl Method {
             Method::SetRuleSelector => sheets("CSS.setRuleSelector", Form::Selectors),
             Method::SetStyleSheetText => sheets("CSS.setStyleSheetText", Form::Nothing),
             Method::AddRule => sheets("CSS.addRule", Form::Rule),
+            Method::PerformSearch => seat("DOM.performSearch", Domains::Dom, Form::Search),
+            Method::GetSearchResults => seat("DOM.getSearchResults", Domains::Dom, Form::NodeIds),
+            Method::DiscardSearchResults => seat(
+                "DOM.discardSearchResults",
+                Domains::Dom,
+                Form::Nothing,
+            ),
             Method::SetBreakpoint => seat(
                 "DOMDebugger.setDOMBreakpoint",
                 Domains::Dom,

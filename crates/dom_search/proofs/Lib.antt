@@ -1,0 +1,5 @@
+pub mod MergedLemmas
+pub mod FoundLemmas
+pub mod FoundCounts
+pub mod TextLemmas
+pub mod SearchLemmas

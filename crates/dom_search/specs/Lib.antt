@@ -1,0 +1,4 @@
+pub mod Found
+pub mod Merged
+pub mod FoundLaws
+pub mod Searches
