@@ -247,6 +247,10 @@ edits-by method.SetStyleSheetText ms c is = edits-two param.StyleSheetId text (n
 edits-by method.AddRule ms c is = edits-two param.StyleSheetId text
     (needed param.RuleText text (needed param.Location range_parameter no_lookups)) (λ x. EditCss (style.AddRule x.0 x.1.0 x.1.1.0)) ms c
     (λ x. omega arith) is
+edits-by method.SetMediaText ms c is = edits-two param.StyleSheetId text
+    (needed param.Range range_parameter (needed param.Text text no_lookups)) (λ x. EditCss (style.SetMediaText x.0 x.1.0 x.1.1.0))
+    ms c
+    (λ x. omega arith) is
 edits-by method.PerformSearch ms c is =
     edits-none search_fields (λ x. AskSearch (search.PerformSearch x.0 x.1.0)) ms c (λ x. omega arith) is
 edits-by method.GetSearchResults ms c is =

@@ -39,7 +39,8 @@ use Rattle.css_agent.specs.EditLaws.{HasEditText}
 use Rattle.back_end.proofs.CommandTexts.{Any, reads-any, reads-text, reads-list, IfGiven, Gives, member-texts, gives-all, gives-field}
 use Rattle.back_end.proofs.CommandTexts.{reads-edit}
 use Rattle.cdp_messages.specs.Parameters.{command_by, reads_with, needed, attribute_fields, name_fields, value_fields, edits_field}
-use Rattle.cdp_messages.specs.Parameters.{set_selector_fields, sheet_text_fields, add_rule_fields, range_parameter, text_edit}
+use Rattle.cdp_messages.specs.Parameters.{set_selector_fields, sheet_text_fields, add_rule_fields, set_media_fields, range_parameter}
+use Rattle.cdp_messages.specs.Parameters.{text_edit}
 use Rattle.cdp_messages.specs.Asked.{json_of, of_method, command_for, unless_session, or_bad_request, params_of, command_of, method_in}
 use Rattle.cdp_messages.specs.Asked.{command_in, asked_by, with_id, asked_in, asked_value, asked}
 use Rattle.back_end.specs.Texts.{HasServedTexts}
@@ -104,6 +105,12 @@ selector-gives =
     (λ (x : SourceRange × (List ℕ × ⊤)). Any x.0 × OneText x.1)
     (needed-any param.Range range_parameter (needed param.Selector text no_lookups) OneText (last-text param.Selector))
 
+media-gives : Gives set_media_fields (λ x. IsUtf8 x.0 × (Any x.1.0 × OneText x.1.1))
+media-gives =
+    needed-text param.StyleSheetId (needed param.Range range_parameter (needed param.Text text no_lookups))
+    (λ (x : SourceRange × (List ℕ × ⊤)). Any x.0 × OneText x.1)
+    (needed-any param.Range range_parameter (needed param.Text text no_lookups) OneText (last-text param.Text))
+
 rule-gives : Gives add_rule_fields (λ x. IsUtf8 x.0 × (IsUtf8 x.1.0 × (Any x.1.1.0 × Any x.1.1.1)))
 rule-gives =
     needed-text param.StyleSheetId (needed param.RuleText text (needed param.Location range_parameter no_lookups))
@@ -151,6 +158,8 @@ by-method method.SetStyleSheetText ms u = given sheet_text_fields (λ x. EditCss
     (needed-text param.StyleSheetId (needed param.Text text no_lookups) OneText (last-text param.Text)) (λ x g. g.1.0)
 by-method method.AddRule ms u = given add_rule_fields (λ x. EditCss (style.AddRule x.0 x.1.0 x.1.1.0))
     (λ x. IsUtf8 x.0 × (IsUtf8 x.1.0 × (Any x.1.1.0 × Any x.1.1.1))) ms u rule-gives (λ x g. g.1.0)
+by-method method.SetMediaText ms u = given set_media_fields (λ x. EditCss (style.SetMediaText x.0 x.1.0 x.1.1.0))
+    (λ x. IsUtf8 x.0 × (Any x.1.0 × OneText x.1.1)) ms u media-gives (λ x g. g.1.1.0)
 by-method method.PerformSearch ms u = brings-none _ (λ x. AskSearch (search.PerformSearch x.0 x.1.0)) (λ x. tt)
 by-method method.GetSearchResults ms u = brings-none _ (λ x. AskSearch (search.GetSearchResults x.0 x.1.0 x.1.1.0)) (λ x. tt)
 by-method method.DiscardSearchResults ms u = brings-none _ (λ x. AskSearch (search.DiscardSearchResults x.0)) (λ x. tt)

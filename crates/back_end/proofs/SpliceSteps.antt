@@ -324,6 +324,7 @@ splices-few (edit.SetStyleTexts edits) book = omega (arith, styles-few (map styl
 splices-few (edit.SetRuleSelector sheet range selector) book = one-few _
 splices-few (edit.SetStyleSheetText sheet text) book = one-few _
 splices-few (edit.AddRule sheet rule_text location) book = one-few _
+splices-few (edit.SetMediaText sheet range text) book = one-few _
 
 -- ---- an edit
 
@@ -354,6 +355,7 @@ plain-effect (edit.SetStyleTexts edits) = refl
 plain-effect (edit.SetRuleSelector sheet range selector) = refl
 plain-effect (edit.SetStyleSheetText sheet text) = refl
 plain-effect (edit.AddRule sheet rule_text location) = refl
+plain-effect (edit.SetMediaText sheet range text) = refl
 
 -- it is answered once, by a result of its method
 pub sheet-edit-answered : (id : ℕ) (x : CssEdit) (state : State) (sheet : Option ℕ) → IsState state → HasRoom state → HasEditTexts x

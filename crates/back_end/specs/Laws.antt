@@ -67,6 +67,7 @@ most_splices (style.SetStyleTexts edits) = length edits
 most_splices (style.SetRuleSelector sheet range selector) = 1
 most_splices (style.SetStyleSheetText sheet text) = 1
 most_splices (style.AddRule sheet rule_text location) = 1
+most_splices (style.SetMediaText sheet range text) = 1
 
 -- how many edits a command comes to at most
 abbrev pub most_edits : Command → ℕ

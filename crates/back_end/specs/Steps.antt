@@ -389,7 +389,8 @@ needs_css c = needs_both (domains_of (method_of c))
 
 -- why a command is refused whatever it says, where DOM and CSS are on or off so: a domain that it needs is off
 abbrev pub missing : Bool → Bool → Command → Option Why
-missing dom_on css_on command = cond (needs_on command && not dom_on) (Some DomOff) (cond (needs_css command && not css_on) (Some CssOff) None)
+missing dom_on css_on command =
+    cond (needs_on command && not dom_on) (Some DomOff) (cond (needs_css command && not css_on) (Some CssOff) None)
 
 -- an ask that turns DOM on
 abbrev pub turns_on : DomAsk → Bool

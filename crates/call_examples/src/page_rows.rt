@@ -1,14 +1,18 @@
 // Rows of a page: each has a list of steps, and each step tells the nodes that came of it, or the fault.
 //
-// A step is one of `page NODES`, `many COUNT`, `deep LEVELS`, `set NODE NAME VALUE`, `drop NODE NAME`, `text NODE VALUE`,
-// `detach NODE`, `insert PARENT BEFORE NODE`, `copy NODE PARENT BEFORE` and `move NODE PARENT BEFORE`. The first three load a
-// page. Behind each other edit but a move its way back is carried out too: `and back` says that all nodes are as before.
+// A step is one of `page NODES`, `flat ROWS`, `chain COUNT`, `many COUNT`, `deep LEVELS`, `set NODE NAME VALUE`, `drop NODE NAME`,
+// `text NODE VALUE`, `detach NODE`, `insert PARENT BEFORE NODE`, `copy NODE PARENT BEFORE` and `move NODE PARENT BEFORE`. The first
+// five load a page; `chain` is one of so many rows, each below the one before. Behind each other edit but a move its way back is
+// carried out too: `and back` says that all nodes are as before.
+ghost use Rattle.std.specs.Prelude.{IfOk};
+ghost use Rattle.node_tree.specs.Nodes.{nodes_of};
 ghost use Rattle.page_tree.specs.EditFaults.{CanInsert, IsReady};
+ghost use Rattle.page_tree.specs.Forms.{CanLoad};
 
 use crate::row_parts::{Answer, first_word, push_layers, value_of, values_from};
 use page_tree::{
     EditErr, LoadErr, NodeForm, Page, Text, TreeEdit, after_law, back_law, copy_law, insert_law,
-    move_law, read_node, read_nodes,
+    move_law, read_flat, read_node, read_nodes,
 };
 use serde_json::Value;
 use std::alloc::{AllocError, Global};
@@ -51,6 +55,8 @@ fn carry_out(
     let (word, rest) = first_word(step);
     match word {
         "page" => load(alloc, page, rest, answer),
+        "flat" => flat(alloc, page, rest, answer),
+        "chain" => chain(alloc, page, rest, answer),
         "many" => many(alloc, page, rest, answer),
         "deep" => deep(alloc, page, rest, answer),
         "insert" => insert(alloc, page, rest, answer),
@@ -73,7 +79,44 @@ fn load_nodes(
     nodes: &Value,
     answer: &mut Answer,
 ) -> Result<(), AllocError> {
-    match read_nodes(alloc, nodes) {
+    put_in_place(alloc, page, read_nodes(alloc, nodes), answer)
+}
+
+/// Loads a page of the nodes of rows.
+fn flat(alloc: Global, page: &mut Page, json: &str, answer: &mut Answer) -> Result<(), AllocError> {
+    let value = value_of(alloc, json)?;
+    put_in_place(alloc, page, read_flat(alloc, &value), answer)
+}
+
+/// Loads a page of so many rows, each below the one before.
+fn chain(
+    alloc: Global,
+    page: &mut Page,
+    rest: &str,
+    answer: &mut Answer,
+) -> Result<(), AllocError> {
+    let (count, _) = first_number(rest);
+    let mut json = String::from_str(alloc, "[")?;
+    for up in 0..count {
+        if up > 0 {
+            json.push(',')?;
+        }
+        write!(json, r#"{{"up":{up},"e":"a"}}"#)?;
+    }
+    json.push(']')?;
+    flat(alloc, page, json.as_str(), answer)
+}
+
+/// A page of the nodes that were read, or why they are refused.
+fn put_in_place(
+    alloc: Global,
+    page: &mut Page,
+    read: Result<Vec<NodeForm>, LoadErr>,
+    answer: &mut Answer,
+) -> Result<(), AllocError>
+    requires { IfOk read (λ forms. CanLoad (nodes_of forms.items)) }
+{
+    match read {
         Ok(forms) => {
             *page = Page::load(alloc, 1, forms)?;
             push_outline(page, answer);

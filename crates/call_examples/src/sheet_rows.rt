@@ -1,5 +1,5 @@
-//! Rows of the reader of sheets: `read [TEXT]` tells the rules of a sheet, its places and its media rules, `long [COUNT]` the same of one with so
-//! many pieces of 16 bytes, `style [TEXT]` the properties of a body, `sealed [TEXT]` whether a text is sealed,
+//! Rows of the reader of sheets: `read [TEXT]` tells the rules of a sheet, its places and its media rules, `long [COUNT]` the
+//! same of one with so many pieces of 16 bytes, `style [TEXT]` the properties of a body, `sealed [TEXT]` whether a text is sealed,
 //! `at [TEXT,LINE,COLUMN]` the byte there with that byte's line and column, and `book [STEP,..]` what steps on a book come to:
 //! `["put",ID,TEXT]`, `["copy",PLACE]`, `["change",ID,TEXT]`, `["place",ID]`, `["get",ID]`, `["remove",ID]` and `["len"]`.
 

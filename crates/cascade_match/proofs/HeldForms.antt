@@ -37,7 +37,7 @@ between-each text from to (r ∷ ms) between =
     All-cons (λ (x : MediaRule). IsRangeOf text x.prelude) r ms between.1 (between-each text r.prelude.end to ms between.2)
 
 -- the preludes of the media rules of a text can be cut out of it
-preludes-cut : (text : List ℕ) → IsUtf8 text → All (λ r. IsRangeOf text r.prelude) (sheet_of text).media
+pub preludes-cut : (text : List ℕ) → IsUtf8 text → All (λ r. IsRangeOf text r.prelude) (sheet_of text).media
 preludes-cut text utf8 = between-each text 0 (length text) (sheet_of text).media (sheet_usable text utf8).media
 
 -- those of the media rules of an entry, whose reading is that of its text

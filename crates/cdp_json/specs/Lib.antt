@@ -10,3 +10,4 @@ pub mod Lists
 pub mod Lookups
 pub mod Faithful
 pub mod Builders
+pub mod Tokens

@@ -1,6 +1,8 @@
 // Tokens taken one by one, each of the kind that is meant to come next.
-ghost use Rattle.std.specs.Prelude.{◌≡◌, ◌∷◌, IfOk, OnOk};
+ghost use Rattle.std.specs.Prelude.{◌≡◌, ◌∷◌, MatchResult};
 ghost use Rattle.json.specs.Token.{begin_object, end_object, begin_array, key, string};
+ghost use Rattle.cdp_json.specs.declared.tokens.ScanErr.TheVariants.{OtherForm};
+ghost use Rattle.cdp_json.specs.Tokens.{IsOther, IsOtherKind};
 
 use json::{Reader, Token};
 use std::alloc::{AllocError, AllocFailed};
@@ -38,9 +40,10 @@ impl<T: Drop> From<AllocFailed<T>> for ScanErr {
     }
 }
 
-/// The beginning of an object. Each of these answers `OtherForm` exactly where another token comes next, or none.
+/// The beginning of an object. Each of these takes a token also where it answers an error.
 pub fn take_begin_object(reader: &mut Reader<'_>) -> Result<(), ScanErr>
-    ensures { OnOk result (reader.old ≡ begin_object ∷ reader.new) }
+    ensures { MatchResult result (λ _. reader.old ≡ begin_object ∷ reader.new)
+        (λ e. (e ≡ OtherForm) × IsOther begin_object reader.old) }
 {
     match reader.next() {
         Some(Token::BeginObject) => Ok(()),
@@ -50,7 +53,8 @@ pub fn take_begin_object(reader: &mut Reader<'_>) -> Result<(), ScanErr>
 
 /// The end of an object.
 pub fn take_end_object(reader: &mut Reader<'_>) -> Result<(), ScanErr>
-    ensures { OnOk result (reader.old ≡ end_object ∷ reader.new) }
+    ensures { MatchResult result (λ _. reader.old ≡ end_object ∷ reader.new)
+        (λ e. (e ≡ OtherForm) × IsOther end_object reader.old) }
 {
     match reader.next() {
         Some(Token::EndObject) => Ok(()),
@@ -60,7 +64,8 @@ pub fn take_end_object(reader: &mut Reader<'_>) -> Result<(), ScanErr>
 
 /// The beginning of an array.
 pub fn take_begin_array(reader: &mut Reader<'_>) -> Result<(), ScanErr>
-    ensures { OnOk result (reader.old ≡ begin_array ∷ reader.new) }
+    ensures { MatchResult result (λ _. reader.old ≡ begin_array ∷ reader.new)
+        (λ e. (e ≡ OtherForm) × IsOther begin_array reader.old) }
 {
     match reader.next() {
         Some(Token::BeginArray) => Ok(()),
@@ -70,7 +75,8 @@ pub fn take_begin_array(reader: &mut Reader<'_>) -> Result<(), ScanErr>
 
 /// The name of a member, whatever it is.
 pub fn take_any_key<'a>(reader: &mut Reader<'a>) -> Result<&'a str, ScanErr>
-    ensures { IfOk result (λ name. reader.old ≡ key name.now ∷ reader.new) }
+    ensures { MatchResult result (λ name. reader.old ≡ key name.now ∷ reader.new)
+        (λ e. (e ≡ OtherForm) × IsOtherKind key reader.old) }
 {
     match reader.next() {
         Some(Token::Key(name)) => Ok(name),
@@ -80,7 +86,8 @@ pub fn take_any_key<'a>(reader: &mut Reader<'a>) -> Result<&'a str, ScanErr>
 
 /// The name of a member, which has to be this one.
 pub fn take_key(reader: &mut Reader<'_>, name: &str) -> Result<(), ScanErr>
-    ensures { OnOk result (reader.old ≡ key name.now ∷ reader.new) }
+    ensures { MatchResult result (λ _. reader.old ≡ key name.now ∷ reader.new)
+        (λ e. (e ≡ OtherForm) × IsOther (key name.now) reader.old) }
 {
     let found = take_any_key(reader)?;
     if found == name {
@@ -92,7 +99,8 @@ pub fn take_key(reader: &mut Reader<'_>, name: &str) -> Result<(), ScanErr>
 
 /// A text.
 pub fn take_text<'a>(reader: &mut Reader<'a>) -> Result<&'a str, ScanErr>
-    ensures { IfOk result (λ text. reader.old ≡ string text.now ∷ reader.new) }
+    ensures { MatchResult result (λ text. reader.old ≡ string text.now ∷ reader.new)
+        (λ e. (e ≡ OtherForm) × IsOtherKind string reader.old) }
 {
     match reader.next() {
         Some(Token::String(text)) => Ok(text),

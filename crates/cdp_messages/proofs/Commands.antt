@@ -42,8 +42,8 @@ use Rattle.cdp_messages.specs.Parameters.{depth_number, place_fields, place_part
 use Rattle.cdp_messages.specs.Parameters.{edit_from, text_edit, allowed, one_there, one_of, depth_fields, children_fields, path_field}
 use Rattle.cdp_messages.specs.Parameters.{serials_field, node_field, query_fields, describe_fields, attribute_fields, name_fields}
 use Rattle.cdp_messages.specs.Parameters.{value_fields, move_fields, sheet_field, edits_field, set_selector_fields, sheet_text_fields}
-use Rattle.cdp_messages.specs.Parameters.{search_fields, results_fields, search_field}
-use Rattle.cdp_messages.specs.Parameters.{add_rule_fields, watch_fields, reads_with, command_by, Form, form, parameters_form}
+use Rattle.cdp_messages.specs.Parameters.{add_rule_fields, set_media_fields, search_fields, results_fields, search_field, watch_fields}
+use Rattle.cdp_messages.specs.Parameters.{reads_with, command_by, Form, form, parameters_form}
 use Rattle.cdp_messages.specs.Asked.{refusal, of_method, command_for, params_of, unless_session, command_of, method_in, command_in, with_id}
 use Rattle.cdp_messages.specs.Asked.{asked_in, asked_value, asked_by, json_of, method_of, method_name, parameters, fits_command}
 use Rattle.cdp_messages.specs.Asked.{command_value, request}
@@ -252,6 +252,10 @@ selector_fields_faithful : FaithfulLookups set_selector_fields
 selector_fields_faithful = look_for_faithful _ _ refl text_faithful
     (look_for_faithful _ _ refl place_faithful (look_for_faithful _ _ refl text_faithful nothing_more refl) refl) refl
 
+media_fields_faithful : FaithfulLookups set_media_fields
+media_fields_faithful = look_for_faithful _ _ refl text_faithful
+    (look_for_faithful _ _ refl place_faithful (look_for_faithful _ _ refl text_faithful nothing_more refl) refl) refl
+
 sheet_text_fields_faithful : FaithfulLookups sheet_text_fields
 sheet_text_fields_faithful = look_for_faithful _ _ refl text_faithful (look_for_faithful _ _ refl text_faithful nothing_more refl) refl
 
@@ -337,6 +341,9 @@ command_again (EditCss (style.SetStyleSheetText sheet text)) f =
 command_again (EditCss (style.AddRule sheet rule_text location)) f =
     read_again rule_fields_faithful (λ x. EditCss (style.AddRule x.0 x.1.0 x.1.1.0))
     (sheet, (rule_text, (location, tt))) f
+command_again (EditCss (style.SetMediaText sheet range text)) f =
+    read_again media_fields_faithful (λ x. EditCss (style.SetMediaText x.0 x.1.0 x.1.1.0))
+    (sheet, (range, (text, tt))) f
 command_again (SetBreakpoint node kind) f = read_again watch_fields_faithful (λ x. SetBreakpoint x.0 x.1.0) (node, (kind, tt)) f
 command_again (RemoveBreakpoint node kind) f = read_again watch_fields_faithful (λ x. RemoveBreakpoint x.0 x.1.0) (node, (kind, tt)) f
 command_again (ReplayLoad params) f = kept_again method.ReplayLoad ReplayLoad (λ ms. refl) params f
@@ -371,6 +378,7 @@ named_again method.SetStyleTexts = refl
 named_again method.SetRuleSelector = refl
 named_again method.SetStyleSheetText = refl
 named_again method.AddRule = refl
+named_again method.SetMediaText = refl
 named_again method.PerformSearch = refl
 named_again method.GetSearchResults = refl
 named_again method.DiscardSearchResults = refl
@@ -458,6 +466,8 @@ command_fits method.SetStyleSheetText ms c e = read_fits sheet_text_fields_faith
     (λ x. EditCss (style.SetStyleSheetText x.0 x.1.0)) (λ x. refl) ms c e
 command_fits method.AddRule ms c e =
     read_fits rule_fields_faithful method.AddRule (λ x. EditCss (style.AddRule x.0 x.1.0 x.1.1.0)) (λ x. refl) ms c e
+command_fits method.SetMediaText ms c e = read_fits media_fields_faithful method.SetMediaText
+    (λ x. EditCss (style.SetMediaText x.0 x.1.0 x.1.1.0)) (λ x. refl) ms c e
 command_fits method.PerformSearch ms c e =
     read_fits search_fields_faithful method.PerformSearch (λ x. AskSearch (search.PerformSearch x.0 x.1.0)) (λ x. refl) ms c e
 command_fits method.GetSearchResults ms c e = read_fits results_fields_faithful method.GetSearchResults
@@ -609,6 +619,8 @@ parameters_are_plain (EditCss (style.SetRuleSelector sheet range selector)) f ot
 parameters_are_plain (EditCss (style.SetStyleSheetText sheet text)) f other = sheet_text_fields_faithful.plain (sheet, (text, tt)) f
 parameters_are_plain (EditCss (style.AddRule sheet rule_text location)) f other =
     rule_fields_faithful.plain (sheet, (rule_text, (location, tt))) f
+parameters_are_plain (EditCss (style.SetMediaText sheet range text)) f other =
+    media_fields_faithful.plain (sheet, (range, (text, tt))) f
 parameters_are_plain (SetBreakpoint node kind) f other = watch_fields_faithful.plain (node, (kind, tt)) f
 parameters_are_plain (RemoveBreakpoint node kind) f other = watch_fields_faithful.plain (node, (kind, tt)) f
 parameters_are_plain (ReplayLoad params) f other = absurd cc

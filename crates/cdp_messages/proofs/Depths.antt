@@ -4,15 +4,15 @@ use Rattle.serde_json.specs.Data.{string, depth, items_depth}
 use Rattle.serde_json.specs.View.{items_of}
 use Rattle.cdp_json.specs.Kinds.{whole}
 use Rattle.css_objects.proofs.Objects.{header_sound, class_names_sound, sheet_text_sound, styles_sound, new_selectors_sound, new_rule_sound}
-use Rattle.css_objects.proofs.Objects.{matched_sound}
-use Rattle.css_objects.specs.Results.{sheet_text_result, class_names_result, styles_result, selectors_result, rule_result}
+use Rattle.css_objects.proofs.Objects.{new_media_sound, matched_sound}
+use Rattle.css_objects.specs.Results.{sheet_text_result, class_names_result, styles_result, selectors_result, rule_result, media_result}
 use Rattle.css_objects.specs.Rules.{matched_kind}
 use Rattle.css_objects.specs.Sheets.{header_kind}
 use Rattle.node_tree.specs.Nodes.{alone, height}
 use Rattle.dom_objects.specs.NodeObject.{flat}
 use Rattle.dom_objects.specs.NodeData.{tree_items, tree_data}
 use Rattle.cdp_messages.specs.declared.down.ReplyBody.TheVariants.{Nothing, Root, Node, NodeId, NodeIds, Attributes, ClassNames, SheetText}
-use Rattle.cdp_messages.specs.declared.down.ReplyBody.TheVariants.{Styles, Selectors, Rule, Matched, Search}
+use Rattle.cdp_messages.specs.declared.down.ReplyBody.TheVariants.{Styles, Selectors, Rule, Media, Matched, Search}
 use Rattle.cdp_messages.specs.Events.{attribute_modified, attribute_removed, text_modified, count_updated, inserted, removed, set_children}
 use Rattle.cdp_messages.specs.Events.{document_updated, sheet_added, sheet_changed, sheet_removed, paused}
 use Rattle.cdp_messages.specs.declared.down.PauseData.TheVariants as pause
@@ -51,6 +51,7 @@ replies_are_shallow id (Styles styles) h = result_above (depth (styles_result.sp
 replies_are_shallow id (Selectors selectors) h = result_above (depth (selectors_result.spell selectors)) 5
     (new_selectors_sound.shallow selectors) (omega arith)
 replies_are_shallow id (Rule rule) h = result_above (depth (rule_result.spell rule)) 6 (new_rule_sound.shallow rule) (omega arith)
+replies_are_shallow id (Media media) h = result_above (depth (media_result.spell media)) 3 (new_media_sound.shallow media) (omega arith)
 replies_are_shallow id (Matched matched) h = result_above (depth (matched_kind.spell matched)) 10 (matched_sound.shallow matched)
     (omega arith)
 

@@ -5,12 +5,12 @@ use Rattle.serde_json.specs.View.{items_of}
 use Rattle.serde_json.specs.Written.{has_float, items_have_float}
 use Rattle.cdp_json.specs.Kinds.{whole}
 use Rattle.css_objects.proofs.Objects.{class_names_sound, sheet_text_sound, styles_sound, new_selectors_sound, new_rule_sound}
-use Rattle.css_objects.proofs.Objects.{matched_sound}
+use Rattle.css_objects.proofs.Objects.{new_media_sound, matched_sound}
 use Rattle.dom_objects.specs.NodeObject.{flat}
 use Rattle.cdp_messages.specs.Asked.{command_value, is_whole_where_there}
 use Rattle.cdp_messages.specs.declared.down.ReplyBody.{ReplyBody}
 use Rattle.cdp_messages.specs.declared.down.ReplyBody.TheVariants.{Nothing, Root, Node, NodeId, NodeIds, Attributes, ClassNames, SheetText}
-use Rattle.cdp_messages.specs.declared.down.ReplyBody.TheVariants.{Styles, Selectors, Rule, Matched, Search}
+use Rattle.cdp_messages.specs.declared.down.ReplyBody.TheVariants.{Styles, Selectors, Rule, Media, Matched, Search}
 use Rattle.cdp_messages.specs.Events.{News, attribute_modified, attribute_removed, text_modified, count_updated, inserted, removed}
 use Rattle.cdp_messages.specs.Events.{set_children, document_updated, sheet_added, sheet_changed, sheet_removed, paused, news_data}
 use Rattle.cdp_messages.specs.declared.down.PauseData.TheVariants as pause
@@ -46,6 +46,7 @@ has_float-reply id (SheetText text) = either (sheet_text_sound.no_float text) re
 has_float-reply id (Styles styles) = either (styles_sound.no_float styles) refl
 has_float-reply id (Selectors selectors) = either (new_selectors_sound.no_float selectors) refl
 has_float-reply id (Rule rule) = either (new_rule_sound.no_float rule) refl
+has_float-reply id (Media media) = either (new_media_sound.no_float media) refl
 has_float-reply id (Matched matched) = either (matched_sound.no_float matched) refl
 
 pub has_float-news : (n : News) → has_float (news_data n) ≡ false

@@ -17,8 +17,8 @@ use Rattle.cdp_json.proofs.KindLaws.{same_name, whole_lawful, signed_lawful, tex
 use Rattle.cdp_json.proofs.RowLaws.{ends_lawful, and_need_lawful, and_may_lawful, object_lawful}
 use Rattle.cdp_json.proofs.ReadBack.{read-compact_text, IsUtf8-compact_text}
 use Rattle.css_objects.proofs.Objects.{class_names_sound, sheet_text_sound, styles_sound, new_selectors_sound, new_rule_sound}
-use Rattle.css_objects.proofs.Objects.{matched_sound}
-use Rattle.css_objects.specs.Results.{sheet_text_result, class_names_result, styles_result, selectors_result, rule_result}
+use Rattle.css_objects.proofs.Objects.{new_media_sound, matched_sound}
+use Rattle.css_objects.specs.Results.{sheet_text_result, class_names_result, styles_result, selectors_result, rule_result, media_result}
 use Rattle.css_objects.specs.Rules.{matched_kind}
 use Rattle.cdp_messages.specs.declared.command.Param.{Param}
 use Rattle.cdp_messages.specs.declared.command.Param.TheVariants as param
@@ -31,7 +31,7 @@ use Rattle.cdp_messages.specs.declared.command.Why.TheVariants.{TooBig, NoSearch
 use Rattle.cdp_messages.specs.declared.command.Refused.{Refused}
 use Rattle.cdp_messages.specs.declared.down.ReplyBody.{ReplyBody}
 use Rattle.cdp_messages.specs.declared.down.ReplyBody.TheVariants.{Nothing, Root, Node, NodeId, NodeIds, Attributes, ClassNames, SheetText}
-use Rattle.cdp_messages.specs.declared.down.ReplyBody.TheVariants.{Styles, Selectors, Rule, Matched, Search}
+use Rattle.cdp_messages.specs.declared.down.ReplyBody.TheVariants.{Styles, Selectors, Rule, Media, Matched, Search}
 use Rattle.cdp_messages.specs.declared.method.Method.{Method}
 use Rattle.cdp_messages.specs.declared.result_forms.ResultForm.{ResultForm}
 use Rattle.cdp_messages.specs.declared.result_forms.ResultForm.TheVariants as form
@@ -161,6 +161,7 @@ form_again form.SheetText = refl
 form_again form.Styles = refl
 form_again form.Selectors = refl
 form_again form.Rule = refl
+form_again form.Media = refl
 form_again form.Matched = refl
 
 same_form : (f g : ResultForm) → first_field f ≡ first_field g → f ≡ g
@@ -184,6 +185,7 @@ by_again (SheetText text) f = ap (option_map (λ x. SheetText x)) (sheet_text_so
 by_again (Styles styles) f = ap (option_map (λ x. Styles x)) (styles_sound.lawful.again styles f)
 by_again (Selectors selectors) f = ap (option_map (λ x. Selectors x)) (new_selectors_sound.lawful.again selectors f)
 by_again (Rule rule) f = ap (option_map (λ x. Rule x)) (new_rule_sound.lawful.again rule f)
+by_again (Media media) f = ap (option_map (λ x. Media x)) (new_media_sound.lawful.again media f)
 by_again (Matched matched) f = ap (option_map (λ x. Matched x)) (matched_sound.lawful.again matched f)
 
 -- a method with such a result
@@ -264,6 +266,10 @@ by_takes form.Rule d body e =
     let p = map_some (λ x. Rule x) (rule_result.reads d) body e in
     let t = new_rule_sound.lawful.takes d p.0 p.1 in
     subst (IsRead form.Rule d) p.2 (record { spells = sym t.0; fits = t.1; form = refl })
+by_takes form.Media d body e =
+    let p = map_some (λ x. Media x) (media_result.reads d) body e in
+    let t = new_media_sound.lawful.takes d p.0 p.1 in
+    subst (IsRead form.Media d) p.2 (record { spells = sym t.0; fits = t.1; form = refl })
 by_takes form.Matched d body e =
     let p = map_some (λ x. Matched x) (matched_kind.reads d) body e in
     let t = matched_sound.lawful.takes d p.0 p.1 in
@@ -305,6 +311,7 @@ told_by_name (SheetText text) = refl
 told_by_name (Styles styles) = refl
 told_by_name (Selectors selectors) = refl
 told_by_name (Rule rule) = refl
+told_by_name (Media media) = refl
 told_by_name (Matched matched) = refl
 
 pub one_result : OneResult
@@ -338,6 +345,7 @@ body_plain (SheetText text) f = sound_plain sheet_text_sound text f
 body_plain (Styles styles) f = sound_plain styles_sound styles f
 body_plain (Selectors selectors) f = sound_plain new_selectors_sound selectors f
 body_plain (Rule rule) f = sound_plain new_rule_sound rule f
+body_plain (Media media) f = sound_plain new_media_sound media f
 body_plain (Matched matched) f = sound_plain matched_sound matched f
 
 body_object : (body : ReplyBody) → is_object (body_data body) ≡ true
@@ -353,6 +361,7 @@ body_object (SheetText text) = refl
 body_object (Styles styles) = refl
 body_object (Selectors selectors) = refl
 body_object (Rule rule) = refl
+body_object (Media media) = refl
 body_object (Matched matched) = refl
 
 pub reply_fits : (id : ℕ) (body : ReplyBody) → is_counted id ≡ true → fits_message (reply id (body_data body)) ≡ true

@@ -40,3 +40,4 @@ style_edits-need-both (style.SetStyleTexts edits) = refl
 style_edits-need-both (style.SetRuleSelector sheet range selector) = refl
 style_edits-need-both (style.SetStyleSheetText sheet text) = refl
 style_edits-need-both (style.AddRule sheet rule_text location) = refl
+style_edits-need-both (style.SetMediaText sheet range text) = refl

@@ -6,7 +6,7 @@ use Rattle.serde_json.specs.Read.{max_depth}
 use Rattle.serde_json.specs.Written.{compact_text}
 use Rattle.cdp_json.specs.Plain.{is_plain}
 use Rattle.cdp_json.specs.Kinds.{is_counted, is_signed, holds_of_some}
-use Rattle.css_objects.specs.Laws.{SelectorsHaveUtf8, StyleHasUtf8, RuleHasUtf8, MatchedHaveUtf8}
+use Rattle.css_objects.specs.Laws.{SelectorsHaveUtf8, StyleHasUtf8, RuleHasUtf8, MediaHasUtf8, MatchedHaveUtf8}
 use Rattle.node_tree.specs.Nodes.{Nodes, alone, height}
 use Rattle.node_tree.specs.Levels.{most_told, most_told_root}
 use Rattle.node_tree.specs.Seen.{Seen}
@@ -18,7 +18,7 @@ use Rattle.cdp_messages.specs.declared.command.Refused.{Refused}
 use Rattle.cdp_messages.specs.Methods.{is_own, method_named}
 use Rattle.cdp_messages.specs.declared.down.ReplyBody.{ReplyBody}
 use Rattle.cdp_messages.specs.declared.down.ReplyBody.TheVariants.{Nothing, Root, Node, NodeId, NodeIds, Attributes, ClassNames, SheetText}
-use Rattle.cdp_messages.specs.declared.down.ReplyBody.TheVariants.{Styles, Selectors, Rule, Matched, Search}
+use Rattle.cdp_messages.specs.declared.down.ReplyBody.TheVariants.{Styles, Selectors, Rule, Media, Matched, Search}
 use Rattle.cdp_messages.specs.Asked.{asked, asked_by, command_of, method_of, method_name, parameters, fits_command, command_value}
 use Rattle.cdp_messages.specs.Asked.{command_text, json_of}
 use Rattle.cdp_messages.specs.Events.{News, attribute_modified, attribute_removed, text_modified, count_updated, inserted, removed}
@@ -95,6 +95,7 @@ BodyHasUtf8 (SheetText text) = IsUtf8 text
 BodyHasUtf8 (Styles styles) = AllByRecursion StyleHasUtf8 styles
 BodyHasUtf8 (Selectors selectors) = SelectorsHaveUtf8 selectors
 BodyHasUtf8 (Rule rule) = RuleHasUtf8 rule
+BodyHasUtf8 (Media media) = MediaHasUtf8 media
 BodyHasUtf8 (Matched matched) = MatchedHaveUtf8 matched
 
 -- the texts that an event tells are UTF-8
@@ -141,6 +142,7 @@ body_height (SheetText text) = 0
 body_height (Styles styles) = 0
 body_height (Selectors selectors) = 0
 body_height (Rule rule) = 0
+body_height (Media media) = 0
 body_height (Matched matched) = 0
 
 -- a reply with nodes of as many levels as there may be nests at most 124 deep
@@ -230,6 +232,7 @@ Spells (SheetText text) d = d ≡ body_data (SheetText text)
 Spells (Styles styles) d = d ≡ body_data (Styles styles)
 Spells (Selectors selectors) d = d ≡ body_data (Selectors selectors)
 Spells (Rule rule) d = d ≡ body_data (Rule rule)
+Spells (Media media) d = d ≡ body_data (Media media)
 Spells (Matched matched) d = d ≡ body_data (Matched matched)
 
 -- a result that is read is spelled so, and is one of that method

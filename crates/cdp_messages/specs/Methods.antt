@@ -14,9 +14,9 @@ use Rattle.cdp_messages.specs.declared.method.Method.TheVariants.{PushBySerials,
 use Rattle.cdp_messages.specs.declared.method.Method.TheVariants.{DescribeNode, SetAttributeValue, RemoveAttribute, SetNodeValue}
 use Rattle.cdp_messages.specs.declared.method.Method.TheVariants.{RemoveNode, MoveTo, CopyTo, MarkUndoableState, Undo, Redo, CssEnable}
 use Rattle.cdp_messages.specs.declared.method.Method.TheVariants.{CssDisable, GetMatchedStyles, GetStyleSheetText, CollectClassNames}
-use Rattle.cdp_messages.specs.declared.method.Method.TheVariants.{SetStyleTexts, SetRuleSelector, SetStyleSheetText, AddRule, SetBreakpoint}
-use Rattle.cdp_messages.specs.declared.method.Method.TheVariants.{RemoveBreakpoint, ReplayLoad, ReplayAct, PerformSearch, GetSearchResults}
-use Rattle.cdp_messages.specs.declared.method.Method.TheVariants.{DiscardSearchResults}
+use Rattle.cdp_messages.specs.declared.method.Method.TheVariants.{SetStyleTexts, SetRuleSelector, SetStyleSheetText, AddRule, SetMediaText}
+use Rattle.cdp_messages.specs.declared.method.Method.TheVariants.{PerformSearch, GetSearchResults, DiscardSearchResults}
+use Rattle.cdp_messages.specs.declared.method.Method.TheVariants.{SetBreakpoint, RemoveBreakpoint, ReplayLoad, ReplayAct}
 
 -- what is said of a method, once
 pub record MethodSaid : Type 0 where
@@ -63,6 +63,7 @@ row_of SetStyleTexts = said (codes "CSS.setStyleTexts") server.CssAgent domains.
 row_of SetRuleSelector = said (codes "CSS.setRuleSelector") server.CssAgent domains.DomAndCss form.Selectors
 row_of SetStyleSheetText = said (codes "CSS.setStyleSheetText") server.CssAgent domains.DomAndCss form.Nothing
 row_of AddRule = said (codes "CSS.addRule") server.CssAgent domains.DomAndCss form.Rule
+row_of SetMediaText = said (codes "CSS.setMediaText") server.CssAgent domains.DomAndCss form.Media
 row_of PerformSearch = said (codes "DOM.performSearch") server.Seat domains.Dom form.Search
 row_of GetSearchResults = said (codes "DOM.getSearchResults") server.Seat domains.Dom form.NodeIds
 row_of DiscardSearchResults = said (codes "DOM.discardSearchResults") server.Seat domains.Dom form.Nothing
@@ -90,9 +91,8 @@ all_methods =
     ∷ QuerySelector ∷ QuerySelectorAll ∷ GetAttributes ∷ DescribeNode ∷ SetAttributeValue ∷ RemoveAttribute
     ∷ SetNodeValue ∷ RemoveNode ∷ MoveTo ∷ CopyTo ∷ MarkUndoableState ∷ Undo
     ∷ Redo ∷ CssEnable ∷ CssDisable ∷ GetMatchedStyles ∷ GetStyleSheetText ∷ CollectClassNames
-    ∷ SetStyleTexts ∷ SetRuleSelector ∷ SetStyleSheetText ∷ AddRule ∷ PerformSearch ∷ GetSearchResults ∷ DiscardSearchResults
-    ∷ SetBreakpoint ∷ RemoveBreakpoint
-    ∷ ReplayLoad ∷ ReplayAct ∷ []
+    ∷ SetStyleTexts ∷ SetRuleSelector ∷ SetStyleSheetText ∷ AddRule ∷ SetMediaText ∷ PerformSearch
+    ∷ GetSearchResults ∷ DiscardSearchResults ∷ SetBreakpoint ∷ RemoveBreakpoint ∷ ReplayLoad ∷ ReplayAct ∷ []
 
 -- the method that has the name
 abbrev pub method_named : List ℕ → Option Method

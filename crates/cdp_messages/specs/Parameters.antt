@@ -159,6 +159,10 @@ edits_field = needed param.Edits (list_of text_edit) no_lookups
 abbrev pub set_selector_fields : Lookups Why (List ℕ × (SourceRange × (List ℕ × ⊤)))
 set_selector_fields = needed param.StyleSheetId text (needed param.Range range_parameter (needed param.Selector text no_lookups))
 
+-- of `CSS.setMediaText`
+abbrev pub set_media_fields : Lookups Why (List ℕ × (SourceRange × (List ℕ × ⊤)))
+set_media_fields = needed param.StyleSheetId text (needed param.Range range_parameter (needed param.Text text no_lookups))
+
 -- of `CSS.setStyleSheetText`
 abbrev pub sheet_text_fields : Lookups Why (List ℕ × (List ℕ × ⊤))
 sheet_text_fields = needed param.StyleSheetId text (needed param.Text text no_lookups)
@@ -219,6 +223,7 @@ command_by method.SetStyleTexts ms = reads_with edits_field (λ x. EditCss (styl
 command_by method.SetRuleSelector ms = reads_with set_selector_fields (λ x. EditCss (style.SetRuleSelector x.0 x.1.0 x.1.1.0)) ms
 command_by method.SetStyleSheetText ms = reads_with sheet_text_fields (λ x. EditCss (style.SetStyleSheetText x.0 x.1.0)) ms
 command_by method.AddRule ms = reads_with add_rule_fields (λ x. EditCss (style.AddRule x.0 x.1.0 x.1.1.0)) ms
+command_by method.SetMediaText ms = reads_with set_media_fields (λ x. EditCss (style.SetMediaText x.0 x.1.0 x.1.1.0)) ms
 command_by method.PerformSearch ms = reads_with search_fields (λ x. AskSearch (search.PerformSearch x.0 x.1.0)) ms
 command_by method.GetSearchResults ms = reads_with results_fields (λ x. AskSearch (search.GetSearchResults x.0 x.1.0 x.1.1.0)) ms
 command_by method.DiscardSearchResults ms = reads_with search_field (λ x. AskSearch (search.DiscardSearchResults x.0)) ms
@@ -272,6 +277,7 @@ css_edit_form (style.SetRuleSelector sheet range selector) =
     form method.SetRuleSelector set_selector_fields (sheet, (range, (selector, tt)))
 css_edit_form (style.SetStyleSheetText sheet text) = form method.SetStyleSheetText sheet_text_fields (sheet, (text, tt))
 css_edit_form (style.AddRule sheet rule_text location) = form method.AddRule add_rule_fields (sheet, (rule_text, (location, tt)))
+css_edit_form (style.SetMediaText sheet range text) = form method.SetMediaText set_media_fields (sheet, (range, (text, tt)))
 
 -- what is asked of searches, as it is written
 abbrev pub search_ask_form : SearchAsk → Form

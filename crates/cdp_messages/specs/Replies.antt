@@ -6,14 +6,14 @@ use Rattle.serde_json.specs.View.{view}
 use Rattle.serde_json.specs.Written.{compact_text}
 use Rattle.cdp_json.specs.Kinds.{Kind, whole, signed, text, anything, refined}
 use Rattle.cdp_json.specs.Rows.{Row, ends, and_need, and_may, object_of}
-use Rattle.css_objects.specs.Results.{sheet_text_result, class_names_result, styles_result, selectors_result, rule_result}
+use Rattle.css_objects.specs.Results.{sheet_text_result, class_names_result, styles_result, selectors_result, rule_result, media_result}
 use Rattle.css_objects.specs.Rules.{matched_kind}
 use Rattle.cdp_messages.specs.declared.command.Refused.{Refused}
 use Rattle.cdp_messages.specs.declared.down.Down.{Down}
 use Rattle.cdp_messages.specs.declared.down.Down.TheVariants.{Reply, Fault, Event}
 use Rattle.cdp_messages.specs.declared.down.ReplyBody.{ReplyBody}
 use Rattle.cdp_messages.specs.declared.down.ReplyBody.TheVariants.{Nothing, Root, Node, NodeId, NodeIds, Attributes, ClassNames, SheetText}
-use Rattle.cdp_messages.specs.declared.down.ReplyBody.TheVariants.{Styles, Selectors, Rule, Matched, Search}
+use Rattle.cdp_messages.specs.declared.down.ReplyBody.TheVariants.{Styles, Selectors, Rule, Media, Matched, Search}
 use Rattle.cdp_messages.specs.declared.method.Method.{Method}
 use Rattle.cdp_messages.specs.declared.result_forms.ResultForm.{ResultForm}
 use Rattle.cdp_messages.specs.declared.result_forms.ResultForm.TheVariants as form
@@ -114,6 +114,7 @@ body_data (SheetText said) = sheet_text_result.spell said
 body_data (Styles styles) = styles_result.spell styles
 body_data (Selectors selectors) = selectors_result.spell selectors
 body_data (Rule rule) = rule_result.spell rule
+body_data (Media media) = media_result.spell media
 body_data (Matched matched) = matched_kind.spell matched
 
 -- a result that is spelled
@@ -130,6 +131,7 @@ fits_body (SheetText said) = sheet_text_result.fits said
 fits_body (Styles styles) = styles_result.fits styles
 fits_body (Selectors selectors) = selectors_result.fits selectors
 fits_body (Rule rule) = rule_result.fits rule
+fits_body (Media media) = media_result.fits media
 fits_body (Matched matched) = matched_kind.fits matched
 
 -- the form of a result
@@ -146,6 +148,7 @@ form_of_body (SheetText said) = form.SheetText
 form_of_body (Styles styles) = form.Styles
 form_of_body (Selectors selectors) = form.Selectors
 form_of_body (Rule rule) = form.Rule
+form_of_body (Media media) = form.Media
 form_of_body (Matched matched) = form.Matched
 
 -- the result of that form that a value spells
@@ -162,6 +165,7 @@ result_by form.SheetText d = option_map (λ x. SheetText x) (sheet_text_result.r
 result_by form.Styles d = option_map (λ x. Styles x) (styles_result.reads d)
 result_by form.Selectors d = option_map (λ x. Selectors x) (selectors_result.reads d)
 result_by form.Rule d = option_map (λ x. Rule x) (rule_result.reads d)
+result_by form.Media d = option_map (λ x. Media x) (media_result.reads d)
 result_by form.Matched d = option_map (λ x. Matched x) (matched_kind.reads d)
 
 -- the result of that method that a value spells, if there is such a method

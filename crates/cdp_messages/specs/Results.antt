@@ -63,13 +63,15 @@ first_field form.SheetText = codes "text"
 first_field form.Styles = codes "styles"
 first_field form.Selectors = codes "selectorList"
 first_field form.Rule = codes "rule"
+first_field form.Media = codes "media"
 first_field form.Matched = codes "inherited"
 
 -- each form once
 abbrev pub all_forms : List ResultForm
 all_forms =
     form.Nothing ∷ form.Root ∷ form.Node ∷ form.NodeId ∷ form.NodeIds ∷ form.Attributes
-    ∷ form.Search ∷ form.ClassNames ∷ form.SheetText ∷ form.Styles ∷ form.Selectors ∷ form.Rule ∷ form.Matched ∷ []
+    ∷ form.Search ∷ form.ClassNames ∷ form.SheetText ∷ form.Styles ∷ form.Selectors ∷ form.Rule
+    ∷ form.Media ∷ form.Matched ∷ []
 
 -- the two forms are the same: no two have the same first field
 abbrev pub is_form : ResultForm → ResultForm → Bool

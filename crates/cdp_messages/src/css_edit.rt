@@ -31,6 +31,12 @@ pub enum CssEdit {
         rule_text: Text,
         location: SourceRange,
     },
+    /// `CSS.setMediaText`
+    SetMediaText {
+        sheet: Text,
+        range: SourceRange,
+        text: Text,
+    },
 }
 
 impl CssEdit {
@@ -43,6 +49,7 @@ impl CssEdit {
             CssEdit::SetRuleSelector { .. } => Method::SetRuleSelector,
             CssEdit::SetStyleSheetText { .. } => Method::SetStyleSheetText,
             CssEdit::AddRule { .. } => Method::AddRule,
+            CssEdit::SetMediaText { .. } => Method::SetMediaText,
         }
     }
 }

@@ -1,6 +1,6 @@
 // Messages on the way down.
 use crate::numbers::Numbers;
-use css_objects::{Header, Listed, Matched, Rule, RuleSelectors, Style};
+use css_objects::{Header, Listed, Matched, Media, Rule, RuleSelectors, Style};
 use dom_objects::NodeTree;
 use node_tree::{Attributes, Text};
 use serde_json::Value;
@@ -128,6 +128,8 @@ pub enum ReplyBody {
     Selectors(RuleSelectors),
     /// Of `CSS.addRule`
     Rule(Rule),
+    /// Of `CSS.setMediaText`: the media rule with its new prelude.
+    Media(Media),
     /// Of `CSS.getMatchedStylesForNode`
     Matched(Matched),
 }

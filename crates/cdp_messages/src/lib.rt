@@ -44,8 +44,8 @@ pub use command::{Asked, Command, CommandErr, Param, ReadErr, Refused, Why};
 pub use css_ask::CssAsk;
 pub use css_edit::CssEdit;
 pub use css_objects::{
-    Header, Inherited, Listed, Matched, Rule, RuleMatch, RuleSelectors, SelectorValue, SheetOrigin,
-    SourceRange, Style, StyleProperty, Weight,
+    Header, Inherited, Listed, Matched, Media, Rule, RuleMatch, RuleSelectors, SelectorValue,
+    SheetOrigin, SourceRange, Style, StyleProperty, Weight,
 };
 pub use dom_ask::DomAsk;
 pub use dom_edit::DomEdit;

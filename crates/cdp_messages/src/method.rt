@@ -66,6 +66,8 @@ pub enum Method {
     SetStyleSheetText,
     /// `CSS.addRule`
     AddRule,
+    /// `CSS.setMediaText`
+    SetMediaText,
     /// `DOM.performSearch`
     PerformSearch,
     /// `DOM.getSearchResults`
@@ -152,7 +154,7 @@ pub(crate) struct MethodRow {
 }
 
 // Each method once.
-const METHODS: [Method; 35] = [
+const METHODS: [Method; 36] = [
     Method::DomEnable,
     Method::DomDisable,
     Method::GetDocument,
@@ -181,6 +183,7 @@ const METHODS: [Method; 35] = [
     Method::SetRuleSelector,
     Method::SetStyleSheetText,
     Method::AddRule,
+    Method::SetMediaText,
     Method::PerformSearch,
     Method::GetSearchResults,
     Method::DiscardSearchResults,
@@ -317,6 +320,7 @@ impl Method {
             Method::SetRuleSelector => sheets("CSS.setRuleSelector", Form::Selectors),
             Method::SetStyleSheetText => sheets("CSS.setStyleSheetText", Form::Nothing),
             Method::AddRule => sheets("CSS.addRule", Form::Rule),
+            Method::SetMediaText => sheets("CSS.setMediaText", Form::Media),
             Method::PerformSearch => seat("DOM.performSearch", Domains::Dom, Form::Search),
             Method::GetSearchResults => seat("DOM.getSearchResults", Domains::Dom, Form::NodeIds),
             Method::DiscardSearchResults => seat(

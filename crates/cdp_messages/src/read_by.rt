@@ -216,6 +216,15 @@ fn add_rule(alloc: Global, params: &Map<String, Value>) -> Result<Command, Comma
     }))
 }
 
+fn set_media_text(alloc: Global, params: &Map<String, Value>) -> Result<Command, CommandErr>
+    ensures { Commands result (command_by method.SetMediaText (members_view params.now.entries)) }
+{
+    let sheet = text(alloc, params, Param::StyleSheetId)?;
+    let range = place(params, Param::Range)?;
+    let text = text(alloc, params, Param::Text)?;
+    Ok(Command::EditCss(CssEdit::SetMediaText { sheet, range, text }))
+}
+
 fn perform_search(alloc: Global, params: &Map<String, Value>) -> Result<Command, CommandErr>
     ensures { Commands result (command_by method.PerformSearch (members_view params.now.entries)) }
 {
@@ -305,6 +314,7 @@ pub(crate) fn command_by(
         Method::SetRuleSelector => set_rule_selector(alloc, members),
         Method::SetStyleSheetText => set_style_sheet_text(alloc, members),
         Method::AddRule => add_rule(alloc, members),
+        Method::SetMediaText => set_media_text(alloc, members),
         Method::PerformSearch => perform_search(alloc, members),
         Method::GetSearchResults => get_search_results(alloc, members),
         Method::DiscardSearchResults => discard_search_results(alloc, members),

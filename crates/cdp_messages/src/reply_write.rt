@@ -17,8 +17,8 @@ use crate::tree_messages::append_tree;
 use crate::write::append;
 use cdp_json::{ObjectBuilder, whole_list};
 use css_objects::{
-    class_names_value, matched_value, new_rule_value, new_selectors_value, sheet_text_value,
-    styles_value,
+    class_names_value, matched_value, new_media_value, new_rule_value, new_selectors_value,
+    sheet_text_value, styles_value,
 };
 use dom_objects::NodeTree;
 use node_tree::Attributes;
@@ -102,6 +102,7 @@ fn body_form(alloc: Global, body: &ReplyBody) -> Result<BodyForm<'_>, AllocError
         ReplyBody::Styles(styles) => plain_body(styles_value(alloc, styles.as_slice())),
         ReplyBody::Selectors(selectors) => plain_body(new_selectors_value(alloc, selectors)),
         ReplyBody::Rule(rule) => plain_body(new_rule_value(alloc, rule)),
+        ReplyBody::Media(media) => plain_body(new_media_value(alloc, media)),
         ReplyBody::Matched(matched) => plain_body(matched_value(alloc, matched)),
     }
 }

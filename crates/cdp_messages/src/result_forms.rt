@@ -13,5 +13,6 @@ pub(crate) enum ResultForm {
     Styles,
     Selectors,
     Rule,
+    Media,
     Matched,
 }

@@ -19,7 +19,8 @@ use crate::result_forms::ResultForm;
 use crate::search_ids::search_of;
 use cdp_json::{Cursor, wholes_of};
 use css_objects::{
-    class_names_of, matched_of, new_rule_of, new_selectors_of, sheet_text_of, styles_of,
+    class_names_of, matched_of, new_media_of, new_rule_of, new_selectors_of, sheet_text_of,
+    styles_of,
 };
 use dom_objects::{DownErr, Manner, are_attribute_names, attributes_of, is_ascending, tree_of};
 use node_tree::{Attributes, Text};
@@ -216,6 +217,15 @@ fn rule_result(alloc: Global, value: &Value) -> Result<ReplyBody, DownErr>
     }
 }
 
+fn media_result(alloc: Global, value: &Value) -> Result<ReplyBody, DownErr>
+    ensures { GivesMessage (λ body. body) result (result_by form.Media (view value.now)) }
+{
+    match new_media_of(alloc, value)? {
+        Some(media) => Ok(ReplyBody::Media(media)),
+        None => Err(DownErr::NotMessage),
+    }
+}
+
 fn matched_result(alloc: Global, value: &Value) -> Result<ReplyBody, DownErr>
     ensures { GivesMessage (λ body. body) result (result_by form.Matched (view value.now)) }
 {
@@ -241,6 +251,7 @@ fn result_by(alloc: Global, form: ResultForm, value: &Value) -> Result<ReplyBody
         ResultForm::Styles => styles_result(alloc, value),
         ResultForm::Selectors => selectors_result(alloc, value),
         ResultForm::Rule => rule_result(alloc, value),
+        ResultForm::Media => media_result(alloc, value),
         ResultForm::Matched => matched_result(alloc, value),
     }
 }

@@ -24,4 +24,5 @@ effect_of method (body.SheetText text) = SheetText text
 effect_of method (body.Styles styles) = NothingElse
 effect_of method (body.Selectors selectors) = NothingElse
 effect_of method (body.Rule rule) = NothingElse
+effect_of method (body.Media media) = NothingElse
 effect_of method (body.Matched matched) = NothingElse

@@ -14,7 +14,7 @@ use Rattle.node_tree.specs.Seen.{Seen, counted, opened, shows_count as is_shut, 
 use Rattle.cdp_messages.specs.declared.command.Refused.{Refused}
 use Rattle.cdp_messages.specs.declared.down.ReplyBody.{ReplyBody}
 use Rattle.cdp_messages.specs.declared.down.ReplyBody.TheVariants.{Nothing, Root, Node, NodeId, NodeIds, Attributes, ClassNames, SheetText}
-use Rattle.cdp_messages.specs.declared.down.ReplyBody.TheVariants.{Styles, Selectors, Rule, Matched, Search}
+use Rattle.cdp_messages.specs.declared.down.ReplyBody.TheVariants.{Styles, Selectors, Rule, Media, Matched, Search}
 use Rattle.cdp_messages.specs.declared.down.PauseData.{PauseData}
 use Rattle.cdp_messages.specs.declared.down.PauseData.TheVariants as pause
 use Rattle.cdp_messages.specs.Events.{News, attribute_modified, attribute_removed, text_modified, count_updated, inserted, removed}
@@ -222,6 +222,7 @@ tells_view (SheetText text) = true
 tells_view (Styles styles) = false
 tells_view (Selectors selectors) = false
 tells_view (Rule rule) = false
+tells_view (Media media) = false
 tells_view (Matched matched) = false
 
 -- a reply that tells neither a document nor the text of a sheet, and that a message can spell

@@ -38,6 +38,7 @@ impl Effect {
             | ReplyBody::Styles(_)
             | ReplyBody::Selectors(_)
             | ReplyBody::Rule(_)
+            | ReplyBody::Media(_)
             | ReplyBody::Matched(_) => Effect::NothingElse,
         }
     }

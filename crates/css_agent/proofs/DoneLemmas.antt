@@ -15,15 +15,16 @@ use Rattle.style_edits.specs.Splices.{after_splice, back_splice, after_splices, 
 use Rattle.style_edits.specs.Edits.{Found, EditsOutcome, HasText, style_splice, selector_splice, text_splice, rule_splice, edited}
 use Rattle.style_edits.specs.Edits.{with_back, go_on, styles_edited}
 use Rattle.style_edits.specs.EditedRules.{edited_rule, edited_rules}
+use Rattle.style_edits.specs.MediaEdits.{media_splice}
 use Rattle.style_edits.proofs.SpliceForms.{stored_after}
-use Rattle.style_edits.proofs.FoundForms.{style_found, selector_found, text_found, rule_found}
+use Rattle.style_edits.proofs.FoundForms.{style_found, selector_found, text_found, rule_found, media_splice_found}
 use Rattle.cdp_messages.specs.declared.down.ReplyBody.{ReplyBody}
 use Rattle.cdp_messages.specs.declared.down.ReplyBody.TheVariants as body
 use Rattle.cdp_messages.specs.declared.edits.TextEdit.{TextEdit}
 use Rattle.cdp_messages.specs.declared.css_edit.CssEdit.{CssEdit}
 use Rattle.cdp_messages.specs.declared.css_edit.CssEdit.TheVariants as edit
 use Rattle.css_agent.specs.Edits.{number_named, line_range, style_edit, told_at, CssDone, css_done, styles_done, one_done, css_edited}
-use Rattle.css_agent.specs.Edits.{one_splice, splices_on, style_splices, css_splices}
+use Rattle.css_agent.specs.Edits.{media_told, media_done, one_splice, splices_on, style_splices, css_splices}
 use Rattle.css_agent.specs.EditLaws.{HasEditText, HasEditTexts, edit_count, AllTake, back_splices}
 
 -- ---- lists whose elements all have a property
@@ -96,6 +97,19 @@ one-leads told (Ok s) book d h =
       each = refl;
     }
 
+media-leads : (found : Found) (book : List SheetEntry) (d : CssDone) → media_done (edited book found) ≡ Ok d
+    → Leads (one_splice found) d.backs 1 book d.book
+media-leads (Err f) book d h = absurd (cc)
+media-leads (Ok s) book d h =
+    let next = after_splice s book in
+    let back = back_splice s book in
+    let same : css_done next (back ∷ []) (body.Media (media_told next back)) ≡ d = cc in
+    record {
+      there = ap (λ (x : CssDone). x.book) (sym same);
+      back = ap (λ (x : CssDone). x.backs) (sym same);
+      each = refl;
+    }
+
 -- what edits of the bodies of rules come to, where they have no fault
 pub record StylesDone (edits : List TextEdit) (book : List SheetEntry) (d : CssDone) : Type 0 where
   pub done : styles_edited (map style_edit edits) book ≡ Ok (d.book, d.backs)
@@ -124,6 +138,8 @@ css-leads (edit.SetRuleSelector sheet range selector) book d h =
 css-leads (edit.SetStyleSheetText sheet text) book d h = one-leads (λ r. body.Nothing) (text_splice (number_named sheet) text book) book d h
 css-leads (edit.AddRule sheet rule_text location) book d h =
     one-leads (λ r. body.Rule r) (rule_splice (number_named sheet) (line_range location) rule_text book) book d h
+css-leads (edit.SetMediaText sheet range text) book d h =
+    media-leads (media_splice (number_named sheet) (line_range range) text book) book d h
 
 -- ---- splices that can be made
 
@@ -160,3 +176,6 @@ css-takes (edit.SetStyleSheetText sheet text) book all utf8 =
 css-takes (edit.AddRule sheet rule_text location) book all utf8 =
     one-takes (rule_splice (number_named sheet) (line_range location) rule_text book) book
     (λ s h. rule_found (number_named sheet) (line_range location) rule_text book s all utf8 h)
+css-takes (edit.SetMediaText sheet range text) book all utf8 =
+    one-takes (media_splice (number_named sheet) (line_range range) text book) book
+    (λ s h. media_splice_found (number_named sheet) (line_range range) text book s all utf8 h)

@@ -9,11 +9,15 @@ use Rattle.std.proofs.lemmas.List.Elements.{All-head, All-tail}
 use Rattle.cdp_json.specs.Kinds.{is_counted}
 use Rattle.css_objects.specs.declared.styles.Style.{Style}
 use Rattle.css_objects.specs.declared.rules.Rule.{Rule}
+use Rattle.css_objects.specs.declared.media.Media.{Media}
 use Rattle.css_objects.specs.Sheets.{is_sheet}
+use Rattle.css_objects.specs.Media.{media_kind}
 use Rattle.css_objects.specs.Selectors.{selectors_kind}
 use Rattle.css_objects.specs.Styles.{rule_style_kind}
 use Rattle.css_objects.specs.Rules.{rule_kind}
-use Rattle.css_objects.specs.Laws.{StyleHasUtf8, RuleHasUtf8}
+use Rattle.css_objects.specs.Laws.{StyleHasUtf8, RuleHasUtf8, MediaHasUtf8}
+use Rattle.selectors.specs.Ranges.{IsRangeOf}
+use Rattle.sheet_reader.specs.declared.sheet.MediaRule.{MediaRule}
 use Rattle.sheet_reader.specs.declared.book.SheetEntry.{SheetEntry}
 use Rattle.sheet_reader.specs.Forms.{RuleForm}
 use Rattle.sheet_reader.specs.Sheets.{sheet_of}
@@ -25,9 +29,11 @@ use Rattle.style_edits.specs.declared.splice.Splice.{Splice}
 use Rattle.style_edits.specs.Splices.{after_splice, back_by, back_splice, TakesSplice}
 use Rattle.style_edits.specs.Edits.{Found, HasText, style_splice, selector_splice, text_splice, rule_splice, edited, styles_edited}
 use Rattle.style_edits.specs.EditedRules.{place_by, edited_rule, rules_on, edited_rules}
+use Rattle.style_edits.specs.MediaEdits.{media_splice, edited_media}
+use Rattle.cascade_match.proofs.HeldForms.{preludes-cut}
 use Rattle.style_edits.proofs.BookForms.{entry_id}
 use Rattle.style_edits.proofs.SpliceForms.{stored_after}
-use Rattle.style_edits.proofs.FoundForms.{style_found, selector_found, text_found, rule_found}
+use Rattle.style_edits.proofs.FoundForms.{style_found, selector_found, text_found, rule_found, media_splice_found}
 use Rattle.cdp_messages.specs.declared.down.ReplyBody.{ReplyBody}
 use Rattle.cdp_messages.specs.declared.down.ReplyBody.TheVariants as body
 use Rattle.cdp_messages.specs.declared.edits.TextEdit.{TextEdit}
@@ -36,13 +42,15 @@ use Rattle.cdp_messages.specs.Replies.{fits_body}
 use Rattle.client_views.specs.Moves.{IsPlainReply}
 use Rattle.cdp_messages.specs.declared.css_edit.CssEdit.{CssEdit}
 use Rattle.cdp_messages.specs.declared.css_edit.CssEdit.TheVariants as edit
+use Rattle.css_agent.specs.MediaAround.{told_media}
 use Rattle.css_agent.specs.RuleObjects.{told_rule}
 use Rattle.css_agent.specs.Edits.{number_named, line_range, style_edit, found_at, empty_rule, told_at, CssDone, css_done, one_done}
-use Rattle.css_agent.specs.Edits.{css_edited, splices_on, style_splices, css_splices}
+use Rattle.css_agent.specs.Edits.{empty_media, media_told, media_done, css_edited, splices_on, style_splices, css_splices}
 use Rattle.css_agent.specs.EditLaws.{HasEditTexts, css_edit_name, edit_count, TellsStyles, IsDone, EditsAreDone}
 use Rattle.css_agent.proofs.SheetNames.{rules-named}
 use Rattle.css_agent.proofs.TellableStyles.{both, sheet-number, IsTold, prelude-fits, style-fits, rule-fits, rule-utf8, stored-told}
-use Rattle.css_agent.proofs.TellableStyles.{entry-stored, rule-at}
+use Rattle.css_agent.proofs.StyleLemmas.{all-at}
+use Rattle.css_agent.proofs.TellableStyles.{entry-stored, rule-at, media-fits, media-utf8}
 use Rattle.css_agent.proofs.DoneLemmas.{stored-all, texts-all, StylesDone, styles-are-done, css-leads, css-takes, splices-stored}
 
 -- ---- the rule that an edit made
@@ -61,7 +69,7 @@ empty-told sheet is =
       whole = both style (both is refl);
       style = style;
       selectors = refl;
-      utf8 = ((tt, IsUtf8-nil), (tt, IsUtf8-nil));
+      utf8 = ((tt, IsUtf8-nil), (tt, IsUtf8-nil), tt);
     }
 
 found-told : (book : List SheetEntry) (p : RulePlace) → AllByRecursion IsStored book → is_sheet p.sheet ≡ true → RuleTold (told_at book p)
@@ -91,21 +99,62 @@ place-sheet : (back : Splice) (o : Option SheetEntry) → (place_by back o).shee
 place-sheet back None = refl
 place-sheet back (Some e) = refl
 
-splice-number : (s : Splice) (book : List SheetEntry) → TakesSplice s book
-    → is_sheet (edited_rule (after_splice s book) (back_splice s book)).sheet ≡ true
-splice-number s book take =
+-- and that has a number that a message can tell
+back-number : (s : Splice) (book : List SheetEntry) → TakesSplice s book → is_sheet (back_splice s book).sheet ≡ true
+back-number s book take =
     let own : is_sheet take.sheet.id ≡ true = sheet-number take.sheet.id take.stored.entry.some take.stored.entry.id in
     let id : take.sheet.id ≡ s.sheet = entry_id s.sheet book take.sheet take.found in
     let back : (back_splice s book).sheet ≡ s.sheet = ap (λ (o : Option SheetEntry). (back_by s o).sheet) take.found in
-    let place : (edited_rule (after_splice s book) (back_splice s book)).sheet ≡ s.sheet =
-    place-sheet (back_splice s book) (entry_of (back_splice s book).sheet (after_splice s book)) ∙ back in
-    ap (λ (n : ℕ). is_sheet n) (place ∙ sym id) ∙ own
+    ap (λ (n : ℕ). is_sheet n) (back ∙ sym id) ∙ own
+
+splice-number : (s : Splice) (book : List SheetEntry) → TakesSplice s book
+    → is_sheet (edited_rule (after_splice s book) (back_splice s book)).sheet ≡ true
+splice-number s book take =
+    let back = back_splice s book in
+    ap (λ (n : ℕ). is_sheet n) (place-sheet back (entry_of back.sheet (after_splice s book))) ∙ back-number s book take
 
 one-told : (s : Splice) (book : List SheetEntry) → All IsStored book → TakesSplice s book
     → RuleTold (told_at (after_splice s book) (edited_rule (after_splice s book) (back_splice s book)))
 one-told s book all take =
     let next = after_splice s book in
     found-told next (edited_rule next (back_splice s book)) (stored-all next (stored_after s book take all)) (splice-number s book take)
+
+-- ---- the media rule whose prelude an edit made
+
+-- it can be told
+record MediaTold (m : Media) : Type 0 where
+  fits : media_kind.fits m ≡ true
+  utf8 : MediaHasUtf8 m
+
+media-found-told : (book : List SheetEntry) (back : Splice) → AllByRecursion IsStored book → is_sheet back.sheet ≡ true
+    → MediaTold (media_told book back)
+media-found-told book back all number = by-sheet (entry_of back.sheet book) refl
+  where
+    place : ℕ
+    place = edited_media book back
+
+    nothing : MediaTold (empty_media back.sheet)
+    nothing = record { fits = both number refl; utf8 = IsUtf8-nil }
+
+    by-rule : (e : SheetEntry) → IsStored e → (o : Option MediaRule) → slice_get (sheet_of e.text).media place ≡ o
+        → MediaTold (unwrap_or (option_map (told_media e.id e.text) o) (empty_media back.sheet))
+    by-rule e is None k = nothing
+    by-rule e is (Some m) k =
+        let told = stored-told e is in
+        let cut = all-at (λ (x : MediaRule). IsRangeOf e.text x.prelude) (sheet_of e.text).media place m k (preludes-cut e.text is.utf8) in
+        record { fits = media-fits e m told; utf8 = media-utf8 e m told cut }
+
+    by-sheet : (o : Option SheetEntry) → entry_of back.sheet book ≡ o
+        → MediaTold (unwrap_or (option_and_then (λ e. option_map (told_media e.id e.text) (slice_get (sheet_of e.text).media place)) o)
+        (empty_media back.sheet))
+    by-sheet None k = nothing
+    by-sheet (Some e) k = by-rule e (entry-stored back.sheet book e all k) (slice_get (sheet_of e.text).media place) refl
+
+media-one-told : (s : Splice) (book : List SheetEntry) → All IsStored book → TakesSplice s book
+    → MediaTold (media_told (after_splice s book) (back_splice s book))
+media-one-told s book all take =
+    let next = after_splice s book in
+    media-found-told next (back_splice s book) (stored-all next (stored_after s book take all)) (back-number s book take)
 
 -- ---- those of several edits
 
@@ -169,6 +218,17 @@ one-result x told (Ok s) book d all takes can h =
     let same : css_done next (back ∷ []) (told rule) ≡ d = cc in
     subst (λ (y : CssDone). ResultTold x y.body) same (can rule (one-told s book all (takes s refl)))
 
+media-result : (x : CssEdit) (found : Found) (book : List SheetEntry) (d : CssDone) → All IsStored book
+    → ((s : Splice) → found ≡ Ok s → TakesSplice s book)
+    → ((m : Media) → MediaTold m → ResultTold x (body.Media m)) → media_done (edited book found) ≡ Ok d → ResultTold x d.body
+media-result x (Err f) book d all takes can h = absurd (cc)
+media-result x (Ok s) book d all takes can h =
+    let next = after_splice s book in
+    let back = back_splice s book in
+    let media = media_told next back in
+    let same : css_done next (back ∷ []) (body.Media media) ≡ d = cc in
+    subst (λ (y : CssDone). ResultTold x y.body) same (can media (media-one-told s book all (takes s refl)))
+
 pub result-told : (x : CssEdit) (book : List SheetEntry) (d : CssDone) → All IsStored book → HasEditTexts x → css_edited book x ≡ Ok d
     → ResultTold x d.body
 result-told (edit.SetStyleTexts edits) book d all texts h =
@@ -215,6 +275,14 @@ result-told (edit.AddRule sheet rule_text location) book d all utf8 h =
     (λ s k. rule_found (number_named sheet) (line_range location) rule_text book s all utf8 k)
     (λ r told. record {
       plain = λ id small. record { id_fits = small; plain = refl; fits = both told.whole refl; texts = told.utf8; levels = omega arith };
+      answers = refl;
+      styles = tt;
+    }) h
+result-told (edit.SetMediaText sheet range text) book d all utf8 h =
+    media-result (edit.SetMediaText sheet range text) (media_splice (number_named sheet) (line_range range) text book) book d all
+    (λ s k. media_splice_found (number_named sheet) (line_range range) text book s all utf8 k)
+    (λ m told. record {
+      plain = λ id small. record { id_fits = small; plain = refl; fits = both told.fits refl; texts = told.utf8; levels = omega arith };
       answers = refl;
       styles = tt;
     }) h

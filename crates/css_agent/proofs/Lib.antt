@@ -1,6 +1,7 @@
 pub mod NameLemmas
 pub mod ToldLemmas
 pub mod StyleLemmas
+pub mod AroundLemmas
 pub mod UnescapedTexts
 pub mod SelectorNames
 pub mod SheetNames

@@ -12,10 +12,12 @@ use Rattle.std.specs.Str.{IsUtf8}
 use Rattle.selectors.specs.Forms.{SelectorForm}
 use Rattle.sheet_reader.specs.declared.sheet.StyleRule.{StyleRule}
 use Rattle.sheet_reader.specs.declared.sheet.Sheet.{Sheet}
+use Rattle.sheet_reader.specs.Around.{IsBelow}
 use Rattle.sheet_reader.specs.Books.{IsEntry}
 use Rattle.sheet_reader.specs.Forms.{RuleForm, rule_seen}
 use Rattle.sheet_reader.specs.Sheets.{sheet_of}
 use Rattle.sheet_reader.specs.Usable.{IsRuleOf}
+use Rattle.sheet_reader.proofs.AroundForms.{sheet_there}
 use Rattle.sheet_reader.proofs.UsableForms.{sheet_usable}
 use Rattle.selectors.specs.Ranges.{IsRangeOf, AreBetween, ranges_of}
 use Rattle.page_tree.specs.Zippers.{Zipper, ancestors, parent_of}
@@ -86,6 +88,15 @@ pub rule-usable : (e : SheetEntry) (text : List ℕ) (i : ℕ) (o : Option (Bor 
 rule-usable e text i None is utf8 at = tt
 rule-usable e text i (Some r) is utf8 at = all-at (IsRuleOf e.text) (sheet_of e.text).rules i (rule_seen r.now) (sym at)
     (sheet_usable e.text (subst IsUtf8 is utf8)).each
+
+-- and the media rule around it is there
+pub rule-there : (e : SheetEntry) (i : ℕ) (o : Option (Bor StyleRule))
+    → option_map (λ r. rule_seen r.now) o ≡ slice_get (sheet_of e.text).rules i
+    → IfSome o (λ r. IsBelow (length (sheet_of e.text).media) r.now.media)
+rule-there e i None at = tt
+rule-there e i (Some r) at =
+    all-at (λ (x : RuleForm). IsBelow (length (sheet_of e.text).media) x.media) (sheet_of e.text).rules i (rule_seen r.now) (sym at)
+    (sheet_there e.text).rules
 
 take-suc : {X : Type 0} (xs : List X) (i : ℕ) (x : X) → slice_get xs i ≡ Some x → take (suc i) xs ≡ take i xs ++ x ∷ []
 take-suc [] i x e = absurd (cc)

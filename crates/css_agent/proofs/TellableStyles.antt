@@ -13,7 +13,7 @@ use Rattle.std.proofs.lemmas.List.{length-take, length-reverse}
 use Rattle.std.proofs.lemmas.List.Sums.{sum_by-cons, count_by-le-length}
 use Rattle.std.proofs.lemmas.List.Elements.{All-head, All-tail}
 use Rattle.std.proofs.lemmas.Bool.Decides.{nat_tests}
-use Rattle.cdp_json.specs.Kinds.{is_counted}
+use Rattle.cdp_json.specs.Kinds.{is_counted, holds_of_some}
 use Rattle.node_tree.specs.Nodes.{Nodes, none, node, Branch, alone}
 use Rattle.node_tree.specs.Labels.{Pair, value_of}
 use Rattle.page_tree.specs.Pages.{PageRow}
@@ -24,17 +24,20 @@ use Rattle.css_objects.specs.declared.styles.Style.{Style}
 use Rattle.css_objects.specs.declared.rules.RuleMatch.{RuleMatch}
 use Rattle.css_objects.specs.declared.rules.Inherited.{Inherited}
 use Rattle.css_objects.specs.Sheets.{is_sheet}
+use Rattle.css_objects.specs.declared.media.Media.{Media}
 use Rattle.css_objects.specs.Ranges.{range_kind}
+use Rattle.css_objects.specs.Media.{media_kind, has_media, some_media_kind, written_media}
 use Rattle.css_objects.specs.Selectors.{weight_kind, selector_kind, selectors_kind}
 use Rattle.css_objects.specs.Styles.{property_kind, is_ranged, is_rangeless, inline_kind, rule_style_kind}
 use Rattle.css_objects.specs.Rules.{rule_kind, starts_above, ascend, match_kind, inherited_kind, matched_kind}
 use Rattle.css_objects.specs.Laws.{SelectorHasUtf8, PropertyHasUtf8, StyleHasUtf8, RuleHasUtf8, MatchHasUtf8, InheritedHasUtf8}
-use Rattle.css_objects.specs.Laws.{MatchedHaveUtf8}
+use Rattle.css_objects.specs.Laws.{MediaHasUtf8, MatchedHaveUtf8}
 use Rattle.selectors.specs.declared.weight.Spec.{Spec}
 use Rattle.selectors.specs.Forms.{SimpleForm, CompoundForm, SelectorForm}
 use Rattle.selectors.specs.Weight.{ids, classes, types, in_compounds, bounded, element_count as pseudo, specificity_of}
 use Rattle.selectors.specs.Ranges.{IsRangeOf, AreBetween, ranges_of}
 use Rattle.sheet_reader.specs.declared.sheet.Property.{Property}
+use Rattle.sheet_reader.specs.declared.sheet.MediaRule.{MediaRule}
 use Rattle.sheet_reader.specs.declared.book.SheetEntry.{SheetEntry}
 use Rattle.sheet_reader.specs.Forms.{RuleForm}
 use Rattle.sheet_reader.specs.Positions.{units_at, is_line_feed, line_back, line_of, column_of, position_of}
@@ -47,6 +50,7 @@ use Rattle.select_match.specs.Matches.{selector_matches}
 use Rattle.select_match.specs.Elements.{attributes_of, is_element_node, elements}
 use Rattle.sheet_reader.specs.Around.{held_at}
 use Rattle.media_rules.specs.declared.medium.Medium.{Medium}
+use Rattle.cascade_match.proofs.HeldForms.{preludes-cut}
 use Rattle.cascade_match.specs.declared.keys.Key.{Key}
 use Rattle.cascade_match.specs.declared.hits.Hit.{Hit}
 use Rattle.cascade_match.specs.Precedence.{key_cmp}
@@ -55,8 +59,10 @@ use Rattle.cascade_match.specs.Matched.{matched_entries, matched_of, greatest, p
 use Rattle.css_agent.specs.ClassNames.{class_of, classes_of_tests, classes_of_compounds, classes_of_selectors, classes_of_rules, with_name}
 use Rattle.css_agent.specs.ClassNames.{with_names, class_names}
 use Rattle.css_agent.specs.Texts.{source_range, told_part}
+use Rattle.css_agent.specs.MediaAround.{media_around, told_media, told_around}
 use Rattle.css_agent.specs.RuleObjects.{property_with, sheet_property, inline_property, inline_style, told_weight, told_selector, told_rule}
 use Rattle.css_agent.specs.MatchedStyles.{told_inline, told_match, told_hit, told_matches, told_inherited, matched_styles}
+use Rattle.css_agent.proofs.AroundLemmas.{around-all}
 use Rattle.css_agent.proofs.SelectorNames.{all-append, NamesAre, CompoundNamed, SelectorNamed}
 use Rattle.css_agent.proofs.SheetNames.{PropertyNamed, style-named, RuleNamed, rules-named}
 
@@ -189,8 +195,39 @@ style-fits e r is =
     let all = sheet-properties-fit e.text r.properties is.short in
     both (both all.0 (both (range-fits e.text r.body is.short) (both number refl))) all.1
 
+pub media-fits : (e : SheetEntry) (m : MediaRule) → IsTold e → media_kind.fits (told_media e.id e.text m) ≡ true
+media-fits e m is = both (range-fits e.text m.prelude is.short) (both (sheet-number e.id is.some is.low) refl)
+
+media-fit : (e : SheetEntry) (ms : List MediaRule) → IsTold e → list_all media_kind.fits (map (told_media e.id e.text) ms) ≡ true
+media-fit e [] is = refl
+media-fit e (m ∷ ms) is = both (media-fits e m is) (media-fit e ms is)
+
+written-fit : (ms : List Media) → list_all media_kind.fits ms ≡ true → holds_of_some some_media_kind.fits (written_media ms) ≡ true
+written-fit [] all = refl
+written-fit (m ∷ ms) all = both all refl
+
+-- a media rule whose prelude can be cut out has a text
+pub media-utf8 : (e : SheetEntry) (m : MediaRule) → IsTold e → IsRangeOf e.text m.prelude → MediaHasUtf8 (told_media e.id e.text m)
+media-utf8 e m is cut = part-utf8 e.text m.prelude is.utf8 cut
+
+media-have-utf8 : (e : SheetEntry) (ms : List MediaRule) → IsTold e → All (λ m. IsRangeOf e.text m.prelude) ms
+    → AllByRecursion MediaHasUtf8 (map (told_media e.id e.text) ms)
+media-have-utf8 e [] is all = tt
+media-have-utf8 e (m ∷ ms) is all = (
+  media-utf8 e m is (All-head (λ (x : MediaRule). IsRangeOf e.text x.prelude) m ms all),
+  media-have-utf8 e ms is (All-tail (λ (x : MediaRule). IsRangeOf e.text x.prelude) m ms all),
+)
+
+around-utf8 : (e : SheetEntry) (around : Option ℕ) → IsTold e → AllByRecursion MediaHasUtf8 (told_around e.id e.text around)
+around-utf8 e around is =
+    let ms = (sheet_of e.text).media in
+    media-have-utf8 e (media_around ms around) is
+    (around-all (λ (x : MediaRule). IsRangeOf e.text x.prelude) ms around (preludes-cut e.text is.utf8))
+
 pub rule-fits : (e : SheetEntry) (r : RuleForm) → IsTold e → rule_kind.fits (told_rule e r) ≡ true
-rule-fits e r is = both (prelude-fits e r is) (both (style-fits e r is) (both (sheet-number e.id is.some is.low) refl))
+rule-fits e r is =
+    both (written-fit (told_around e.id e.text r.media) (media-fit e (media_around (sheet_of e.text).media r.media) is))
+    (both (prelude-fits e r is) (both (style-fits e r is) (both (sheet-number e.id is.some is.low) refl)))
 
 pub rule-utf8 : (e : SheetEntry) (r : RuleForm) → IsTold e → IsRuleOf e.text r → AllByRecursion PropertyNamed r.properties
     → RuleHasUtf8 (told_rule e r)
@@ -201,6 +238,7 @@ rule-utf8 e r is own named = (
     part-utf8 e.text r.body is.utf8
         own.body,
   ),
+  around-utf8 e r.media is,
 )
 
 -- ---- hits

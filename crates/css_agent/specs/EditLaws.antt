@@ -29,6 +29,7 @@ HasEditTexts (edit.SetStyleTexts edits) = All HasEditText edits
 HasEditTexts (edit.SetRuleSelector sheet range selector) = IsUtf8 selector
 HasEditTexts (edit.SetStyleSheetText sheet text) = IsUtf8 text
 HasEditTexts (edit.AddRule sheet rule_text location) = IsUtf8 rule_text
+HasEditTexts (edit.SetMediaText sheet range text) = IsUtf8 text
 
 -- the name of the method of an edit
 abbrev pub css_edit_name : CssEdit → List ℕ
@@ -40,6 +41,7 @@ edit_count (edit.SetStyleTexts edits) = length edits
 edit_count (edit.SetRuleSelector sheet range selector) = 1
 edit_count (edit.SetStyleSheetText sheet text) = 1
 edit_count (edit.AddRule sheet rule_text location) = 1
+edit_count (edit.SetMediaText sheet range text) = 1
 
 -- ---- of its splices
 
@@ -69,6 +71,7 @@ TellsStyles n (body.SheetText text) = ⊤
 TellsStyles n (body.Styles styles) = length styles ≡ n
 TellsStyles n (body.Selectors selectors) = ⊤
 TellsStyles n (body.Rule rule) = ⊤
+TellsStyles n (body.Media media) = ⊤
 TellsStyles n (body.Matched matched) = ⊤
 
 -- ---- of an edit

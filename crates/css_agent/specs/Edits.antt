@@ -3,6 +3,7 @@
 use Rattle.std.specs.Prelude.{ℕ, List, [], ◌∷◌, ◌++◌, map, Option, Some, option_map, option_and_then, unwrap_or, Result, Ok, Err}
 use Rattle.std.specs.List.{slice_get}
 use Rattle.css_objects.specs.declared.ranges.SourceRange.{SourceRange}
+use Rattle.css_objects.specs.declared.media.Media.{Media}
 use Rattle.css_objects.specs.declared.rules.Rule.{Rule}
 use Rattle.css_objects.specs.declared.sheets.SheetOrigin.TheVariants as origin
 use Rattle.css_objects.specs.Sheets.{sheet_in}
@@ -17,12 +18,14 @@ use Rattle.style_edits.specs.declared.splice.Splice.{Splice}
 use Rattle.style_edits.specs.Splices.{after_splice}
 use Rattle.style_edits.specs.Edits.{Found, style_splice, selector_splice, text_splice, rule_splice, edited, EditsOutcome, styles_edited}
 use Rattle.style_edits.specs.EditedRules.{edited_rule, edited_rules}
+use Rattle.style_edits.specs.MediaEdits.{media_splice, edited_media}
 use Rattle.cdp_messages.specs.declared.down.ReplyBody.{ReplyBody}
 use Rattle.cdp_messages.specs.declared.down.ReplyBody.TheVariants as body
 use Rattle.cdp_messages.specs.declared.edits.TextEdit.{TextEdit}
 use Rattle.client_views.specs.Moves.{Move, rewritten, replied}
 use Rattle.cdp_messages.specs.declared.css_edit.CssEdit.{CssEdit}
 use Rattle.cdp_messages.specs.declared.css_edit.CssEdit.TheVariants as edit
+use Rattle.css_agent.specs.MediaAround.{told_media}
 use Rattle.css_agent.specs.RuleObjects.{told_rule}
 
 -- ---- from a command's words to those of edits
@@ -57,11 +60,26 @@ empty_rule sheet = record {
     sheet = Some sheet;
   };
   sheet = sheet;
+  media = [];
 }
 
 -- the style rule that an edit made, as it is told. That it is there follows from how texts are sealed; the definition does not rest on it.
 abbrev pub told_at : List SheetEntry → RulePlace → Rule
 told_at book p = unwrap_or (found_at book p) (empty_rule p.sheet)
+
+-- the media rule at that place, if it is there
+abbrev pub found_media : List SheetEntry → ℕ → ℕ → Option Media
+found_media book sheet place = option_and_then (λ e. option_map (told_media e.id e.text) (slice_get (sheet_of e.text).media place))
+    (entry_of sheet book)
+
+-- a media rule without a prelude, at the start of a sheet
+abbrev pub empty_media : ℕ → Media
+empty_media sheet = record { range = record { start_line = 0; start_column = 0; end_line = 0; end_column = 0 }; sheet = sheet; text = [] }
+
+-- the media rule whose prelude an edit made, as it is told. That it is there follows as for style rules; the definition does not rest
+-- on it.
+abbrev pub media_told : List SheetEntry → Splice → Media
+media_told book back = unwrap_or (found_media book back.sheet (edited_media book back)) (empty_media back.sheet)
 
 -- ---- what edits come to
 
@@ -89,6 +107,11 @@ abbrev pub one_done : (Rule → ReplyBody) → Result (List SheetEntry × Splice
 one_done told (Ok made) = Ok (css_done made.0 (made.1 ∷ []) (told (told_at made.0 (edited_rule made.0 made.1))))
 one_done told (Err f) = Err f
 
+-- an edit of the prelude of a media rule: the media rule with its new prelude
+abbrev pub media_done : Result (List SheetEntry × Splice) SheetFault → CssEdited
+media_done (Ok made) = Ok (css_done made.0 (made.1 ∷ []) (body.Media (media_told made.0 made.1)))
+media_done (Err f) = Err f
+
 -- `CSS.setStyleTexts`
 abbrev pub styles_set : List TextEdit → List SheetEntry → CssEdited
 styles_set edits book = styles_done (edited_rules (map style_edit edits) book) (styles_edited (map style_edit edits) book)
@@ -105,6 +128,10 @@ text_edited sheet text book = edited book (text_splice (number_named sheet) text
 abbrev pub rule_edited : List ℕ → List ℕ → SourceRange → List SheetEntry → Result (List SheetEntry × Splice) SheetFault
 rule_edited sheet rule_text location book = edited book (rule_splice (number_named sheet) (line_range location) rule_text book)
 
+-- the edit of `CSS.setMediaText`
+abbrev pub media_edited : List ℕ → SourceRange → List ℕ → List SheetEntry → Result (List SheetEntry × Splice) SheetFault
+media_edited sheet range text book = edited book (media_splice (number_named sheet) (line_range range) text book)
+
 -- each command
 abbrev pub css_edited : List SheetEntry → CssEdit → CssEdited
 css_edited book (edit.SetStyleTexts edits) = styles_set edits book
@@ -112,6 +139,7 @@ css_edited book (edit.SetRuleSelector sheet range selector) = one_done (λ r. bo
     (selector_edited sheet range selector book)
 css_edited book (edit.SetStyleSheetText sheet text) = one_done (λ r. body.Nothing) (text_edited sheet text book)
 css_edited book (edit.AddRule sheet rule_text location) = one_done (λ r. body.Rule r) (rule_edited sheet rule_text location book)
+css_edited book (edit.SetMediaText sheet range text) = media_done (media_edited sheet range text book)
 
 -- ---- what is told of them
 
@@ -142,6 +170,7 @@ css_splices book (edit.SetRuleSelector sheet range selector) =
 css_splices book (edit.SetStyleSheetText sheet text) = one_splice (text_splice (number_named sheet) text book)
 css_splices book (edit.AddRule sheet rule_text location) =
     one_splice (rule_splice (number_named sheet) (line_range location) rule_text book)
+css_splices book (edit.SetMediaText sheet range text) = one_splice (media_splice (number_named sheet) (line_range range) text book)
 
 -- the move that tells that the sheet of that id was edited, and has the text that it has in this book
 abbrev pub rewritten_in : List SheetEntry → ℕ → Move

@@ -1,6 +1,7 @@
 pub mod Told
 pub mod ClassNames
 pub mod Texts
+pub mod MediaAround
 pub mod RuleObjects
 pub mod MatchedStyles
 pub mod Asks

@@ -16,6 +16,7 @@ use Rattle.sheet_reader.specs.Forms.{RuleForm}
 use Rattle.sheet_reader.specs.Declarations.{style_of}
 use Rattle.css_agent.specs.Told.{told_origin}
 use Rattle.css_agent.specs.Texts.{source_range, told_part}
+use Rattle.css_agent.specs.MediaAround.{told_around}
 
 -- ---- declarations
 
@@ -68,4 +69,10 @@ told_prelude text r = record { selectors = map (told_selector text) r.selectors;
 
 -- a style rule of a sheet
 abbrev pub told_rule : SheetEntry → RuleForm → Rule
-told_rule e r = record { origin = told_origin e.origin; selectors = told_prelude e.text r; style = rule_style e.id e.text r; sheet = e.id }
+told_rule e r = record {
+  origin = told_origin e.origin;
+  selectors = told_prelude e.text r;
+  style = rule_style e.id e.text r;
+  sheet = e.id;
+  media = told_around e.id e.text r.media;
+}

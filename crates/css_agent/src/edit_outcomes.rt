@@ -3,15 +3,16 @@ ghost use Rattle.std.specs.Prelude.{◌≡◌, ◌∷◌, [], Ok, Err, IfOk};
 ghost use Rattle.cdp_messages.specs.declared.down.ReplyBody.TheVariants.{Nothing, Selectors, Rule};
 ghost use Rattle.style_edits.specs.Edits.{IfFault};
 ghost use Rattle.css_agent.specs.Edits.{css_done, one_done, styles_set, selector_edited, text_edited, rule_edited, css_edited};
+ghost use Rattle.css_agent.specs.Edits.{media_done, media_edited};
 
 use crate::edit_words::{line_range, sheet_number, style_edits};
-use crate::edited_rules::{styles_at, told_at};
+use crate::edited_rules::{media_told, styles_at, told_at};
 use cdp_messages::{CssEdit, Listed, ReplyBody, TextEdit};
 use css_objects::SourceRange;
 use sheet_reader::SheetBook;
 use std::alloc::{AllocError, Global};
 use style_edits::{
-    SheetErr, Splice, add_rule, edited_rule, set_selector, set_styles_noting, set_text,
+    SheetErr, Splice, add_rule, edited_rule, set_media, set_selector, set_styles_noting, set_text,
 };
 
 /// The splices that lead back, in the order of the edits, and the result.
@@ -100,6 +101,26 @@ fn rule_added(
     Ok(one_done(alloc, back, ReplyBody::Rule(rule))?)
 }
 
+fn media_set(
+    alloc: Global,
+    book: &mut SheetBook,
+    sheet: &str,
+    range: SourceRange,
+    text: &str,
+) -> Result<Done, SheetErr>
+    ensures done { IfOk result (λ d. media_done (media_edited sheet.now range text.now book.old)
+        ≡ Ok (css_done book.new d.backs.items d.body)) }
+    ensures fault { IfFault result (λ f. media_edited sheet.now range text.now book.old ≡ Err f) }
+    ensures unchanged { IfFault result (λ f. book.new ≡ book.old) }
+{
+    let back = match set_media(book, sheet_number(sheet), &line_range(range), text) {
+        Ok(back) => back,
+        Err(stop) => return Err(stop),
+    };
+    let media = media_told(alloc, book, &back)?;
+    Ok(one_done(alloc, back, ReplyBody::Media(media))?)
+}
+
 /// Carries the edit out. On a fault the book is as it was.
 pub(crate) fn css_edited(
     alloc: Global,
@@ -125,5 +146,8 @@ pub(crate) fn css_edited(
             rule_text,
             location,
         } => rule_added(alloc, book, sheet.as_str(), rule_text.as_str(), *location),
+        CssEdit::SetMediaText { sheet, range, text } => {
+            media_set(alloc, book, sheet.as_str(), *range, text.as_str())
+        }
     }
 }

@@ -1,17 +1,19 @@
-// The style rules that edits made, as they are told.
+// The rules that edits made, as they are told.
 ghost use Rattle.std.specs.Prelude.{◌≡◌, map, option_map, slice_get, IfOk};
 ghost use Rattle.sheet_reader.specs.Books.{IsEntry};
 ghost use Rattle.sheet_reader.specs.Sheets.{sheet_of};
 ghost use Rattle.css_agent.specs.RuleObjects.{told_rule};
-ghost use Rattle.css_agent.specs.Edits.{found_at, empty_rule, told_at};
+ghost use Rattle.css_agent.specs.MediaAround.{told_media};
+ghost use Rattle.css_agent.specs.Edits.{found_at, empty_rule, told_at, found_media, empty_media, media_told};
 
 use crate::matched_styles::rule_at;
+use crate::media_around::{media_at, told_media_of};
 use crate::rules::told_rule;
-use css_objects::{Listed, Rule, RuleSelectors, SheetOrigin, SourceRange, Style};
+use css_objects::{Listed, Media, Rule, RuleSelectors, SheetOrigin, SourceRange, Style};
 use node_tree::Text;
 use sheet_reader::{SheetBook, SheetEntry};
 use std::alloc::{AllocError, Global};
-use style_edits::RulePlace;
+use style_edits::{RulePlace, Splice, edited_media};
 
 fn found_in(alloc: Global, entry: &SheetEntry, place: usize) -> Result<Option<Rule>, AllocError>
     requires { IsEntry entry.now }
@@ -33,6 +35,18 @@ fn found_at(alloc: Global, book: &SheetBook, place: RulePlace) -> Result<Option<
     found_in(alloc, entry, place.rule)
 }
 
+/// The empty range at the start of a sheet.
+fn start_of_sheet() -> SourceRange
+    ensures { result ≡ (empty_media 0).range }
+{
+    SourceRange {
+        start_line: 0,
+        start_column: 0,
+        end_line: 0,
+        end_column: 0,
+    }
+}
+
 /// A rule that has nothing.
 fn empty_rule(alloc: Global, sheet: u64) -> Rule
     ensures { result ≡ empty_rule sheet }
@@ -41,16 +55,10 @@ fn empty_rule(alloc: Global, sheet: u64) -> Rule
         selectors: Listed::new(Vec::new(alloc)),
         text: Text::new(String::new(alloc)),
     };
-    let range = SourceRange {
-        start_line: 0,
-        start_column: 0,
-        end_line: 0,
-        end_column: 0,
-    };
     let style = Style {
         properties: Listed::new(Vec::new(alloc)),
         text: Text::new(String::new(alloc)),
-        range: Some(range),
+        range: Some(start_of_sheet()),
         sheet: Some(sheet),
     };
     Rule {
@@ -58,6 +66,7 @@ fn empty_rule(alloc: Global, sheet: u64) -> Rule
         selectors,
         style,
         sheet,
+        media: Listed::new(Vec::new(alloc)),
     }
 }
 
@@ -95,4 +104,56 @@ pub(crate) fn styles_at(
         styles.push(style_at(alloc, book, place)?)?;
     }
     Ok(styles)
+}
+
+fn media_in(alloc: Global, entry: &SheetEntry, place: usize) -> Result<Option<Media>, AllocError>
+    requires { IsEntry entry.now }
+    ensures { IfOk result (λ o. o
+        ≡ option_map (told_media entry.now.id entry.now.text) (slice_get (sheet_of entry.now.text).media place)) }
+{
+    let Some(rule) = media_at(entry, place) else {
+        return Ok(None);
+    };
+    Ok(Some(told_media_of(alloc, entry, rule)?))
+}
+
+/// The media rule at that place of the sheet, if it is there.
+fn found_media(
+    alloc: Global,
+    book: &SheetBook,
+    sheet: u64,
+    place: usize,
+) -> Result<Option<Media>, AllocError>
+    ensures { IfOk result (λ o. o ≡ found_media book.now sheet place) }
+{
+    let Some(entry) = book.get(sheet) else {
+        return Ok(None);
+    };
+    media_in(alloc, entry, place)
+}
+
+/// A media rule without a prelude.
+fn empty_media(alloc: Global, sheet: u64) -> Media
+    ensures { result ≡ empty_media sheet }
+{
+    Media {
+        range: start_of_sheet(),
+        sheet,
+        text: Text::new(String::new(alloc)),
+    }
+}
+
+/// The media rule whose prelude an edit made, by the splice that leads back.
+pub(crate) fn media_told(
+    alloc: Global,
+    book: &SheetBook,
+    back: &Splice,
+) -> Result<Media, AllocError>
+    ensures { IfOk result (λ m. m ≡ media_told book.now back.now) }
+{
+    let place = edited_media(book, back);
+    match found_media(alloc, book, back.sheet, place)? {
+        Some(media) => Ok(media),
+        None => Ok(empty_media(alloc, back.sheet)),
+    }
 }

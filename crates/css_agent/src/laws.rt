@@ -2,6 +2,7 @@
 ghost use Rattle.std.specs.Prelude.{◌≡◌, ℕ, List};
 ghost use Rattle.sheet_reader.specs.Sheets.{sheet_of};
 ghost use Rattle.css_agent.specs.ClassNames.{class_names, classes_of_rules, NamesAscend, has_class_name};
+ghost use Rattle.css_agent.specs.MediaAround.{EachIsAround};
 ghost use Rattle.css_agent.specs.EditLaws.{EditsAreDone};
 
 /// What a client's edit of sheets that has no fault comes to: splices that can be made one after the other, those that lead back,
@@ -15,4 +16,9 @@ pub fn class_names_law()
     ensures ascend { (text : List ℕ) → NamesAscend (class_names text) }
     ensures exactly { (text name : List ℕ) → has_class_name name (class_names text)
         ≡ has_class_name name (classes_of_rules (sheet_of text).rules) }
+{}
+
+/// The media rules that are told of a style rule are all of those around it, from the innermost outwards.
+pub fn around_law()
+    ensures { EachIsAround }
 {}

@@ -19,6 +19,7 @@ mod frames;
 mod headers;
 mod laws;
 mod matched_styles;
+mod media_around;
 mod outcomes;
 mod rulers;
 mod rules;
@@ -27,5 +28,5 @@ mod units;
 
 pub use agent::CssAgent;
 pub use headers::told_header;
-pub use laws::{class_names_law, edit_law};
+pub use laws::{around_law, class_names_law, edit_law};
 pub use outcomes::sheet_named;

@@ -3,6 +3,8 @@ ghost use Rattle.std.specs.Prelude.{◌≡◌, ◌++◌, map, cond, [], ◌∷�
 ghost use Rattle.std.specs.List.{filter_map};
 ghost use Rattle.page_tree.specs.Zippers.{ancestors};
 ghost use Rattle.select_match.specs.Elements.{is_element_node, elements};
+ghost use Rattle.std.specs.Prelude.{length};
+ghost use Rattle.sheet_reader.specs.Around.{IsBelow};
 ghost use Rattle.sheet_reader.specs.Books.{IsEntry};
 ghost use Rattle.sheet_reader.specs.Forms.{rule_seen};
 ghost use Rattle.sheet_reader.specs.Sheets.{sheet_of};
@@ -54,6 +56,7 @@ pub(crate) fn rule_at(entry: &SheetEntry, place: usize) -> Option<&StyleRule>
     requires { IsEntry entry.now }
     ensures rule { option_map (λ r. rule_seen r.now) result ≡ slice_get (sheet_of entry.now.text).rules place }
     ensures usable { IfSome result (λ r. IsRuleOf entry.now.text (rule_seen r.now)) }
+    ensures around { IfSome result (λ r. IsBelow (length (sheet_of entry.now.text).media) r.now.media) }
 {
     // Read for the proof alone: a text is UTF-8.
     let _text = entry.text.as_str();

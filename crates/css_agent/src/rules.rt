@@ -1,13 +1,17 @@
 // Style rules as messages tell them.
-ghost use Rattle.std.specs.Prelude.{◌≡◌, All, map, IfOk};
+ghost use Rattle.std.specs.Prelude.{◌≡◌, All, length, map, IfOk};
 ghost use Rattle.selectors.specs.Forms.{selector_seen};
 ghost use Rattle.selectors.specs.Lists.{list_seen};
 ghost use Rattle.selectors.specs.Ranges.{IsRangeOf};
+ghost use Rattle.sheet_reader.specs.Around.{IsBelow};
+ghost use Rattle.sheet_reader.specs.Books.{IsEntry};
 ghost use Rattle.sheet_reader.specs.Forms.{rule_seen};
+ghost use Rattle.sheet_reader.specs.Sheets.{sheet_of};
 ghost use Rattle.sheet_reader.specs.Usable.{IsRuleOf};
 ghost use Rattle.css_agent.specs.RuleObjects.{told_weight, told_selector, told_prelude, told_rule};
 
 use crate::headers::told_origin;
+use crate::media_around::told_around;
 use crate::rulers::Ruler;
 use crate::styles::{rule_style, told_part};
 use css_objects::{Listed, Rule, RuleSelectors, SelectorValue, Weight};
@@ -83,10 +87,13 @@ pub(crate) fn told_rule(
     entry: &SheetEntry,
     rule: &StyleRule,
 ) -> Result<Rule, AllocError>
-    requires { IsRuleOf entry.now.text (rule_seen rule.now) }
+    requires entry { IsEntry entry.now }
+    requires rule { IsRuleOf entry.now.text (rule_seen rule.now) }
+    requires around { IsBelow (length (sheet_of entry.now.text).media) rule.now.media }
     ensures { IfOk result (λ r. r ≡ told_rule entry.now (rule_seen rule.now)) }
 {
     let mut ruler = Ruler::new(entry.text.as_str());
+    let media = told_around(alloc, &mut ruler, entry, rule.media)?;
     let selectors = told_prelude(alloc, &mut ruler, rule)?;
     let style = rule_style(alloc, &mut ruler, entry.id, rule)?;
     Ok(Rule {
@@ -94,5 +101,6 @@ pub(crate) fn told_rule(
         selectors,
         style,
         sheet: entry.id,
+        media: Listed::new(media),
     })
 }

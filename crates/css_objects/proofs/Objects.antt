@@ -5,22 +5,30 @@ use Rattle.std.specs.List.{AllByRecursion}
 use Rattle.json.proofs.Printed.Utf8.{IsUtf8-are_ascii}
 use Rattle.serde_json.specs.Data.{Data, null, boolean, number, string, array, object, no_items, item}
 use Rattle.cdp_json.specs.Lawful.{LawfulKind}
-use Rattle.cdp_json.proofs.KindLaws.{choice_lawful}
+use Rattle.cdp_json.specs.Kinds.{holds_of_some, only_text}
+use Rattle.cdp_json.specs.Rows.{object_of}
+use Rattle.cdp_json.proofs.KindLaws.{choice_lawful, only_text_lawful}
+use Rattle.css_objects.specs.declared.media.Media.{Media}
+use Rattle.css_objects.specs.declared.rules.Rule.{Rule}
 use Rattle.css_objects.specs.declared.sheets.SheetOrigin.{SheetOrigin}
 use Rattle.css_objects.specs.declared.sheets.SheetOrigin.TheVariants.{UserAgent, Regular}
 use Rattle.css_objects.specs.Ranges.{range_fields, range_from, range_kind}
 use Rattle.css_objects.specs.Sheets.{is_sheet, sheet_kind, origin_name, origin_named, origin_kind, header_fields, header_from, header_kind}
+use Rattle.css_objects.specs.Media.{media_fields, media_from, media_kind, has_media, some_media_kind, written_media, media_written}
 use Rattle.css_objects.specs.Selectors.{weight_fields, weight_from, weight_kind, selector_fields, selector_from, selector_kind}
 use Rattle.css_objects.specs.Selectors.{selectors_fields, selectors_from, selectors_kind}
 use Rattle.css_objects.specs.Styles.{property_fields, property_from, property_kind, empty_list, style_fields, style_from, style_kind}
 use Rattle.css_objects.specs.Styles.{is_inline, is_in_sheet, inline_kind, rule_style_kind}
-use Rattle.css_objects.specs.Rules.{rule_fields, rule_from, rule_kind, ascend, match_fields, match_from, match_kind, inherited_fields}
+use Rattle.css_objects.specs.Rules.{RuleFields, rule_row, rule_fields, rule_from, rule_kind, ascend, match_fields, match_from, match_kind, inherited_fields}
 use Rattle.css_objects.specs.Rules.{inherited_from, inherited_kind, matched_fields, matched_from, matched_kind}
 use Rattle.css_objects.specs.Results.{sheet_text_result, class_names_result, styles_result, selectors_result, rule_result}
+use Rattle.css_objects.specs.Results.{media_result}
+use Rattle.css_objects.specs.Laws.{MediaHasUtf8}
 use Rattle.css_objects.specs.Laws.{IsSoundKind, SelectorHasUtf8, SelectorsHaveUtf8, PropertyHasUtf8, StyleHasUtf8, RuleHasUtf8}
 use Rattle.css_objects.specs.Laws.{MatchHasUtf8, InheritedHasUtf8, MatchedHaveUtf8}
+use Rattle.css_objects.proofs.Options.{both_parts}
 use Rattle.css_objects.proofs.SheetIds.{the_sheet, sheet_read, sheet_text-utf8}
-use Rattle.css_objects.proofs.SoundKinds.{sound, whole_sound, text_sound, refined_sound, fields_sound, weaker, list_sound, no_more, needed}
+use Rattle.css_objects.proofs.SoundKinds.{sound, whole_sound, text_sound, refined_sound, fields_sound, fitting_sound, weaker, list_sound, no_more, needed}
 use Rattle.css_objects.proofs.SoundKinds.{optional, flagged, object_sound}
 
 -- ---- ids, origins and the empty list
@@ -134,14 +142,51 @@ inline_sound = refined_sound is_inline style_sound
 pub rule_style_sound : IsSoundKind rule_style_kind StyleHasUtf8 4
 rule_style_sound = refined_sound is_in_sheet style_sound
 
+source_sound : IsSoundKind (only_text (codes "mediaRule")) (λ _. ⊤) 0
+source_sound = sound (only_text_lawful (codes "mediaRule")) refl (λ x f u. IsUtf8-are_ascii (codes "mediaRule") refl) (λ x. omega arith)
+    (λ x. refl)
+
+pub media_sound : IsSoundKind media_kind MediaHasUtf8 2
+media_sound =
+    weaker (λ m u. (tt, (tt, (tt, (u, tt))))) (fields_sound media_fields media_from (λ f. refl) (λ m. refl) (object_sound
+    (needed (codes "range") range_sound
+    (needed (codes "source") source_sound
+    (needed (codes "styleSheetId") sheet_sound
+    (needed (codes "text") text_sound (no_more 1) refl refl (omega arith)) refl refl (omega arith)) refl refl (omega arith)) refl refl
+    (omega arith))))
+
+-- media rules that are written have texts, where all have
+written-utf8 : (ms : List Media) → AllByRecursion MediaHasUtf8 ms → IfSome (written_media ms) (AllByRecursion MediaHasUtf8)
+written-utf8 [] u = tt
+written-utf8 (m ∷ ms) u = u
+
+written-back : (ms : List Media) → media_written (written_media ms) ≡ ms
+written-back [] = refl
+written-back (m ∷ ms) = refl
+
+back-written : (o : Option (List Media)) → holds_of_some some_media_kind.fits o ≡ true → written_media (media_written o) ≡ o
+back-written None f = refl
+back-written (Some []) f = absurd cc
+back-written (Some (m ∷ ms)) f = refl
+
+rule-there : (f : RuleFields) → (object_of rule_row).fits f ≡ true → rule_fields (rule_from f) ≡ f
+rule-there f fits =
+    ap (λ (o : Option (List Media)). (o, f.1)) (back-written f.0 (both_parts (holds_of_some some_media_kind.fits f.0) _ fits).0)
+
+rule-back : (r : Rule) → rule_from (rule_fields r) ≡ r
+rule-back r = ap (λ (ms : List Media).
+    record { origin = r.origin; selectors = r.selectors; style = r.style; sheet = r.sheet; media = ms }) (written-back r.media)
+
 pub rule_sound : IsSoundKind rule_kind RuleHasUtf8 5
 rule_sound =
-    weaker (λ r u. (tt, (u.0, (u.1, (tt, tt))))) (fields_sound rule_fields rule_from (λ f. refl) (λ r. refl) (object_sound
+    weaker (λ r u. (written-utf8 r.media u.2, (tt, (u.0, (u.1, (tt, tt))))))
+    (fitting_sound rule_fields rule_from rule-there rule-back (object_sound
+    (optional (codes "media") (refined_sound has_media (list_sound media_sound))
     (needed (codes "origin") origin_sound
     (needed (codes "selectorList") selectors_sound
     (needed (codes "style") rule_style_sound
     (needed (codes "styleSheetId") sheet_sound (no_more 4) refl refl (omega arith)) refl refl (omega arith)) refl refl (omega arith)) refl
-    refl (omega arith))))
+    refl (omega arith)) refl refl (omega arith))))
 
 each_whole : (ns : List ℕ) → AllByRecursion (λ _. ⊤) ns
 each_whole [] = tt
@@ -191,3 +236,7 @@ new_selectors_sound = weaker (λ s u. (u, tt))
 pub new_rule_sound : IsSoundKind rule_result RuleHasUtf8 6
 new_rule_sound = weaker (λ r u. (u, tt))
     (fields_sound _ _ (λ f. refl) (λ r. refl) (object_sound (needed (codes "rule") rule_sound (no_more 5) refl refl (omega arith))))
+
+pub new_media_sound : IsSoundKind media_result MediaHasUtf8 3
+new_media_sound = weaker (λ m u. (u, tt))
+    (fields_sound _ _ (λ f. refl) (λ m. refl) (object_sound (needed (codes "media") media_sound (no_more 2) refl refl (omega arith))))

@@ -1,6 +1,6 @@
 -- Kinds that are sound, made of kinds that are.
 use Rattle.std.proofs.Common.{◌≡◌, ℕ, suc, ◌≤◌, List, [], ◌∷◌, map, Bool, true, false, ◌||◌, Option, Some, None, option_map, refl, sym, ap}
-use Rattle.std.proofs.Common.{◌∙◌, arith, max}
+use Rattle.std.proofs.Common.{◌∙◌, arith, max, option_and_then}
 use Rattle.std.specs.Prelude.{IfSome, IsUtf8, ⊤}
 use Rattle.std.specs.List.{AllByRecursion, list_all}
 use Rattle.json.proofs.Printed.Utf8.{are_ascii, IsUtf8-are_ascii}
@@ -8,12 +8,12 @@ use Rattle.serde_json.specs.Data.{Data, boolean, Members, member, depth, items_d
 use Rattle.serde_json.specs.View.{items_of}
 use Rattle.serde_json.specs.Written.{has_float, items_have_float, members_have_float}
 use Rattle.cdp_json.specs.Plain.{HasUtf8, ItemsHaveUtf8, MembersHaveUtf8}
-use Rattle.cdp_json.specs.Kinds.{Kind, holds_of_some, whole, text, only_true, refined, list_of}
+use Rattle.cdp_json.specs.Kinds.{Kind, passes, holds_of_some, whole, text, only_true, refined, list_of}
 use Rattle.cdp_json.specs.Rows.{Row, unit_if, maybe_member, members_of, ends, and_need, and_may, and_true, object_of, both_loose}
 use Rattle.cdp_json.specs.Lawful.{LawfulKind, LawfulRow, is_before_all}
 use Rattle.cdp_json.proofs.KindLaws.{whole_lawful, text_lawful, refined_lawful, through_lawful, list_lawful}
 use Rattle.cdp_json.proofs.RowLaws.{ends_lawful, and_need_lawful, and_may_lawful, and_true_lawful, object_lawful}
-use Rattle.css_objects.proofs.Options.{both_parts}
+use Rattle.css_objects.proofs.Options.{both_parts, and_then_some}
 use Rattle.css_objects.specs.Made.{by_fields}
 use Rattle.css_objects.specs.Laws.{IsSoundKind}
 
@@ -54,6 +54,28 @@ fields_sound {S} {T} {k} fields of there back s =
     (λ x. s.no_float (fields x)) where
       only : (f : S) (x : T) → ◌≡◌ {A = Option T} (Some (of f)) (Some x) → fields x ≡ f
       only f x e = let same : of f ≡ x = cc in ap fields (sym same) ∙ there f
+
+-- the same where only what fits comes back from its fields
+pub fitting_sound : {S T : Type 0} {k : Kind S} {P : S → Type 0} {n : ℕ} (fields : T → S) (of : S → T)
+    → ((s : S) → k.fits s ≡ true → fields (of s) ≡ s) → ((x : T) → of (fields x) ≡ x) → IsSoundKind k P n
+    → IsSoundKind (by_fields k fields of) (λ x. P (fields x)) n
+fitting_sound {S} {T} {k} fields of there back s =
+    sound lawful (ap (option_map (λ test x. test (fields x))) s.tight) (λ x f u. s.utf8 (fields x) f u) (λ x. s.shallow (fields x))
+    (λ x. s.no_float (fields x)) where
+      tight : (x : T) → passes k.loose (fields x) ≡ true
+      tight x = ap (λ (o : Option (S → Bool)). passes o (fields x)) s.tight
+
+      lawful : LawfulKind (by_fields k fields of)
+      lawful = record {
+        takes = λ d x e.
+            let p = and_then_some (λ f. Some (of f)) (k.reads d) x e in
+            let r = s.lawful.takes d p.0 p.1 in
+            let from : of p.0 ≡ x = cc in
+            let same : fields x ≡ p.0 = ap fields (sym from) ∙ there p.0 r.1 in
+            (ap k.spell same ∙ r.0, ap k.fits same ∙ r.1);
+        again = λ x f. ap (option_and_then (λ s. Some (of s))) (s.lawful.again (fields x) f) ∙ ap Some (back x);
+        plain = λ x f l. s.lawful.plain (fields x) f (tight x);
+      }
 
 pub weaker : {T : Type 0} {k : Kind T} {P Q : T → Type 0} {n : ℕ} → ((x : T) → Q x → P x) → IsSoundKind k P n → IsSoundKind k Q n
 weaker enough s = sound s.lawful s.tight (λ x f u. s.utf8 x f (enough x u)) s.shallow s.no_float

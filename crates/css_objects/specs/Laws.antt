@@ -7,6 +7,7 @@ use Rattle.serde_json.specs.Written.{has_float}
 use Rattle.cdp_json.specs.Plain.{HasUtf8}
 use Rattle.cdp_json.specs.Kinds.{Kind}
 use Rattle.cdp_json.specs.Lawful.{LawfulKind}
+use Rattle.css_objects.specs.declared.media.Media.{Media}
 use Rattle.css_objects.specs.declared.selectors.SelectorValue.{SelectorValue}
 use Rattle.css_objects.specs.declared.selectors.RuleSelectors.{RuleSelectors}
 use Rattle.css_objects.specs.declared.styles.StyleProperty.{StyleProperty}
@@ -49,9 +50,13 @@ PropertyHasUtf8 p = IsUtf8 p.name × IsUtf8 p.text × IsUtf8 p.value
 abbrev pub StyleHasUtf8 : Style → Type 0
 StyleHasUtf8 s = AllByRecursion PropertyHasUtf8 s.properties × IsUtf8 s.text
 
+-- the text of a media rule is UTF-8
+abbrev pub MediaHasUtf8 : Media → Type 0
+MediaHasUtf8 m = IsUtf8 m.text
+
 -- the texts of a rule are UTF-8
 abbrev pub RuleHasUtf8 : Rule → Type 0
-RuleHasUtf8 r = SelectorsHaveUtf8 r.selectors × StyleHasUtf8 r.style
+RuleHasUtf8 r = SelectorsHaveUtf8 r.selectors × StyleHasUtf8 r.style × AllByRecursion MediaHasUtf8 r.media
 
 -- the texts of a match are UTF-8
 abbrev pub MatchHasUtf8 : RuleMatch → Type 0

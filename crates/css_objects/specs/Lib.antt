@@ -1,6 +1,7 @@
 pub mod Made
 pub mod Ranges
 pub mod Sheets
+pub mod Media
 pub mod Selectors
 pub mod Styles
 pub mod Rules

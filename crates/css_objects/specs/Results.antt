@@ -4,7 +4,9 @@ use Rattle.cdp_json.specs.Kinds.{Kind, text, list_of}
 use Rattle.css_objects.specs.declared.selectors.RuleSelectors.{RuleSelectors}
 use Rattle.css_objects.specs.declared.styles.Style.{Style}
 use Rattle.css_objects.specs.declared.rules.Rule.{Rule}
+use Rattle.css_objects.specs.declared.media.Media.{Media}
 use Rattle.css_objects.specs.Made.{only_field}
+use Rattle.css_objects.specs.Media.{media_kind}
 use Rattle.css_objects.specs.Selectors.{selectors_kind}
 use Rattle.css_objects.specs.Styles.{rule_style_kind}
 use Rattle.css_objects.specs.Rules.{rule_kind}
@@ -28,3 +30,7 @@ selectors_result = only_field (codes "selectorList") selectors_kind
 -- of `CSS.addRule`
 abbrev pub rule_result : Kind Rule
 rule_result = only_field (codes "rule") rule_kind
+
+-- of `CSS.setMediaText`
+abbrev pub media_result : Kind Media
+media_result = only_field (codes "media") media_kind

@@ -2,6 +2,7 @@
 use Rattle.std.specs.Prelude.{ℕ, List, [], ◌∷◌, codes, Bool, true, ◌&&◌, nat_lt, Option, ⊤}
 use Rattle.cdp_json.specs.Kinds.{Kind, whole, refined, list_of}
 use Rattle.cdp_json.specs.Rows.{Row, ends, and_need, and_may, object_of}
+use Rattle.css_objects.specs.declared.media.Media.{Media}
 use Rattle.css_objects.specs.declared.sheets.SheetOrigin.{SheetOrigin}
 use Rattle.css_objects.specs.declared.selectors.RuleSelectors.{RuleSelectors}
 use Rattle.css_objects.specs.declared.styles.Style.{Style}
@@ -10,6 +11,7 @@ use Rattle.css_objects.specs.declared.rules.RuleMatch.{RuleMatch}
 use Rattle.css_objects.specs.declared.rules.Inherited.{Inherited}
 use Rattle.css_objects.specs.declared.rules.Matched.{Matched}
 use Rattle.css_objects.specs.Made.{by_fields}
+use Rattle.css_objects.specs.Media.{some_media_kind, written_media, media_written}
 use Rattle.css_objects.specs.Sheets.{origin_kind, sheet_kind}
 use Rattle.css_objects.specs.Selectors.{selectors_kind}
 use Rattle.css_objects.specs.Styles.{inline_kind, rule_style_kind}
@@ -18,23 +20,30 @@ use Rattle.css_objects.specs.Styles.{inline_kind, rule_style_kind}
 
 -- the fields of a rule, in the order of their names
 abbrev pub RuleFields : Type 0
-RuleFields = SheetOrigin × (RuleSelectors × (Style × (ℕ × ⊤)))
+RuleFields = Option (List Media) × (SheetOrigin × (RuleSelectors × (Style × (ℕ × ⊤))))
 
--- the fields of `CSS.CSSRule`
+-- the fields of `CSS.CSSRule`; `media` is there exactly where a media rule is around the rule
 abbrev pub rule_row : Row RuleFields
 rule_row =
-    and_need (codes "origin") origin_kind
+    and_may (codes "media") some_media_kind
+    (and_need (codes "origin") origin_kind
     (and_need (codes "selectorList") selectors_kind
     (and_need (codes "style") rule_style_kind
-    (and_need (codes "styleSheetId") sheet_kind ends)))
+    (and_need (codes "styleSheetId") sheet_kind ends))))
 
 -- a rule as its fields
 abbrev pub rule_fields : Rule → RuleFields
-rule_fields r = (r.origin, (r.selectors, (r.style, (r.sheet, tt))))
+rule_fields r = (written_media r.media, (r.origin, (r.selectors, (r.style, (r.sheet, tt)))))
 
 -- the rule of these fields
 abbrev pub rule_from : RuleFields → Rule
-rule_from f = record { origin = f.0; selectors = f.1.0; style = f.1.1.0; sheet = f.1.1.1.0 }
+rule_from f = record {
+  origin = f.1.0;
+  selectors = f.1.1.0;
+  style = f.1.1.1.0;
+  sheet = f.1.1.1.1.0;
+  media = media_written f.0;
+}
 
 -- `CSS.CSSRule`
 abbrev pub rule_kind : Kind Rule

@@ -1,5 +1,5 @@
-//! The objects of the protocol's CSS domain, as typed values and as JSON: ranges, selectors, styles, rules and headers of
-//! sheets, and the results that are made of them.
+//! The objects of the protocol's CSS domain, as typed values and as JSON: ranges, selectors, styles, rules, media rules and
+//! headers of sheets, and the results that are made of them.
 //!
 //! Promise: each object is described once; a reader (`rule_of`, `header_of` and the like) gives exactly what a value spells,
 //! none where it spells no such object, and a writer (`rule_value`, `header_value`) builds exactly its JSON.
@@ -13,6 +13,7 @@
 
 mod laws;
 mod listed;
+mod media;
 mod ranges;
 mod results;
 mod rules;
@@ -22,10 +23,12 @@ mod styles;
 
 pub use laws::css_objects_law;
 pub use listed::Listed;
+pub use media::{Media, media_of, media_value};
 pub use ranges::{SourceRange, range_of, range_value};
 pub use results::{
-    class_names_of, class_names_value, new_rule_of, new_rule_value, new_selectors_of,
-    new_selectors_value, sheet_text_of, sheet_text_value, styles_of, styles_value,
+    class_names_of, class_names_value, new_media_of, new_media_value, new_rule_of, new_rule_value,
+    new_selectors_of, new_selectors_value, sheet_text_of, sheet_text_value, styles_of,
+    styles_value,
 };
 pub use rules::{
     Inherited, Matched, Rule, RuleMatch, inherited_of, inherited_value, match_of, match_value,

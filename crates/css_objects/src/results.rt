@@ -7,8 +7,10 @@ ghost use Rattle.cdp_json.specs.Kinds.{text, list_of, read_items};
 ghost use Rattle.css_objects.specs.Styles.{rule_style_kind};
 ghost use Rattle.css_objects.specs.Made.{sole_field};
 ghost use Rattle.css_objects.specs.Results.{sheet_text_result, class_names_result, styles_result, selectors_result, rule_result};
+ghost use Rattle.css_objects.specs.Results.{media_result};
 
 use crate::listed::Listed;
+use crate::media::{Media, media_of, media_value};
 use crate::rules::{Rule, rule_of, rule_value};
 use crate::selectors::{RuleSelectors, selectors_of, selectors_value};
 use crate::styles::{Style, rule_style_of, style_value};
@@ -190,4 +192,22 @@ pub fn new_rule_value(alloc: Global, rule: &Rule) -> Result<Value, AllocError>
 {
     let value = rule_value(alloc, rule)?;
     object_with(alloc, "rule", value)
+}
+
+/// The media rule with its new prelude.
+pub fn new_media_of(alloc: Global, value: &Value) -> Result<Option<Media>, AllocError>
+    ensures { IfOk result (λ o. o ≡ media_result.reads (view value.now)) }
+{
+    let Some(media) = sole_field(value, "media") else {
+        return Ok(None);
+    };
+    media_of(alloc, media)
+}
+
+/// The result of `CSS.setMediaText`.
+pub fn new_media_value(alloc: Global, media: &Media) -> Result<Value, AllocError>
+    ensures { IfOk result (λ v. view v ≡ media_result.spell media.now) }
+{
+    let value = media_value(alloc, media)?;
+    object_with(alloc, "media", value)
 }

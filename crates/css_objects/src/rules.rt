@@ -4,11 +4,13 @@ ghost use Rattle.serde_json.specs.View.{view, items_view};
 ghost use Rattle.cdp_json.specs.Left.{left};
 ghost use Rattle.cdp_json.specs.Kinds.{list_of, read_items};
 ghost use Rattle.cdp_json.specs.Rows.{left_with, need, may};
+ghost use Rattle.css_objects.specs.Media.{some_media_kind, written_media, media_written};
 ghost use Rattle.css_objects.specs.Selectors.{selectors_kind};
 ghost use Rattle.css_objects.specs.Styles.{inline_kind, rule_style_kind};
 ghost use Rattle.css_objects.specs.Rules.{rule_kind, ascend, places_kind, match_kind, inherited_kind, matched_kind};
 
 use crate::listed::Listed;
+use crate::media::{Media, some_media_of, some_media_value};
 use crate::selectors::{RuleSelectors, selectors_of, selectors_value};
 use crate::sheets::{SheetOrigin, origin_field, origin_value, sheet_field, sheet_value};
 use crate::styles::{Style, inline_style_of, rule_style_of, style_value};
@@ -24,6 +26,8 @@ pub struct Rule {
     pub style: Style,
     /// The sheet's number.
     pub sheet: u64,
+    /// The media rules around it, the innermost first.
+    pub media: Listed<Media>,
 }
 
 /// A rule that matches an element (`CSS.RuleMatch`).
@@ -75,6 +79,45 @@ fn style_field(alloc: Global, fields: &mut Cursor<'_>) -> Result<Option<Style>, 
     rule_style_of(alloc, value)
 }
 
+// An outer `None` says that the field is there and no list of media rules with one at least.
+fn media_if_any(
+    alloc: Global,
+    fields: &mut Cursor<'_>,
+) -> Result<Option<Option<Listed<Media>>>, AllocError>
+    ensures { IfOk result (λ o. option_map (left_with (left fields.new)) o
+        ≡ may some_media_kind.reads (codes "media") (left fields.old)) }
+{
+    match fields.may("media") {
+        Some(value) => match some_media_of(alloc, value)? {
+            Some(media) => Ok(Some(Some(media))),
+            None => Ok(None),
+        },
+        None => Ok(Some(None)),
+    }
+}
+
+// None, where the list is absent.
+fn media_written(alloc: Global, media: Option<Listed<Media>>) -> Listed<Media>
+    ensures { result ≡ media_written media }
+{
+    match media {
+        Some(media) => media,
+        None => Listed::new(Vec::new(alloc)),
+    }
+}
+
+fn media_if_any_value(alloc: Global, media: &Listed<Media>) -> Result<Option<Value>, AllocError>
+    ensures { IfOk result (λ o. option_map view o ≡ option_map some_media_kind.spell (written_media media.now)) }
+{
+    if media.len() == 0 {
+        return Ok(None);
+    }
+    match some_media_value(alloc, media.as_slice()) {
+        Ok(value) => Ok(Some(value)),
+        Err(error) => Err(error),
+    }
+}
+
 /// `None` where the value is no rule.
 pub fn rule_of(alloc: Global, value: &Value) -> Result<Option<Rule>, AllocError>
     ensures { IfOk result (λ o. o ≡ rule_kind.reads (view value.now)) }
@@ -83,6 +126,9 @@ pub fn rule_of(alloc: Global, value: &Value) -> Result<Option<Rule>, AllocError>
         return Ok(None);
     };
     let mut fields = Cursor::new(members);
+    let Some(media) = media_if_any(alloc, &mut fields)? else {
+        return Ok(None);
+    };
     let Some(origin) = origin_field(&mut fields) else {
         return Ok(None);
     };
@@ -103,6 +149,7 @@ pub fn rule_of(alloc: Global, value: &Value) -> Result<Option<Rule>, AllocError>
         selectors,
         style,
         sheet,
+        media: media_written(alloc, media),
     }))
 }
 
@@ -111,6 +158,7 @@ pub fn rule_value(alloc: Global, rule: &Rule) -> Result<Value, AllocError>
     ensures { IfOk result (λ v. view v ≡ rule_kind.spell rule.now) }
 {
     ObjectBuilder::new(alloc)
+        .with("media", media_if_any_value(alloc, &rule.media)?)?
         .with_value("origin", origin_value(alloc, rule.origin)?)?
         .with_value("selectorList", selectors_value(alloc, &rule.selectors)?)?
         .with_value("style", style_value(alloc, &rule.style)?)?

@@ -13,7 +13,7 @@ use Rattle.cdp_messages.specs.declared.dom_ask.DomAsk.TheVariants.{GetDocument, 
 use Rattle.cdp_messages.specs.declared.dom_ask.DomAsk.TheVariants.{QuerySelectorAll, GetAttributes, DescribeNode}
 use Rattle.cdp_messages.specs.declared.down.ReplyBody.{ReplyBody}
 use Rattle.cdp_messages.specs.declared.down.ReplyBody.TheVariants.{Nothing, Root, Node, NodeId, NodeIds, Attributes, ClassNames, SheetText}
-use Rattle.cdp_messages.specs.declared.down.ReplyBody.TheVariants.{Styles, Selectors, Rule, Matched, Search}
+use Rattle.cdp_messages.specs.declared.down.ReplyBody.TheVariants.{Styles, Selectors, Rule, Media, Matched, Search}
 use Rattle.cdp_messages.specs.DomAsks.{ask_name}
 use Rattle.cdp_messages.specs.Laws.{answers}
 use Rattle.client_views.specs.Views.{ShownSheet, View}
@@ -44,6 +44,7 @@ is_no_view c (SheetText text) other is = let is_told : false ≡ true = sym (oth
 is_no_view c (Styles styles) other is = refl
 is_no_view c (Selectors selectors) other is = refl
 is_no_view c (Rule rule) other is = refl
+is_no_view c (Media media) other is = refl
 is_no_view c (Matched matched) other is = refl
 
 plain : (c : DomAsk) (id : ℕ) (body : ReplyBody) → TellsNoView c → is_counted id ≡ true → CanSpell body → answers (ask_name c) body ≡ true

@@ -15,4 +15,6 @@ unopened_at o serial b = cond (o serial) [] (record { levels = Some 1; node = b 
 
 -- the openings of those of some nodes that are not opened, by one level each
 abbrev pub up_openings : (ℕ → Bool) → List Zipper → List Opening
-up_openings o zs = map (λ x. record { levels = Some 1; node = x }) (filter (λ (x : Branch PageRow). not (o x.row.serial)) (map (λ z. z.branch) zs))
+up_openings o zs =
+    map (λ x. record { levels = Some 1; node = x })
+    (filter (λ (x : Branch PageRow). not (o x.row.serial)) (map (λ z. z.branch) zs))

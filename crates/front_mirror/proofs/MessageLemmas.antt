@@ -54,6 +54,7 @@ body_effect method (body.SheetText text) e = refl
 body_effect method (body.Styles styles) e = refl
 body_effect method (body.Selectors selectors) e = refl
 body_effect method (body.Rule rule) e = refl
+body_effect method (body.Media media) e = refl
 body_effect method (body.Matched matched) e = refl
 
 pub effect_fits : (method : List ℕ) (d : Data) (b : ReplyBody) (x : Effect) → result_of method d ≡ Some b → x ≡ effect_of method b
@@ -131,6 +132,7 @@ untold id (body.SheetText text) other = refl
 untold id (body.Styles styles) other = refl
 untold id (body.Selectors selectors) other = refl
 untold id (body.Rule rule) other = refl
+untold id (body.Media media) other = refl
 untold id (body.Matched matched) other = absurd (other matched refl)
 
 -- What is read of a reply: the ask of its id waits and is of that method, which has this result.

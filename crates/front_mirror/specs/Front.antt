@@ -243,6 +243,7 @@ matched_told id (body.SheetText text) = []
 matched_told id (body.Styles styles) = []
 matched_told id (body.Selectors selectors) = []
 matched_told id (body.Rule rule) = []
+matched_told id (body.Media media) = []
 matched_told id (body.Matched matched) = record { ask = id; matched = matched } ∷ []
 
 -- the front with these matched styles more

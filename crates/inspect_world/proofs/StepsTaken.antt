@@ -112,6 +112,7 @@ quiet-effect method (body.SheetText text) plain e = absurd cc
 quiet-effect method (body.Styles styles) plain e = refl
 quiet-effect method (body.Selectors selectors) plain e = refl
 quiet-effect method (body.Rule rule) plain e = refl
+quiet-effect method (body.Media media) plain e = refl
 quiet-effect method (body.Matched matched) plain e = refl
 
 -- ---- the fold of frames

@@ -54,6 +54,7 @@ no-matched method id (body.SheetText text) never e = refl
 no-matched method id (body.Styles styles) never e = refl
 no-matched method id (body.Selectors selectors) never e = refl
 no-matched method id (body.Rule rule) never e = refl
+no-matched method id (body.Media media) never e = refl
 no-matched method id (body.Matched m) never e = absurd (never m e)
 
 no-styles : (method : List ℕ) (ms : List Move) → Never method → MayAnswerAll method ms → flat_map matched_after ms ≡ []
@@ -147,6 +148,7 @@ sheet-edit-never (style.SetStyleTexts edits) m e = absurd cc
 sheet-edit-never (style.SetRuleSelector sheet range selector) m e = absurd cc
 sheet-edit-never (style.SetStyleSheetText sheet text) m e = absurd cc
 sheet-edit-never (style.AddRule sheet rule_text location) m e = absurd cc
+sheet-edit-never (style.SetMediaText sheet range text) m e = absurd cc
 
 styles-command : (id : ℕ) (c : Command) (state : State) (ms : List Move) → ms ≡ (command_step id c state).moves
     → MayAnswerAll (method_name c) ms

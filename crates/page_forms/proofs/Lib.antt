@@ -1,4 +1,5 @@
 pub mod NodeTexts
+pub mod FlatTexts
 pub mod FieldTexts
 pub mod PageLemmas
 pub mod ActLemmas

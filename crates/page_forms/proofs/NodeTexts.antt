@@ -55,7 +55,7 @@ member_utf8 : (k : List ℕ) (ms : Members) → MembersHaveUtf8 ms → IfSome Ha
 member_utf8 k no_members u = tt
 member_utf8 k (member l e ms) u = found (slice_cmp nat_cmp k l) e (get_member k ms) u.1 (member_utf8 k ms u.2)
 
-get_utf8 : (k : List ℕ) (d : Data) → HasUtf8 d → IfSome HasUtf8 (get k d)
+pub get_utf8 : (k : List ℕ) (d : Data) → HasUtf8 d → IfSome HasUtf8 (get k d)
 get_utf8 k null u = tt
 get_utf8 k (boolean b) u = tt
 get_utf8 k (number n) u = tt
@@ -108,13 +108,13 @@ attributes_utf8 d u =
 
 -- ---- labels
 
-text_at-utf8 : (k : List ℕ) (d : Data) → HasUtf8 d → IfSome IsUtf8 (text_at k d)
+pub text_at-utf8 : (k : List ℕ) (d : Data) → HasUtf8 d → IfSome IsUtf8 (text_at k d)
 text_at-utf8 k d u = then_keeps HasUtf8 IsUtf8 as_str str_utf8 (get k d) (get_utf8 k d u)
 
 text_alone-utf8 : (k : List ℕ) (d : Data) → HasUtf8 d → IfSome IsUtf8 (text_alone k d)
 text_alone-utf8 k d u = when IsUtf8 (property_count d == 1) (text_at k d) (text_at-utf8 k d u)
 
-listed : (o : Option Data) → IfSome HasUtf8 o → IfSome PairsHaveUtf8 (option_map_or attributes_spelled o (Some []))
+pub listed : (o : Option Data) → IfSome HasUtf8 o → IfSome PairsHaveUtf8 (option_map_or attributes_spelled o (Some []))
 listed None u = tt
 listed (Some d) u = attributes_utf8 d u
 
@@ -127,7 +127,7 @@ element_utf8 d u =
     (when IsUtf8 (property_count d == 1 + times_of (codes "a") d + times_of (codes "c") d) (text_at (codes "e") d)
     (text_at-utf8 (codes "e") d u))
 
-either_utf8 : {A : Type 0} (Q : A → Type 0) (o p : Option A) → IfSome Q o → IfSome Q p → IfSome Q (first_of o p)
+pub either_utf8 : {A : Type 0} (Q : A → Type 0) (o p : Option A) → IfSome Q o → IfSome Q p → IfSome Q (first_of o p)
 either_utf8 Q None p u v = v
 either_utf8 Q (Some x) p u v = u
 

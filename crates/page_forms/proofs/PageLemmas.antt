@@ -1,8 +1,8 @@
 -- What holds of each page that is read: its first fault beside that of its nodes, and its texts.
-use Rattle.std.proofs.Common.{◌≡◌, List, [], ◌∷◌, Bool, true, false, not, ◌&&◌, codes, Option, Some, None, option_map, IsUtf8, refl, ap}
+use Rattle.std.proofs.Common.{◌≡◌, ℕ, List, [], ◌∷◌, Bool, true, false, not, ◌&&◌, codes, Option, Some, None, option_map, IsUtf8, refl, ap}
 use Rattle.std.proofs.Common.{subst, sym, ◌∙◌}
 use Rattle.std.proofs.lemmas.List.Elements.{All-nil, All-cons}
-use Rattle.serde_json.specs.Data.{Data, Items, no_items, item, no_members}
+use Rattle.serde_json.specs.Data.{Data, Items, no_items, item, Members}
 use Rattle.serde_json.specs.Find.{as_array}
 use Rattle.cdp_json.specs.Kinds.{read_items, and_first}
 use Rattle.cdp_json.specs.Rows.{maybe_member}
@@ -14,10 +14,11 @@ use Rattle.cdp_json.proofs.ReadTexts.{IfSome, map_keeps, then_keeps}
 use Rattle.cdp_json.proofs.Options.{and_then_some}
 use Rattle.node_tree.specs.Nodes.{Nodes}
 use Rattle.node_tree.specs.Labels.{Label}
-use Rattle.page_tree.specs.Loads.{nodes_in, are_low, are_few}
+use Rattle.page_tree.specs.Loads.{are_low, are_few, limit_faults}
 use Rattle.node_tree.specs.Keys.{first_true}
-use Rattle.page_tree.specs.Forms.{are_named}
+use Rattle.page_tree.specs.Forms.{are_named, CanLoad}
 use Rattle.page_tree.proofs.FormedLemmas.{can_load}
+use Rattle.page_tree.proofs.FlatLoads.{can_load_flat}
 use Rattle.page_tree.specs.declared.faults.LoadFault.{LoadFault}
 use Rattle.page_tree.specs.declared.faults.LoadFault.TheVariants.{TooDeep, TooMany, BadName}
 use Rattle.sheet_reader.specs.declared.book.Origin.{Origin}
@@ -27,10 +28,11 @@ use Rattle.page_forms.specs.Acts.{fields_in}
 use Rattle.media_rules.specs.declared.medium.Medium.{Medium}
 use Rattle.page_forms.specs.Mediums.{medium_at}
 use Rattle.page_forms.specs.Sheets.{origin_form, origin_word, all_origins, sheet_row, sheet_from, sheet_form, can_hold_sheets}
-use Rattle.page_forms.specs.Pages.{LoadedPage, page_row, sheets_at, page_with, page_in, first_page_fault, page_fault, CanLoadPage}
+use Rattle.page_forms.specs.Pages.{LoadedPage, page_row, nodes_at, sheets_at, page_with, page_in, first_page_fault, page_fault, CanLoadPage}
 use Rattle.page_forms.specs.Texts.{HaveTexts, SheetsHaveTexts, PageHasTexts, PagesHaveTexts}
 use Rattle.page_forms.proofs.FieldTexts.{fields_utf8, if_read}
 use Rattle.page_forms.proofs.NodeTexts.{array_utf8, nodes_utf8}
+use Rattle.page_forms.proofs.FlatTexts.{flat_utf8}
 
 -- ---- a page without a fault
 
@@ -53,14 +55,22 @@ clear true false named hold e = absurd cc
 clear true true named false e = absurd cc
 clear true true named true e = (e, refl)
 
+-- nodes in either form, without a fault, may be loaded
+can_load_at : (document flat : Option Data) (n : Nodes Label) → nodes_at document flat ≡ Some n → first_true (limit_faults n) ≡ None
+    → CanLoad n
+can_load_at (Some list) None n e none = can_load list n e none
+can_load_at None (Some rows) n e none = can_load_flat rows n e none
+can_load_at None None n e none = absurd cc
+can_load_at (Some list) (Some rows) n e none = absurd cc
+
 -- a page may hold what it spells
 pub can_load_page : (d : Data) (page : LoadedPage) → page_in d ≡ Some page → page_fault d ≡ None → CanLoadPage page
 can_load_page d page is none =
-    let p = and_then_some (λ f. page_with (nodes_in f.0) (medium_at f.1.0) (sheets_at f.1.1.0)) (fields_in page_row d) page is in
-    let q = parts (nodes_in p.0.0) (medium_at p.0.1.0) (sheets_at p.0.1.1.0) page p.2 in
+    let p = and_then_some (λ f. page_with (nodes_at f.0 f.1.0) (medium_at f.1.1.0) (sheets_at f.1.1.1.0)) (fields_in page_row d) page is in
+    let q = parts (nodes_at p.0.0 p.0.1.0) (medium_at p.0.1.1.0) (sheets_at p.0.1.1.1.0) page p.2 in
     let r = clear (are_low page.nodes) (are_few page.nodes) (are_named page.nodes) (can_hold_sheets page.sheets)
     (sym (ap first_page_fault is) ∙ none) in
-    record { nodes = can_load p.0.0 page.nodes q.0 r.0; sheets = r.1 }
+    record { nodes = can_load_at p.0.0 p.0.1.0 page.nodes q.0 r.0; sheets = r.1 }
 
 -- ---- texts
 
@@ -75,8 +85,8 @@ sheet_lawful : LawfulRow sheet_row
 sheet_lawful = and_need_lawful (codes "origin") origin_lawful (and_need_lawful (codes "text") text_lawful ends_lawful refl) refl
 
 page_lawful : LawfulRow page_row
-page_lawful = and_need_lawful (codes "document") anything_lawful
-    (and_may_lawful (codes "medium") anything_lawful (and_may_lawful (codes "sheets") anything_lawful ends_lawful refl) refl) refl
+page_lawful = and_may_lawful (codes "document") anything_lawful (and_may_lawful (codes "flat") anything_lawful
+    (and_may_lawful (codes "medium") anything_lawful (and_may_lawful (codes "sheets") anything_lawful ends_lawful refl) refl) refl) refl
 
 abbrev SheetHasText : SheetForm → Type 0
 SheetHasText sheet = IsUtf8 sheet.text
@@ -97,16 +107,23 @@ at_utf8 : (o : Option Data) → IfSome HasUtf8 o → IfSome SheetsHaveTexts (she
 at_utf8 None u = All-nil SheetHasText
 at_utf8 (Some d) u = then_keeps ItemsHaveUtf8 SheetsHaveTexts (read_items sheet_form.reads) sheets_utf8 (as_array d) (array_utf8 d u)
 
-member_utf8 : (o : Option Data) → MembersHaveUtf8 (maybe_member (codes "sheets") (option_map (λ d. d) o) no_members) → IfSome HasUtf8 o
-member_utf8 None u = tt
-member_utf8 (Some d) u = u.1
+-- the value of a field that may be absent
+member_utf8 : (name : List ℕ) (o : Option Data) (ms : Members) → MembersHaveUtf8 (maybe_member name (option_map (λ d. d) o) ms)
+    → IfSome HasUtf8 o
+member_utf8 name None ms u = tt
+member_utf8 name (Some d) ms u = u.1
 
--- of the members behind a medium, if there is one
-behind_utf8 : (m o : Option Data)
-    → MembersHaveUtf8 (maybe_member (codes "medium") (option_map (λ d. d) m) (maybe_member (codes "sheets") (option_map (λ d. d) o) no_members))
-    → MembersHaveUtf8 (maybe_member (codes "sheets") (option_map (λ d. d) o) no_members)
-behind_utf8 None o u = u
-behind_utf8 (Some d) o u = u.2
+-- the fields behind it
+behind_utf8 : (name : List ℕ) (o : Option Data) (ms : Members) → MembersHaveUtf8 (maybe_member name (option_map (λ d. d) o) ms)
+    → MembersHaveUtf8 ms
+behind_utf8 name None ms u = u
+behind_utf8 name (Some d) ms u = u.2
+
+nodes_at_utf8 : (document flat : Option Data) → IfSome HasUtf8 document → IfSome HasUtf8 flat → IfSome HaveTexts (nodes_at document flat)
+nodes_at_utf8 (Some list) None u v = nodes_utf8 list u
+nodes_at_utf8 None (Some rows) u v = flat_utf8 rows v
+nodes_at_utf8 None None u v = tt
+nodes_at_utf8 (Some list) (Some rows) u v = tt
 
 with_utf8 : (nodes : Option (Nodes Label)) (medium : Option Medium) (sheets : Option (List SheetForm)) → IfSome HaveTexts nodes
     → IfSome SheetsHaveTexts sheets → IfSome PageHasTexts (page_with nodes medium sheets)
@@ -117,10 +134,13 @@ with_utf8 (Some n) (Some m) (Some ss) un us = record { nodes = un; sheets = us }
 
 page_texts : (d : Data) → HasUtf8 d → IfSome PageHasTexts (page_in d)
 page_texts d u =
-    if_read page_row (fields_in page_row d) PageHasTexts (λ f. page_with (nodes_in f.0) (medium_at f.1.0) (sheets_at f.1.1.0))
+    if_read page_row (fields_in page_row d) PageHasTexts (λ f. page_with (nodes_at f.0 f.1.0) (medium_at f.1.1.0) (sheets_at f.1.1.1.0))
     (λ f is. let t = fields_utf8 page_row page_lawful d u f is in
-    with_utf8 (nodes_in f.0) (medium_at f.1.0) (sheets_at f.1.1.0) (nodes_utf8 f.0 t.1)
-    (at_utf8 f.1.1.0 (member_utf8 f.1.1.0 (behind_utf8 f.1.0 f.1.1.0 t.2))))
+    let rest = behind_utf8 (codes "document") f.0 _ t in
+    let last = behind_utf8 (codes "medium") f.1.1.0 _ (behind_utf8 (codes "flat") f.1.0 _ rest) in
+    with_utf8 (nodes_at f.0 f.1.0) (medium_at f.1.1.0) (sheets_at f.1.1.1.0)
+    (nodes_at_utf8 f.0 f.1.0 (member_utf8 (codes "document") f.0 _ t) (member_utf8 (codes "flat") f.1.0 _ rest))
+    (at_utf8 f.1.1.1.0 (member_utf8 (codes "sheets") f.1.1.1.0 _ last)))
 
 pub pages_have_texts : PagesHaveTexts
 pages_have_texts d page u is = subst (IfSome PageHasTexts) is (page_texts d u)

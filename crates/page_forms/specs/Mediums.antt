@@ -6,11 +6,7 @@ use Rattle.cdp_json.specs.Rows.{Row, ends, and_need, object_of}
 use Rattle.media_rules.specs.declared.medium.Medium.{Medium}
 use Rattle.media_rules.specs.declared.medium.MediumKind.{MediumKind}
 use Rattle.media_rules.specs.declared.medium.MediumKind.TheVariants.{Screen, Print}
-
--- the word for what a page is shown on
-abbrev pub medium_word : MediumKind → List ℕ
-medium_word Screen = codes "screen"
-medium_word Print = codes "print"
+use Rattle.media_rules.specs.Signs.{type_name}
 
 -- what a page may be shown on
 abbrev pub all_mediums : List MediumKind
@@ -18,7 +14,7 @@ all_mediums = Screen ∷ Print ∷ []
 
 -- TYPE: `screen` or `print`
 abbrev pub medium_type : Kind MediumKind
-medium_type = choice medium_word all_mediums
+medium_type = choice type_name all_mediums
 
 -- a width is less than this
 abbrev pub width_limit : ℕ

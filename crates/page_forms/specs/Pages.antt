@@ -1,14 +1,15 @@
--- A page that is loaded, as JSON spells it: `{"document":[NODE,..],"medium":MEDIUM,"sheets":[SHEET,..]}`, with nothing else; `medium` and
--- `sheets` may be absent.
+-- A page that is loaded, as JSON spells it: `{"document":[NODE,..],"medium":MEDIUM,"sheets":[SHEET,..]}`, or the same with `flat` in place
+-- of `document`, a list of rows, with nothing else; `medium` and `sheets` may be absent.
 use Rattle.std.specs.Prelude.{◌≡◌, List, [], ◌∷◌, codes, Bool, true, ◌&&◌, not, Option, None, Some, option_map, option_and_then, Result, Ok}
 use Rattle.std.specs.Prelude.{Err, ⊤}
 use Rattle.serde_json.specs.Data.{Data}
 use Rattle.cdp_json.specs.Kinds.{anything}
-use Rattle.cdp_json.specs.Rows.{Row, ends, and_need, and_may, object_of}
+use Rattle.cdp_json.specs.Rows.{Row, ends, and_may, object_of}
 use Rattle.node_tree.specs.Nodes.{Nodes, nodes_of}
 use Rattle.node_tree.specs.Labels.{Label}
 use Rattle.page_tree.specs.Forms.{CanLoad, are_named}
 use Rattle.page_tree.specs.Loads.{nodes_in, are_low, are_few}
+use Rattle.page_tree.specs.FlatRows.{flat_in}
 use Rattle.node_tree.specs.Keys.{first_true}
 use Rattle.page_tree.specs.declared.faults.LoadFault.{LoadFault}
 use Rattle.page_tree.specs.declared.faults.LoadFault.TheVariants.{BadForm, TooDeep, TooMany, BadName}
@@ -28,9 +29,17 @@ pub record LoadedPage : Type 0 where
 
 -- ---- what a value spells
 
--- the properties of a page: its list of nodes, its medium, and its list of sheets
-abbrev pub page_row : Row (Data × (Option Data × (Option Data × ⊤)))
-page_row = and_need (codes "document") anything (and_may (codes "medium") anything (and_may (codes "sheets") anything ends))
+-- the properties of a page: its list of nodes or its rows, its medium, and its list of sheets
+abbrev pub page_row : Row (Option Data × (Option Data × (Option Data × (Option Data × ⊤))))
+page_row = and_may (codes "document") anything
+    (and_may (codes "flat") anything (and_may (codes "medium") anything (and_may (codes "sheets") anything ends)))
+
+-- the nodes at `document` or at `flat`; one of the two is there, and not both
+abbrev pub nodes_at : Option Data → Option Data → Option (Nodes Label)
+nodes_at (Some list) None = nodes_in list
+nodes_at None (Some rows) = flat_in rows
+nodes_at None None = None
+nodes_at (Some list) (Some rows) = None
 
 -- the sheets at `sheets`; none where it is absent
 abbrev pub sheets_at : Option Data → Option (List SheetForm)
@@ -45,7 +54,8 @@ page_with nodes medium sheets =
 
 -- the page that a value spells; none where the value, a node, the medium or a sheet has not its form
 abbrev pub page_in : Data → Option LoadedPage
-page_in page = option_and_then (λ f. page_with (nodes_in f.0) (medium_at f.1.0) (sheets_at f.1.1.0)) ((object_of page_row).reads page)
+page_in page = option_and_then (λ f. page_with (nodes_at f.0 f.1.0) (medium_at f.1.1.0) (sheets_at f.1.1.1.0))
+    ((object_of page_row).reads page)
 
 -- ---- faults
 

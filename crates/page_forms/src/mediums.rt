@@ -5,7 +5,8 @@ ghost use Rattle.cdp_json.specs.Kinds.{named};
 ghost use Rattle.cdp_json.specs.Left.{left};
 ghost use Rattle.cdp_json.specs.Rows.{left_with, need};
 ghost use Rattle.page_forms.specs.Acts.{medium_act_in};
-ghost use Rattle.page_forms.specs.Mediums.{medium_word, all_mediums, medium_type, width_form, usual_medium, medium_in, medium_at};
+ghost use Rattle.media_rules.specs.Signs.{type_name};
+ghost use Rattle.page_forms.specs.Mediums.{all_mediums, medium_type, width_form, usual_medium, medium_in, medium_at};
 
 use crate::acts::{Act, does};
 use cdp_json::{Cursor, text_of};
@@ -17,7 +18,7 @@ const WIDTH_LIMIT: u64 = 1 << 31;
 
 // What a page is shown on, by its word.
 fn kind_in(word: &str) -> Option<MediumKind>
-    ensures { result ≡ named medium_word all_mediums word.now }
+    ensures { result ≡ named type_name all_mediums word.now }
 {
     match word {
         "screen" => Some(MediumKind::Screen),

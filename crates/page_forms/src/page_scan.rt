@@ -92,8 +92,8 @@ fn can_load(page: &PageForm) -> bool
 }
 
 /// Reads the page whose tokens come next, where it is spelled in its usual form and has no fault: the fields `e`, `a`, `c` of an
-/// element, `document` and `sheets` of a page, which tells no medium, `origin` and `text` of a sheet stand in this order, and no more than 60 levels of nodes
-/// are there. Any other tokens, which may spell a page all the same, are answered by an error.
+/// element, `document` and `sheets` of a page, which tells no medium, `origin` and `text` of a sheet stand in this order, and no
+/// more than 60 levels of nodes are there. Any other tokens, which may spell a page all the same, are answered by an error.
 pub fn scan_page(alloc: Global, reader: &mut Reader<'_>) -> Result<PageForm, ScanErr>
     ensures spelt { IfOk result (λ page. ReadsAs page_form reader.old (loaded_page page) reader.new) }
     ensures sound { IfOk result (λ page. first_page_fault (Some (loaded_page page)) ≡ None) }

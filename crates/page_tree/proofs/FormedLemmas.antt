@@ -42,7 +42,7 @@ listed_ascending : (o : Option (List Pair)) (ps : List Pair) → option_and_then
 listed_ascending None ps e = absurd (cc)
 listed_ascending (Some qs) ps e = is_ascending-in_order qs [] ps refl e
 
-attributes_ascending_at : (g : Option Data) (ps : List Pair) → option_map_or attributes_spelled g (Some []) ≡ Some ps
+pub attributes_ascending_at : (g : Option Data) (ps : List Pair) → option_map_or attributes_spelled g (Some []) ≡ Some ps
     → is_ascending ps ≡ true
 attributes_ascending_at None ps e = let same : [] ≡ ps = cc in sym (ap is_ascending same)
 attributes_ascending_at (Some d) ps e = listed_ascending (option_and_then pairs_of (as_array d)) ps e
@@ -185,7 +185,7 @@ mutual
 
 -- ---- a load without a fault
 
-all_clear : (a b c : Bool) → first_true {A = LoadFault} ((TooDeep, not a) ∷ (TooMany, not b) ∷ (BadName, not c) ∷ []) ≡ None
+pub all_clear : (a b c : Bool) → first_true {A = LoadFault} ((TooDeep, not a) ∷ (TooMany, not b) ∷ (BadName, not c) ∷ []) ≡ None
     → (a ≡ true) × (b ≡ true) × (c ≡ true)
 all_clear true true true e = (refl, refl, refl)
 all_clear true true false e = absurd (cc)

@@ -24,3 +24,7 @@ pub mod CountLemmas
 pub mod FaultLemmas
 pub mod SeatLemmas
 pub mod OrderLemmas
+pub mod FlatLemmas
+pub mod RowLemmas
+pub mod OutlineLemmas
+pub mod FlatLoads

@@ -10,3 +10,5 @@ pub mod Edits
 pub mod EditFaults
 pub mod EditLaws
 pub mod Ancestors
+pub mod Flat
+pub mod FlatRows

@@ -1,6 +1,6 @@
 ghost use Rattle.std.specs.Prelude.{◌≡◌, [], option_map, IfOk};
 ghost use Rattle.serde_json.specs.View.{view};
-ghost use Rattle.node_tree.specs.declared.Kind.TheVariants.{Doctype};
+ghost use Rattle.node_tree.specs.declared.Kind.TheVariants.{Element, Doctype};
 ghost use Rattle.page_tree.specs.Loads.{property_count, times_of, text_at, text_alone, attributes_at, element_name, element_label};
 ghost use Rattle.page_tree.specs.Loads.{labelled, label_spelled};
 
@@ -29,7 +29,7 @@ impl Model for NodeLabel {
     ghost view = { λ l. record { kind = l.kind; name = l.name; value = l.value; attributes = l.attributes } };
 }
 
-fn property_count(v: &Value) -> usize
+pub(crate) fn property_count(v: &Value) -> usize
     ensures { result ≡ property_count (view v.now) }
 {
     match v.as_object() {
@@ -38,13 +38,13 @@ fn property_count(v: &Value) -> usize
     }
 }
 
-fn times_of(v: &Value, key: &str) -> usize
+pub(crate) fn times_of(v: &Value, key: &str) -> usize
     ensures { result ≡ times_of key.now (view v.now) }
 {
     if v.get(key).is_some() { 1 } else { 0 }
 }
 
-fn text_at<'a>(v: &'a Value, key: &str) -> Option<&'a str>
+pub(crate) fn text_at<'a>(v: &'a Value, key: &str) -> Option<&'a str>
     ensures { option_map (λ s. s.now) result ≡ text_at key.now (view v.now) }
 {
     match v.get(key) {
@@ -71,13 +71,29 @@ fn element_name(v: &Value) -> Option<&str>
     text_at(v, "e")
 }
 
-fn attributes_at(alloc: Global, v: &Value) -> Result<Option<Attributes>, AllocError>
+pub(crate) fn attributes_at(alloc: Global, v: &Value) -> Result<Option<Attributes>, AllocError>
     ensures { IfOk result (λ attributes. attributes ≡ attributes_at (view v.now)) }
 {
     match v.get("a") {
         Some(list) => read_attributes(alloc, list),
         None => Ok(Some(Attributes::new(alloc))),
     }
+}
+
+/// The label of an element.
+pub(crate) fn element_of(
+    alloc: Global,
+    name: &str,
+    attributes: Attributes,
+) -> Result<NodeLabel, AllocError>
+    ensures { IfOk result (λ label. label ≡ labelled Element name.now [] attributes) }
+{
+    Ok(NodeLabel {
+        kind: Kind::Element,
+        name: Text::copied(alloc, name)?,
+        value: Text::empty(alloc),
+        attributes,
+    })
 }
 
 fn element_label(alloc: Global, v: &Value) -> Result<Option<NodeLabel>, AllocError>
@@ -89,16 +105,11 @@ fn element_label(alloc: Global, v: &Value) -> Result<Option<NodeLabel>, AllocErr
     let Some(attributes) = attributes_at(alloc, v)? else {
         return Ok(None);
     };
-    Ok(Some(NodeLabel {
-        kind: Kind::Element,
-        name: Text::copied(alloc, name)?,
-        value: Text::empty(alloc),
-        attributes,
-    }))
+    Ok(Some(element_of(alloc, name, attributes)?))
 }
 
 /// The label of a text or a comment.
-fn value_label(alloc: Global, kind: Kind, value: &str) -> Result<NodeLabel, AllocError>
+pub(crate) fn value_label(alloc: Global, kind: Kind, value: &str) -> Result<NodeLabel, AllocError>
     ensures { IfOk result (λ label. label ≡ labelled kind [] value.now []) }
 {
     Ok(NodeLabel {
@@ -109,7 +120,7 @@ fn value_label(alloc: Global, kind: Kind, value: &str) -> Result<NodeLabel, Allo
     })
 }
 
-fn doctype_label(alloc: Global, name: &str) -> Result<NodeLabel, AllocError>
+pub(crate) fn doctype_label(alloc: Global, name: &str) -> Result<NodeLabel, AllocError>
     ensures { IfOk result (λ label. label ≡ labelled Doctype name.now [] []) }
 {
     Ok(NodeLabel {

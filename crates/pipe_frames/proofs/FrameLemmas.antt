@@ -1,9 +1,12 @@
 -- The frames of bytes that are joined, and of texts that are framed.
-use Rattle.std.proofs.Common.{subst, ◌≡◌, ◌≢◌, ℕ, ◌+◌, ◌-◌, ◌<◌, List, [], ◌∷◌, ◌++◌, length, take, get_or, refl, sym, ◌∙◌, ap, inl, inr}
-use Rattle.std.proofs.Common.{append_assoc, append-nil, arith, length-append}
+use Rattle.std.proofs.Common.{subst, ◌≡◌, ◌≢◌, ℕ, ◌+◌, ◌-◌, ◌<◌, ◌≤◌, List, [], ◌∷◌, ◌++◌, length, take}
+use Rattle.std.proofs.Common.{drop, get_or, refl, sym, ◌∙◌, ap, inl, inr}
+use Rattle.std.proofs.Common.{append_assoc, append-nil, arith, length-append, length-take, length-drop, eqb-true, true, ◌==◌}
+use Rattle.std.proofs.Common.{Result, Ok, Err, OnOk, OnErr}
+use Rattle.std.proofs.Math.Seq.{take-add}
 use Rattle.std.proofs.lemmas.Bool.{cases_eq, ne_eqb}
 use Rattle.std.proofs.lemmas.List.Elements.{All-nil, All-cons, All-head, All-tail}
-use Rattle.std.proofs.lemmas.List.{take_more, take_at}
+use Rattle.std.proofs.lemmas.List.{take_more, take_at, take_all, take_rest, get_or-drop}
 use Rattle.std.specs.List.{All, flat_map}
 use Rattle.pipe_frames.specs.Frames.{Frames, IsText, framed, bytes_of, IsFrame, Splits, lengthened, put_front, frames_of, frames_from}
 use Rattle.pipe_frames.specs.Frames.{held_after, continued, with_frame, IsCut, bytes_in}
@@ -244,12 +247,69 @@ pub frame_refused : (old new : Frames) (piece : List ℕ) → IsFrame piece → 
 frame_refused old new piece frame same letters =
     (0, rw frame.is (grind (arith, length-append)), same ∙ sym (continued-nil old letters))
 
--- one byte more of a piece
-pub continued-more : (frames : Frames) (piece : List ℕ) (index default : ℕ) → index < length piece
-    → continued (continued frames (take index piece)) (get_or piece index default ∷ []) ≡ continued frames (take (index + 1) piece)
-continued-more frames piece index default within =
-    continued-append frames (take index piece) (get_or piece index default ∷ [])
-    ∙ ap (continued frames) (sym (take_more piece index default within))
+-- more bytes of a piece
+pub continued-more : (frames : Frames) (piece : List ℕ) (start more : ℕ)
+    → continued (continued frames (take start piece)) (take more (drop start piece)) ≡ continued frames (take (start + more) piece)
+continued-more frames piece start more =
+    continued-append frames (take start piece) (take more (drop start piece))
+    ∙ ap (continued frames) (sym (take-add start more piece))
+
+-- a zero byte more of a piece
+pub continued-end : (frames : Frames) (piece : List ℕ) (start : ℕ) → start < length piece → get_or piece start 0 ≡ 0
+    → continued (continued frames (take start piece)) (0 ∷ []) ≡ continued frames (take (start + 1) piece)
+continued-end frames piece start within zero =
+    continued-append frames (take start piece) (0 ∷ [])
+    ∙ ap (λ byte. continued frames (take start piece ++ byte ∷ [])) (sym zero)
+    ∙ ap (continued frames) (sym (take_more piece start 0 within))
+
+-- a splitter that took a text of a piece
+pub took_text : (old now mid : Frames) (piece : List ℕ) (start len : ℕ) → now ≡ continued old (take start piece)
+    → mid ≡ continued now (take (start + len - start) (drop start piece)) → mid ≡ continued old (take (start + len) piece)
+took_text old now mid piece start len before text =
+    text ∙ ap (λ n. continued now (take n (drop start piece))) (omega arith)
+    ∙ ap (λ frames. continued frames (take len (drop start piece))) before
+    ∙ continued-more old piece start len
+
+-- the first zero byte of what is left of a piece, by its place in the piece
+pub zero_in : (piece : List ℕ) (start len : ℕ) → len < length (take (length piece - start) (drop start piece))
+    → (get_or (take (length piece - start) (drop start piece)) len 0 == 0) ≡ true
+    → (start + len < length piece) × (get_or piece (start + len) 0 ≡ 0)
+zero_in piece start len within is_zero =
+    let inside : start + len < length piece
+    = omega (arith, length-take (length piece - start) (drop start piece), length-drop start piece, within) in (
+      inside,
+      sym (get_or-drop start piece len 0) ∙ ap (λ bytes. get_or bytes len 0) (sym (take_rest piece start))
+          ∙ eqb-true (get_or (take (length piece - start) (drop start piece)) len 0) 0 is_zero,
+    )
+
+-- a splitter that took more bytes of a piece, and then all of them
+pub took_all : {T E : Type 0} (result : Result T E) (old now new : Frames) (piece : List ℕ) (start : ℕ) → start ≤ length piece
+    → now ≡ continued old (take start piece)
+    → OnOk result (new ≡ continued now (take (length piece - start) (drop start piece))) → OnOk result (new ≡ continued old piece)
+took_all (Ok value) old now new piece start within before after =
+    after ∙ ap (λ frames. continued frames (take (length piece - start) (drop start piece))) before
+    ∙ continued-more old piece start (length piece - start)
+    ∙ ap (continued old) (take_all (start + (length piece - start)) piece (omega (arith, within)))
+took_all (Err error) old now new piece start within before after = after
+
+-- a splitter that took a text of a piece, and was refused memory for the zero byte behind it
+pub took_part : {T E : Type 0} (result : Result T E) (old now mid new : Frames) (piece : List ℕ) (start len : ℕ)
+    → start + len < length piece → now ≡ continued old (take start piece)
+    → mid ≡ continued now (take (start + len - start) (drop start piece)) → new ≡ mid
+    → OnErr result ((n : ℕ) × (n < length piece) × (new ≡ continued old (take n piece)))
+took_part (Ok value) old now mid new piece start len within before text same = tt
+took_part (Err error) old now mid new piece start len within before text same =
+    (start + len, within, same ∙ took_text old now mid piece start len before text)
+
+-- a splitter that took a text and the zero byte behind it
+pub took_frame : (old now mid new : Frames) (piece : List ℕ) (start len : ℕ) → start + len < length piece
+    → get_or piece (start + len) 0 ≡ 0 → now ≡ continued old (take start piece)
+    → mid ≡ continued now (take (start + len - start) (drop start piece)) → new ≡ continued mid (0 ∷ [])
+    → new ≡ continued old (take (start + (len + 1)) piece)
+took_frame old now mid new piece start len within zero before text after =
+    after ∙ ap (λ frames. continued frames (0 ∷ [])) (took_text old now mid piece start len before text)
+    ∙ continued-end old piece (start + len) within zero
+    ∙ ap (λ n. continued old (take n piece)) (omega arith)
 
 pub none-in : (frames : List (List ℕ)) → length frames ≡ 0 → bytes_in frames ≡ 0
 none-in [] none = refl

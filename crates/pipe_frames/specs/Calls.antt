@@ -1,5 +1,6 @@
 -- What the kinds of the outside that are kept in memory hold.
-use Rattle.std.specs.Prelude.{◌≡◌, ◌≤◌, ◌==◌, ◌-◌, ℕ, Bool, List, [], length, take, set, Contains, if◌then◌else◌, Result, Ok, Err, true, false}
+use Rattle.std.specs.Prelude.{◌≡◌, ◌≤◌, ◌==◌, ◌-◌, ℕ, Bool, List, [], length, take, set, Contains, if◌then◌else◌, Result, Ok, Err, true}
+use Rattle.std.specs.Prelude.{false}
 use Rattle.pipe_frames.specs.declared.outside.OutErr.{OutErr}
 use Rattle.pipe_frames.specs.declared.outside.OutErr.TheVariants.{Failed, Memory}
 use Rattle.pipe_frames.specs.Fault.{next_count}

@@ -1,7 +1,9 @@
-ghost use Rattle.std.specs.Prelude.{◌≡◌, ◌≢◌, ◌<◌, ◌^◌, ◌↔◌, ℕ, List, [], ◌∷◌, ◌++◌, length, take, true, IsNone, IfSome, IfNone, OnOk, OnErr};
+ghost use Rattle.std.specs.Prelude.{◌≡◌, ◌≢◌, ◌<◌, ◌^◌, ◌↔◌, ℕ, List, [], ◌∷◌, ◌++◌, length, take, true, IsNone, IfSome, IfNone};
+ghost use Rattle.std.specs.Prelude.{OnOk, OnErr};
 ghost use Rattle.node_tree.specs.Numbers.{number_limit};
 ghost use Rattle.pipe_frames.specs.Frames.{Frames, IsText, IsFrame, Splits, frames_of, bytes_of, continued, framed, with_frame};
 
+use memchr::memchr;
 use std::alloc::{AllocError, Global};
 use std::collections::VecDeque;
 use std::marker::Model;
@@ -46,10 +48,13 @@ impl Splitter {
     {
         // For the proof alone, which learns here what each splitter is.
         let _ = &self.rest;
-        for byte in piece {
-            self.take_byte(*byte)?;
+        let mut start = 0;
+        while let Some(len) = memchr(0, &piece[start..]) {
+            self.add_text(&piece[start..start + len])?;
+            self.end_frame()?;
+            start += len + 1;
         }
-        Ok(())
+        self.add_text(&piece[start..])
     }
 
     /// The same of a piece that is handed over: where it is one whole frame, and nothing is held before it, it is kept as it is
@@ -79,17 +84,6 @@ impl Splitter {
         Ok(())
     }
 
-    fn take_byte(&mut self, byte: u8) -> Result<(), AllocError>
-        ensures ok { OnOk result (self.new ≡ continued self.old (byte ∷ [])) }
-        ensures err { OnErr result (self.new ≡ self.old) }
-    {
-        if byte == 0 {
-            self.end_frame()
-        } else {
-            self.add_byte(byte)
-        }
-    }
-
     // A zero byte ends the frame that the rest has begun.
     fn end_frame(&mut self) -> Result<(), AllocError>
         ensures ok { OnOk result (self.new ≡ continued self.old (0 ∷ [])) }
@@ -103,12 +97,18 @@ impl Splitter {
         Ok(())
     }
 
-    fn add_byte(&mut self, byte: u8) -> Result<(), AllocError>
-        requires { byte ≢ 0 }
-        ensures ok { OnOk result (self.new ≡ continued self.old (byte ∷ [])) }
+    // Bytes that are not zero lengthen the rest; only where there are some is memory asked for.
+    fn add_text(&mut self, text: &[u8]) -> Result<(), AllocError>
+        requires { IsText text.now }
+        ensures ok { OnOk result (self.new ≡ continued self.old text.now) }
         ensures err { OnErr result (self.new ≡ self.old) }
+        ensures some { OnErr result (0 < length text.now) }
     {
-        self.rest.push(byte)?;
+        let rest = &mut self.rest;
+        if text.is_empty() {
+            return Ok(());
+        }
+        rest.extend_from_slice(text)?;
         Ok(())
     }
 

@@ -5,7 +5,8 @@ ghost use Rattle.std.specs.Str.{bytes_eq};
 ghost use Rattle.node_tree.specs.Numbers.{memory_limit};
 ghost use Rattle.page_tree.specs.Zippers.{Zipper, next_of, earlier, later};
 ghost use Rattle.select_match.specs.Subjects.{KnowsPlaces};
-ghost use Rattle.select_match.specs.Families.{named_in, tally_count, one_of, Counts, Faces, FacesNext, LineFaces, SiblingsFace, SiblingsFaceNext};
+ghost use Rattle.select_match.specs.Families.{named_in, tally_count, one_of, Counts, Faces, FacesNext, LineFaces, SiblingsFace};
+ghost use Rattle.select_match.specs.Families.{SiblingsFaceNext};
 
 use crate::elements::is_element;
 use crate::places::{ElementPlaces, KnownPlaces};

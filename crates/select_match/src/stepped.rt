@@ -1,6 +1,7 @@
 //! The elements below a node that the last steps of some selectors match, in document order. Each node is tried once on each step.
 
-ghost use Rattle.std.specs.Prelude.{◌≡◌, ◌++◌, [], map, option_map, find, filter, replicate, reverse, length, ◌<◌, slice_get, Some, IfOk, OnOk};
+ghost use Rattle.std.specs.Prelude.{◌≡◌, ◌++◌, [], map, option_map, find, filter, replicate, reverse, length, ◌<◌, slice_get, Some};
+ghost use Rattle.std.specs.Prelude.{IfOk, OnOk};
 ghost use Rattle.page_tree.specs.Zippers.{below, serial_of, earlier};
 ghost use Rattle.selectors.specs.Forms.{compound_seen};
 ghost use Rattle.select_match.specs.declared.steps.Around.{Around};

@@ -5,7 +5,8 @@ ghost use Rattle.selectors.specs.Forms.{compound_seen, selector_seen};
 ghost use Rattle.selectors.specs.Lists.{list_seen};
 ghost use Rattle.select_match.specs.Matches.{compound_holds};
 ghost use Rattle.select_match.specs.Subjects.{KnowsPlaces};
-ghost use Rattle.select_match.specs.Steps.{step_seen, steps_of_chain, steps_of_selector, steps_of, is_stepped, all_stepped, chains_in, leads, any_ends, around_of, beside_of, inside_of};
+ghost use Rattle.select_match.specs.Steps.{step_seen, steps_of_chain, steps_of_selector, steps_of, is_stepped, all_stepped, chains_in};
+ghost use Rattle.select_match.specs.Steps.{leads, any_ends, around_of, beside_of, inside_of};
 
 use crate::elements::is_element;
 use crate::families::Count;
@@ -118,8 +119,10 @@ pub fn visit(
     requires around { around.now ≡ map (around_of node.now) (chains_in [] (map step_seen steps.now)) }
     requires places { KnowsPlaces places.now node.now }
     ensures found { IfOk result (λ found. found ≡ any_ends [] (map step_seen steps.now) node.now) }
-    ensures beside { OnOk result (beside.new.items ≡ beside.old.items ++ map (beside_of node.now) (chains_in [] (map step_seen steps.now))) }
-    ensures inside { OnOk result (inside.new.items ≡ inside.old.items ++ map (inside_of node.now) (chains_in [] (map step_seen steps.now))) }
+    ensures beside { OnOk result (beside.new.items
+        ≡ beside.old.items ++ map (beside_of node.now) (chains_in [] (map step_seen steps.now))) }
+    ensures inside { OnOk result (inside.new.items
+        ≡ inside.old.items ++ map (inside_of node.now) (chains_in [] (map step_seen steps.now))) }
 {
     let element = is_element(node);
     let mut left = None;
@@ -137,7 +140,8 @@ pub fn visit(
 }
 
 pub fn add_chain<'a>(compounds: &'a [Compound], steps: &mut Vec<Step<'a>>) -> Result<(), AllocError>
-    ensures { OnOk result (map step_seen steps.new.items ≡ map step_seen steps.old.items ++ steps_of_chain (map compound_seen compounds.now)) }
+    ensures { OnOk result (map step_seen steps.new.items
+        ≡ map step_seen steps.old.items ++ steps_of_chain (map compound_seen compounds.now)) }
 {
     for i in 0..compounds.len() {
         steps.push(Step {

@@ -10,3 +10,4 @@ pub mod GrammarAgain
 pub mod PartTakes
 pub mod GrammarTakes
 pub mod RangeForms
+pub mod MoveForms

@@ -8,3 +8,4 @@ pub mod Weight
 pub mod NthGrammar
 pub mod Grammar
 pub mod Ranges
+pub mod Moves

@@ -26,7 +26,8 @@ mod words;
 pub use laws::{grammar_law, nth_law, usable_law};
 pub use read::{read_list, read_selectors};
 pub use selector::{
-    AttrOp, Compound, Joint, NthKind, SelErr, Selector, SelectorList, Simple, Test,
+    AttrOp, Compound, Joint, NthKind, SelErr, Selector, SelectorList, Simple, Test, move_place,
+    move_range,
 };
 pub use values::{lower_of, value_of};
 pub use weight::{Spec, specificity};

@@ -2,6 +2,7 @@
 
 ghost use Rattle.std.specs.Prelude.{◌≡◌};
 ghost use Rattle.selectors.specs.Lists.{moved_range, CanMove};
+ghost use Rattle.selectors.specs.Moves.{cut, moved_place, placed_range, CanPlace, CanPlaceRange};
 
 use css_tokens::Range;
 use std::alloc::AllocError;
@@ -130,6 +131,7 @@ impl SelectorList {
     ghost use Rattle.std.specs.Prelude.{◌≡◌, ◌<◌, All, length, map, Some, slice_get};
     ghost use Rattle.selectors.specs.Forms.{selector_seen};
     ghost use Rattle.selectors.specs.Lists.{list_seen, moved_selector, CanMove};
+    ghost use Rattle.selectors.specs.Moves.{cut, moved_place, placed_selector, placed_range, CanPlace, CanPlaceRange};
 
     /// How many selectors the list has.
     pub fn len(&self) -> usize
@@ -157,6 +159,40 @@ impl SelectorList {
             selector.range = moved(selector.range, from, to);
         }
         SelectorList { list }
+    }
+
+    /// Moves the ends of all ranges as the places of a text are moved of which the bytes from `start` up to `end` make way for
+    /// `size` others. Takes no memory.
+    pub fn move_behind(&mut self, start: usize, end: usize, size: usize)
+        requires { All (λ s. CanPlaceRange (cut start end size) s.range) (list_seen self.old) }
+        ensures { list_seen self.new ≡ map (placed_selector (moved_place (cut start end size))) (list_seen self.old) }
+    {
+        for selector in self.list.iter_mut() {
+            selector.range = move_range(selector.range, start, end, size);
+        }
+    }
+}
+
+/// The place where a place comes to lie, where the bytes from `start` up to `end` make way for `size` others.
+pub fn move_place(place: usize, start: usize, end: usize, size: usize) -> usize
+    requires { CanPlace (cut start end size) place }
+    ensures { result ≡ moved_place (cut start end size) place }
+{
+    if place <= start {
+        place
+    } else {
+        place - end + start + size
+    }
+}
+
+/// A range with both of its ends moved so.
+pub fn move_range(range: Range, start: usize, end: usize, size: usize) -> Range
+    requires { CanPlaceRange (cut start end size) range }
+    ensures { result ≡ placed_range (moved_place (cut start end size)) range }
+{
+    Range {
+        start: move_place(range.start, start, end, size),
+        end: move_place(range.end, start, end, size),
     }
 }
 

@@ -70,7 +70,8 @@ pub fn declaration_law()
 pub fn place_law()
     ensures places { (text : List ℕ) (place : ℕ) → Contains (sheet_of text).places place
         → (place ≡ 0) ⊎ IsBetweenParts text (parts (level_of None) (pieces text)) place }
-    ensures each { (text : List ℕ) (place : ℕ) → IsBetweenParts text (parts (level_of None) (pieces text)) place → Contains (sheet_of text).places place }
+    ensures each { (text : List ℕ) (place : ℕ) → IsBetweenParts text (parts (level_of None) (pieces text)) place
+        → Contains (sheet_of text).places place }
     ensures ascend { (text : List ℕ) → (places : List ℕ) × ((sheet_of text).places ≡ 0 ∷ places) × AscendFrom 0 places }
     ensures closed_rule { (text : List ℕ) (prelude inside : List Token) (brace close : Token)
         → Contains (parts (level_of None) (pieces text)) (qualified prelude (block brace inside (Some close)))

@@ -1,7 +1,7 @@
 -- A media rule is judged once, with what is said of the one around it.
-use Rattle.std.proofs.Common.{◌≡◌, ◌⊎◌, inl, inr, ℕ, zero, suc, ◌+◌, ◌<◌, ◌≤◌, Bool, true, false, cond, ltb, ◌&&◌, List, [], ◌∷◌, ◌++◌, length, All}
+use Rattle.std.proofs.Common.{◌≡◌, ℕ, zero, suc, ◌+◌, ◌<◌, ◌≤◌, Bool, true, false, ltb, ◌&&◌, List, [], ◌∷◌, ◌++◌, length, All}
 use Rattle.std.proofs.Common.{Option, Some, None, refl, sym, ap, subst, ◌∙◌, append_assoc, append-nil, length-append, arith}
-use Rattle.std.specs.Prelude.{slice_get, option_to_list, option_map}
+use Rattle.std.specs.Prelude.{slice_get, option_to_list}
 use Rattle.std.proofs.lemmas.List.Elements.{All-nil, All-cons, All-head, All-tail, All-append}
 use Rattle.css_tokens.specs.declared.token.Token.{Token}
 use Rattle.css_tokens.specs.declared.token.Range.{Range}
@@ -13,12 +13,11 @@ use borrow.Author.Tests.{ltb-true, ltb-false}
 use Rattle.css_tokens.specs.Pieces.{pieces}
 use Rattle.selectors.proofs.Choices.{none_some, some_is, bind_some}
 use Rattle.sheet_reader.specs.declared.sheet.MediaRule.{MediaRule}
-use Rattle.sheet_reader.specs.declared.sheet.Sheet.{Sheet}
 use Rattle.sheet_reader.specs.declared.parts.Level.TheVariants.{Top}
 use Rattle.sheet_reader.specs.Forms.{range, RuleForm}
 use Rattle.sheet_reader.specs.Parts.{text_end, semicolon, block, PartForm, passed, at_rule, qualified, parts}
 use Rattle.sheet_reader.specs.Declarations.{declarations}
-use Rattle.sheet_reader.specs.Layout.{media_form, media_rule, media_in, Laid, laid, laid_out, AreLaid, none_laid, part_laid, media_laid}
+use Rattle.sheet_reader.specs.Layout.{media_rule, media_in, Laid, laid, laid_out, AreLaid, none_laid, part_laid, media_laid}
 use Rattle.sheet_reader.specs.Sheets.{body_end, style_rule, rule_of, rules_in, sheet_of}
 use Rattle.sheet_reader.proofs.LayoutForms.{laid_spelled}
 use Rattle.sheet_reader.proofs.FrameForms.{media_append, media_cons}

@@ -1,13 +1,12 @@
 -- Where nested pieces behind a `{` are exchanged for others, component values end where they did.
-use Rattle.std.proofs.Common.{◌≡◌, ℕ, zero, suc, ◌+◌, ◌≤◌, Bool, true, false, ◌&&◌, List, [], ◌∷◌, ◌++◌, length, Option, Some, None}
-use Rattle.std.proofs.Common.{refl, sym, ap, subst, ◌∙◌, append_assoc, length-append, arith}
+use Rattle.std.proofs.Common.{◌≡◌, ℕ, suc, ◌+◌, ◌≤◌, Bool, true, false, ◌&&◌, List, [], ◌∷◌, ◌++◌, length, Option}
+use Rattle.std.proofs.Common.{refl, ap, ◌∙◌, append_assoc, length-append, arith}
 use Rattle.css_tokens.specs.declared.token.Token.{Token}
-use Rattle.css_tokens.specs.declared.token.TokenKind.{TokenKind}
 use Rattle.css_tokens.specs.declared.token.TokenKind.TheVariants as tokens
 use Rattle.sheet_reader.specs.declared.brackets.Bracket.{Bracket}
 use Rattle.sheet_reader.specs.declared.brackets.Bracket.TheVariants.{Curly}
 use Rattle.sheet_reader.specs.declared.brackets.Stop.{Stop}
-use Rattle.sheet_reader.specs.Brackets.{opened_by, closed_by, open_by, open_after, is_none_open, stops_at, until_in, until}
+use Rattle.sheet_reader.specs.Brackets.{closed_by, open_by, open_after, is_none_open, stops_at, until_in, until}
 use Rattle.sheet_reader.specs.Grammar.{AreNested, none_nested, plain_and, nested_and}
 use Rattle.sheet_reader.proofs.BracketLemmas.{stop_here, go_on}
 use Rattle.sheet_reader.proofs.ValueForms.{closes_one}
@@ -15,7 +14,7 @@ use Rattle.sheet_reader.proofs.NestingForms.{plain_stays}
 use Rattle.sheet_reader.proofs.OpenForms.{opens, opens_append, passes}
 
 -- inside a bracket nested pieces are passed, and leave what is open as it was
-nested_on : (stop : Stop) (front rest : List Token) (inner : Bracket) (bs : List Bracket) → AreNested front
+pub nested_on : (stop : Stop) (front rest : List Token) (inner : Bracket) (bs : List Bracket) → AreNested front
     → until_in stop (inner ∷ bs) (front ++ rest) ≡ length front + until_in stop (inner ∷ bs) rest
 nested_on stop _ rest inner bs none_nested = omega arith
 nested_on stop _ rest inner bs (plain_and t ts a b more) =
@@ -48,14 +47,14 @@ reach_by stop bs t ys zs n false e more fits =
     omega (arith, other, m)
 
 -- whether pieces are passed does not turn on what follows them
-reaches : (stop : Stop) (xs ys zs : List Token) (bs : List Bracket) → length xs ≤ until_in stop bs (xs ++ ys)
+pub reaches : (stop : Stop) (xs ys zs : List Token) (bs : List Bracket) → length xs ≤ until_in stop bs (xs ++ ys)
     → length xs ≤ until_in stop bs (xs ++ zs)
 reaches stop [] ys zs bs fits = omega arith
 reaches stop (t ∷ ts) ys zs bs fits =
     reach_by stop bs t (ts ++ ys) (ts ++ zs) (length ts) (is_none_open bs && stops_at stop t.kind) refl
     (reaches stop ts ys zs (open_after bs t.kind)) fits
 
-opens_one : (xs : List Token) (first : Token) (bs : List Bracket) → first.kind ≡ tokens.OpenCurly
+pub opens_one : (xs : List Token) (first : Token) (bs : List Bracket) → first.kind ≡ tokens.OpenCurly
     → opens bs (xs ++ first ∷ []) ≡ Curly ∷ opens bs xs
 unfolding opens
 opens_one xs first bs is = opens_append xs (first ∷ []) bs ∙ ap (open_after (opens bs xs)) is

@@ -1,5 +1,5 @@
 -- A sheet that is being read says in the end what it says before and after each part.
-use Rattle.std.proofs.Common.{◌≡◌, ℕ, zero, suc, ◌+◌, ◌<◌, ◌≤◌, Bool, true, false, cond, List, [], ◌∷◌, ◌++◌, length, drop, All}
+use Rattle.std.proofs.Common.{◌≡◌, ℕ, suc, ◌+◌, ◌<◌, Bool, true, false, cond, List, [], ◌∷◌, ◌++◌, length, drop, All}
 use Rattle.std.proofs.Common.{Option, Some, None, get_or, refl, sym, ap, subst, ◌∙◌, append_assoc, append-nil, length-append, length-drop, arith}
 use Rattle.std.specs.Prelude.{option_to_list, option_map}
 use Rattle.std.proofs.lemmas.List.Elements.{All-cons, All-head, All-tail, All-drop}
@@ -8,16 +8,15 @@ use Rattle.css_tokens.specs.Marks.{IsPieceOf}
 use Rattle.css_tokens.specs.Pieces.{pieces}
 use Rattle.selectors.proofs.Choices.{none_some, some_is}
 use Rattle.sheet_reader.specs.declared.parts.Level.{Level}
-use Rattle.sheet_reader.specs.declared.parts.Level.TheVariants.{Top, Inner}
+use Rattle.sheet_reader.specs.declared.parts.Level.TheVariants.{Top}
 use Rattle.sheet_reader.specs.declared.sheet.Sheet.{Sheet}
 use Rattle.sheet_reader.specs.declared.sheet.MediaRule.{MediaRule}
-use Rattle.sheet_reader.specs.Forms.{RuleForm}
 use Rattle.sheet_reader.specs.Parts.{EndingForm, text_end, semicolon, block, PartForm, passed, at_rule, qualified, part_at, part_pieces, parts}
 use Rattle.sheet_reader.specs.Parts.{parts_after, ending_pieces}
 use Rattle.sheet_reader.specs.Layout.{MediaForm, names_media, media_by, media_form, media_rule, media_of, media_in, Laid, laid, level_of}
 use Rattle.sheet_reader.specs.Layout.{laid_behind, laid_to, laid_out}
 use Rattle.sheet_reader.specs.Sheets.{rule_of, place_of, rules_in, places_in, sheet_of}
-use Rattle.sheet_reader.specs.Frames.{FrameForm, frame, top_place, with_part, with_media, opened, laid_left, places_at, places_left, read_on}
+use Rattle.sheet_reader.specs.Frames.{FrameForm, frame, top_place, with_part, with_media, opened, laid_left, places_left, read_on}
 use Rattle.sheet_reader.specs.Frames.{left_size, AreLeftOf, empty_sheet}
 use Rattle.sheet_reader.proofs.PartLemmas.{part_front, part_some, parts_step, front_fits, front_all, all_left, all_right, block_inside}
 use Rattle.sheet_reader.proofs.LayoutForms.{media_short, block_laid, rest_of, laid_step}

@@ -1,17 +1,15 @@
 -- Parts that are laid out: the depth is deep enough, one part more, and the relation both ways.
 use Rattle.std.proofs.Common.{◌≡◌, ℕ, zero, suc, ◌+◌, ◌<◌, ◌≤◌, Bool, true, false, cond, List, [], ◌∷◌, ◌++◌, length, drop}
-use Rattle.std.proofs.Common.{Option, Some, None, refl, sym, ap, subst, ◌∙◌, append_assoc, length-append, length-drop, arith}
+use Rattle.std.proofs.Common.{Option, Some, None, refl, sym, ap, subst, ◌∙◌, length-append, length-drop, arith}
 use Rattle.std.specs.Prelude.{option_to_list}
 use Rattle.css_tokens.specs.declared.token.Token.{Token}
-use Rattle.css_tokens.specs.Pieces.{pieces}
 use Rattle.selectors.proofs.Choices.{none_some, some_is}
 use Rattle.sheet_reader.specs.declared.parts.Level.{Level}
-use Rattle.sheet_reader.specs.declared.parts.Level.TheVariants.{Top, Inner}
-use Rattle.sheet_reader.specs.declared.sheet.MediaRule.{MediaRule}
+use Rattle.sheet_reader.specs.declared.parts.Level.TheVariants.{Inner}
 use Rattle.sheet_reader.specs.Parts.{EndingForm, text_end, semicolon, block, PartForm, passed, at_rule, qualified, part_at, part_pieces, parts}
 use Rattle.sheet_reader.specs.Parts.{parts_after}
 use Rattle.sheet_reader.specs.Grammar.{AreParts}
-use Rattle.sheet_reader.specs.Layout.{names_media, MediaForm, media_by, media_form, media_of, media_in, Laid, laid, level_of, laid_behind}
+use Rattle.sheet_reader.specs.Layout.{names_media, MediaForm, media_by, media_form, media_in, Laid, laid, level_of, laid_behind}
 use Rattle.sheet_reader.specs.Layout.{laid_with, laid_to, laid_out, AreLaid, none_laid, part_laid, media_laid}
 use Rattle.sheet_reader.proofs.PartLemmas.{part_front, part_some, parts_step, front_fits}
 use Rattle.sheet_reader.proofs.GrammarForms.{parts_spelled, parts_only}

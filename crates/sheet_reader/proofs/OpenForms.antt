@@ -1,6 +1,6 @@
 -- In a block that is closed no block is left open.
-use Rattle.std.proofs.Common.{◌≡◌, ◌⊎◌, inl, inr, ℕ, zero, suc, ◌+◌, ◌≤◌, Bool, true, false, cond, ◌&&◌, List, [], ◌∷◌, ◌++◌, length}
-use Rattle.std.proofs.Common.{Option, Some, None, refl, sym, ap, subst, ◌∙◌, append_assoc, append-nil, length-append, arith}
+use Rattle.std.proofs.Common.{◌≡◌, ◌⊎◌, inl, inr, ℕ, suc, ◌+◌, ◌≤◌, Bool, true, false, cond, ◌&&◌, List, [], ◌∷◌, ◌++◌, length}
+use Rattle.std.proofs.Common.{Option, Some, None, refl, sym, ap, ◌∙◌, append_assoc, append-nil, length-append, arith}
 use Rattle.css_tokens.specs.declared.token.Token.{Token}
 use Rattle.css_tokens.specs.declared.token.TokenKind.{TokenKind}
 use Rattle.css_tokens.specs.declared.token.TokenKind.TheVariants as tokens
@@ -9,11 +9,10 @@ use Rattle.sheet_reader.specs.declared.brackets.Bracket.TheVariants.{Round, Squa
 use Rattle.sheet_reader.specs.declared.brackets.Stop.{Stop}
 use Rattle.sheet_reader.specs.declared.brackets.Stop.TheVariants as stops
 use Rattle.sheet_reader.specs.declared.parts.Level.{Level}
-use Rattle.sheet_reader.specs.declared.parts.Level.TheVariants.{Inner}
 use Rattle.sheet_reader.specs.Brackets.{opened_by, closed_by, is_same, open_by, open_after, is_none_open, stops_at, until_in, until}
-use Rattle.sheet_reader.specs.Parts.{EndingForm, text_end, semicolon, block, PartForm, passed, at_rule, qualified, is_passed, ending_pieces}
+use Rattle.sheet_reader.specs.Parts.{EndingForm, block, PartForm, is_passed, ending_pieces}
 use Rattle.sheet_reader.specs.Parts.{part_pieces, parts}
-use Rattle.sheet_reader.specs.Grammar.{outside, AreValues, EndsBefore, IsEnding, at_text_end, at_semicolon, in_block, in_open_block, IsPart}
+use Rattle.sheet_reader.specs.Grammar.{IsEnding, at_text_end, at_semicolon, in_block, in_open_block, IsPart}
 use Rattle.sheet_reader.specs.Grammar.{passed_part, at_rule_part, qualified_part, AreParts, IsRule, IsShutEnding, IsShut, AreShut}
 use Rattle.sheet_reader.proofs.BracketLemmas.{stop_here, go_on}
 use Rattle.sheet_reader.proofs.ValueForms.{until_is}
@@ -60,7 +59,7 @@ none_is [] e = refl
 none_is (b ∷ bs) e = absurd (cc)
 
 -- behind component values that end before a piece no bracket is open
-values_shut : (stop : Stop) (xs : List Token) (y : Token) (ys : List Token) → until stop (xs ++ y ∷ ys) ≡ length xs → opens [] xs ≡ []
+pub values_shut : (stop : Stop) (xs : List Token) (y : Token) (ys : List Token) → until stop (xs ++ y ∷ ys) ≡ length xs → opens [] xs ≡ []
 values_shut stop xs y ys e =
     let on = passes stop xs (y ∷ ys) [] (omega (arith, e)) in
     none_is (opens [] xs) (stops_with_none stop (opens [] xs) y ys (omega (arith, on, e)))
@@ -71,16 +70,17 @@ closes_stops tokens.CloseRound e = absurd (cc)
 closes_stops tokens.CloseSquare e = absurd (cc)
 closes_stops _ e = absurd (cc)
 
-under_by : (bs : List Bracket) (kind : TokenKind) (o c : Option Bracket) → (is_none_open bs && stops_at stops.BlockEnd kind) ≡ false
-    → closed_by kind ≡ c → open_by (bs ++ Curly ∷ []) o c ≡ open_by bs o c ++ Curly ∷ []
-under_by bs kind (Some b) c goes f = refl
-under_by bs kind None None goes f = refl
-under_by [] kind None (Some Round) goes f = refl
-under_by [] kind None (Some Square) goes f = refl
-under_by [] kind None (Some Curly) goes f = let no : true ≡ false = sym (closes_stops kind f) ∙ goes in absurd (cc)
-under_by (first ∷ bs) kind None (Some b) goes f = by (is_same b first)
+pub under_by : (bs outer : List Bracket) (kind : TokenKind) (o c : Option Bracket)
+    → (is_none_open bs && stops_at stops.BlockEnd kind) ≡ false → closed_by kind ≡ c
+    → open_by (bs ++ Curly ∷ outer) o c ≡ open_by bs o c ++ Curly ∷ outer
+under_by bs outer kind (Some b) c goes f = refl
+under_by bs outer kind None None goes f = refl
+under_by [] outer kind None (Some Round) goes f = refl
+under_by [] outer kind None (Some Square) goes f = refl
+under_by [] outer kind None (Some Curly) goes f = let no : true ≡ false = sym (closes_stops kind f) ∙ goes in absurd (cc)
+under_by (first ∷ bs) outer kind None (Some b) goes f = by (is_same b first)
   where
-    by : (x : Bool) → cond x (bs ++ Curly ∷ []) (first ∷ (bs ++ Curly ∷ [])) ≡ cond x bs (first ∷ bs) ++ Curly ∷ []
+    by : (x : Bool) → cond x (bs ++ Curly ∷ outer) (first ∷ (bs ++ Curly ∷ outer)) ≡ cond x bs (first ∷ bs) ++ Curly ∷ outer
     by true = refl
     by false = refl
 
@@ -91,7 +91,7 @@ under_step : (bs : List Bracket) (t : Token) (ts ys : List Token) (x : Bool) →
 under_step bs t ts ys true e more fits = let here = stop_here stops.BlockEnd bs t (ts ++ ys) e in absurd (omega (arith, here, fits))
 under_step bs t ts ys false e more fits =
     let on = go_on stops.BlockEnd bs t (ts ++ ys) e in
-    ap (λ (cs : List Bracket). opens cs ts) (under_by bs t.kind (opened_by t.kind) (closed_by t.kind) e refl)
+    ap (λ (cs : List Bracket). opens cs ts) (under_by bs [] t.kind (opened_by t.kind) (closed_by t.kind) e refl)
     ∙ more (open_after bs t.kind) (omega (arith, on, fits))
 
 -- a `{` stays open under pieces among which its block does not end
@@ -102,9 +102,9 @@ under [] ys bs fits = refl
 under (t ∷ ts) ys bs fits =
     under_step bs t ts ys (is_none_open bs && stops_at stops.BlockEnd t.kind) refl (λ cs. under ts ys cs) fits
 
-some_open : (bs : List Bracket) → is_none_open (bs ++ Curly ∷ []) ≡ false
-some_open [] = refl
-some_open (b ∷ bs) = refl
+pub some_open : (bs outer : List Bracket) → is_none_open (bs ++ Curly ∷ outer) ≡ false
+some_open [] outer = refl
+some_open (b ∷ bs) outer = refl
 
 -- behind a `{` and what follows it, where its block does not end there
 opened_under : (front within ys : List Token) (first : Token) → opens [] front ≡ [] → first.kind ≡ tokens.OpenCurly
@@ -148,7 +148,7 @@ ending_shut front _ rest close more none (in_open_block first within is values o
     let at = ap (λ (xs : List Token). until_in stops.BlockEnd (opens [] within ++ Curly ∷ []) (xs ++ close ∷ more)) over in
     let none_left = ap (λ (xs : List Token). length xs) over in
     let yes = stops_with_none stops.BlockEnd (opens [] within ++ Curly ∷ []) close more (omega (arith, total, on, last, at, none_left)) in
-    let no : true ≡ false = sym yes ∙ some_open (opens [] within) in
+    let no : true ≡ false = sym yes ∙ some_open (opens [] within) [] in
     absurd (cc)
 
 passed_none : (level : Level) (kind : TokenKind) → is_passed level kind ≡ true → open_after [] kind ≡ []

@@ -1,8 +1,8 @@
 -- The media rules around a media rule or a style rule, and whether all of them hold.
-use Rattle.std.specs.Prelude.{◌≡◌, ℕ, suc, ◌+◌, ◌<◌, Bool, true, false, ◌&&◌, List, [], ◌∷◌, ◌++◌, length, slice_get, Option, Some, None, All}
+use Rattle.std.specs.Prelude.{◌≡◌, ℕ, suc, ◌<◌, Bool, true, false, ◌&&◌, List, [], ◌∷◌, ◌++◌, length, slice_get, Option, Some, None}
+use Rattle.std.specs.Prelude.{All}
 use Rattle.sheet_reader.specs.declared.sheet.MediaRule.{MediaRule}
 use Rattle.sheet_reader.specs.declared.sheet.Sheet.{Sheet}
-use Rattle.sheet_reader.specs.Forms.{RuleForm}
 
 -- a place below n, where there is one
 abbrev pub IsBelow : ℕ → Option ℕ → Type 0

@@ -1,5 +1,5 @@
 -- A sheet that is being read: what it says so far, and what is still to be read.
-use Rattle.std.specs.Prelude.{ℕ, suc, ◌+◌, List, [], ◌∷◌, ◌++◌, length, Option, Some, None, option_to_list, All}
+use Rattle.std.specs.Prelude.{◌≡◌, ℕ, suc, ◌+◌, List, [], ◌∷◌, ◌++◌, length, Option, Some, None, option_to_list, All}
 use Rattle.css_tokens.specs.declared.token.Token.{Token}
 use Rattle.css_tokens.specs.Marks.{IsPieceOf}
 use Rattle.sheet_reader.specs.declared.parts.Level.TheVariants.{Top}
@@ -70,6 +70,10 @@ left_size (f ∷ fs) = suc (length f.left) + left_size fs
 -- the pieces that are left are pieces of the text
 abbrev pub AreLeftOf : List ℕ → List FrameForm → Type 0
 AreLeftOf text fs = All (λ f. All (IsPieceOf text) f.left) fs
+
+-- these pieces begin with those of this media rule, up to the last in its block
+abbrev pub BeginsWith : List Token → MediaForm → Type 0
+BeginsWith left m = (bracket : Token) × (rest : List Token) × (left ≡ m.keyword ∷ (m.prelude ++ bracket ∷ (m.inside ++ rest)))
 
 -- a sheet that says nothing
 abbrev pub empty_sheet : Sheet

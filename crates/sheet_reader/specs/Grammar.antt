@@ -80,8 +80,9 @@ pub data IsPart (level : Level) : PartForm → List Token → Type 0 where
   passed_part : {rest : List Token} (t : Token) → is_passed level t.kind ≡ true → IsPart level (passed t) rest
   at_rule_part : {rest : List Token} (keyword : Token) (prelude : List Token) (ending : EndingForm) → keyword.kind ≡ AtKeyword
       → IsRule stops.BlockOrSemicolon prelude ending rest → IsPart level (at_rule keyword prelude ending) rest
-  qualified_part : {rest : List Token} (prelude : List Token) (ending : EndingForm) → BeginsQualified level (prelude ++ ending_pieces ending)
-      → IsRule stops.Block prelude ending rest → IsPart level (qualified prelude ending) rest
+  qualified_part : {rest : List Token} (prelude : List Token) (ending : EndingForm)
+      → BeginsQualified level (prelude ++ ending_pieces ending) → IsRule stops.Block prelude ending rest
+      → IsPart level (qualified prelude ending) rest
 
 -- the parts of a sheet, or of the block of a media rule, one behind the other
 abbrev pub AreParts : Level → List PartForm → List Token → Type 0

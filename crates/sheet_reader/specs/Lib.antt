@@ -10,6 +10,8 @@ pub mod Positions
 pub mod Seen
 pub mod Books
 pub mod Grammar
+pub mod Ends
 pub mod Usable
 pub mod Around
 pub mod Lone
+pub mod Moves

@@ -40,7 +40,7 @@ pub(crate) enum Nesting {
     Closed,
 }
 
-fn opened_by(kind: TokenKind) -> Option<Bracket>
+pub(crate) fn opened_by(kind: TokenKind) -> Option<Bracket>
     ensures { result ≡ opened_by kind }
 {
     match kind {
@@ -51,7 +51,7 @@ fn opened_by(kind: TokenKind) -> Option<Bracket>
     }
 }
 
-fn closed_by(kind: TokenKind) -> Option<Bracket>
+pub(crate) fn closed_by(kind: TokenKind) -> Option<Bracket>
     ensures { result ≡ closed_by kind }
 {
     match kind {

@@ -11,6 +11,7 @@ ghost use Rattle.sheet_reader.specs.Declarations.{value_range, unless_empty, dec
 ghost use Rattle.sheet_reader.specs.Declarations.{item_pieces, declarations, style_of};
 
 use crate::brackets::{Nesting, Stop, nesting_of, until};
+use crate::ends::Ends;
 use crate::parts::{Part, at_rule_at, behind, part_len};
 use crate::sheet::Property;
 use css_tokens::{Range, Token, TokenKind, all_tokens};
@@ -39,7 +40,12 @@ fn item_at<'a>(alloc: Global, first: Token, pieces: &'a [Token]) -> Result<Item<
         TokenKind::Comment | TokenKind::WhiteSpace | TokenKind::Semicolon => {
             Ok(Item::Passed(first))
         }
-        TokenKind::AtKeyword => Ok(Item::AtRule(at_rule_at(alloc, first, &pieces[1..])?)),
+        TokenKind::AtKeyword => Ok(Item::AtRule(at_rule_at(
+            alloc,
+            Ends::Sought,
+            first,
+            &pieces[1..],
+        )?)),
         TokenKind::Ident => {
             let n = until(alloc, Stop::Semicolon, pieces)?;
             Ok(Item::Candidate(&pieces[..n]))

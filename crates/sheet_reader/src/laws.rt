@@ -1,6 +1,6 @@
 //! Laws of the definitions: sheets and bodies in the words of their grammar.
 
-ghost use Rattle.std.specs.Prelude.{◌≡◌, ◌≤◌, ◌+◌, ◌++◌, ◌∷◌, [], ℕ, Bool, true, List, length, Option, Some, None};
+ghost use Rattle.std.specs.Prelude.{◌≡◌, ◌<◌, ◌≤◌, ◌+◌, ◌^◌, ◌++◌, ◌∷◌, [], ℕ, Bool, true, List, length, slice_get, Option, Some, None};
 ghost use Rattle.css_tokens.specs.declared.token.Token.{Token};
 ghost use Rattle.sheet_reader.specs.declared.parts.Level.{Level};
 ghost use Rattle.sheet_reader.specs.declared.parts.Level.TheVariants.{Top, Inner};
@@ -18,6 +18,9 @@ ghost use Rattle.std.specs.Char.{encode_utf8};
 ghost use Rattle.std.specs.List.{sum_by};
 ghost use Rattle.std.specs.Str.{IsUtf8, IsCharBoundary};
 ghost use Rattle.sheet_reader.specs.Sheets.{sheet_of};
+ghost use Rattle.sheet_reader.specs.Forms.{RuleForm};
+ghost use Rattle.sheet_reader.specs.Sealing.{is_sealed};
+ghost use Rattle.sheet_reader.specs.Moves.{moved_sheet, replaced, CanMoveBody};
 ghost use Rattle.sheet_reader.specs.Around.{AreThere, AreBelow, IsBelow, AllHold, held, held_at};
 ghost use Rattle.sheet_reader.specs.declared.sheet.MediaRule.{MediaRule};
 ghost use Rattle.sheet_reader.specs.Usable.{IsSheetOf, AreDeclarationsOf};
@@ -28,8 +31,10 @@ pub fn grammar_law()
     ensures parts { (level : Level) (ts : List Token) → AreParts level (parts level ts) ts }
     ensures parts_only { (level : Level) (ps : List PartForm) (ts : List Token) → AreParts level ps ts → ps ≡ parts level ts }
     ensures laid { (text : List ℕ) → AreLaid text None 0 (parts Top (pieces text)) (laid_out text None 0 (pieces text)) }
-    ensures laid_only { (text : List ℕ) (ls : List Laid) → AreLaid text None 0 (parts Top (pieces text)) ls → ls ≡ laid_out text None 0 (pieces text) }
-    ensures shut { (first close : Token) (inside rest : List Token) → IsEnding (block first inside (Some close)) rest → AreShut (parts Inner inside) }
+    ensures laid_only { (text : List ℕ) (ls : List Laid) → AreLaid text None 0 (parts Top (pieces text)) ls
+        → ls ≡ laid_out text None 0 (pieces text) }
+    ensures shut { (first close : Token) (inside rest : List Token) → IsEnding (block first inside (Some close)) rest
+        → AreShut (parts Inner inside) }
     ensures items { (ts : List Token) → AreItems (items_after 0 ts) ts }
     ensures items_only { (xs : List ItemForm) (ts : List Token) → AreItems xs ts → xs ≡ items_after 0 ts }
 {}
@@ -64,5 +69,16 @@ pub fn usable_law()
 pub fn around_law()
     ensures there { (text : List ℕ) → AreThere (sheet_of text) }
     ensures held { (holds : MediaRule → Bool) (ms : List MediaRule) (around : Option ℕ) → AreBelow 0 ms → IsBelow (length ms) around
-        → (held_at (held holds ms) around ≡ true → AllHold holds ms around) × (AllHold holds ms around → held_at (held holds ms) around ≡ true) }
+        → (held_at (held holds ms) around ≡ true → AllHold holds ms around)
+        × (AllHold holds ms around → held_at (held holds ms) around ≡ true) }
+{}
+
+/// Where the body of a rule is replaced by a sealed text, the reading of the new text is the old reading with its places moved, and
+/// with the declarations of the sealed text in that rule. So it is for a last rule that has no `}` too, and inside media rules.
+/// Every reading may be moved so: nothing but a rule's own declarations stands inside its body.
+pub fn moved_law()
+    ensures moved { (text put : List ℕ) (k : ℕ) (r : RuleForm) → slice_get (sheet_of text).rules k ≡ Some r → is_sealed put ≡ true
+        → sheet_of (replaced text r.body put) ≡ moved_sheet (sheet_of text) k (style_of put) (length put) }
+    ensures can_move { (text put : List ℕ) (k : ℕ) (r : RuleForm) → slice_get (sheet_of text).rules k ≡ Some r
+        → length text + length put < 2 ^ 64 → CanMoveBody (sheet_of text) k (style_of put) (length put) r }
 {}

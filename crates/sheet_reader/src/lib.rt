@@ -9,18 +9,21 @@
 //! Way in: those, `sealed` for a text that may stand between braces, and `lone_rule` for one that is one rule.
 //!
 //! Laws, in src/laws.rt: `grammar_law` (parts and items are as CSS Syntax has them, and in no other way), `nesting_law`,
-//! `position_law` and `usable_law` (every range can be cut out, and they stand in one another as they should). Laws from the
-//! table of pieces up stand in `sheet_laws`.
+//! `position_law`, `usable_law` (every range can be cut out, and they stand in one another as they should) and `moved_law` (after an
+//! edit of a rule's body the reading is the old one with its places moved, as `move_body` makes it without reading). Laws from
+//! the table of pieces up stand in `sheet_laws`.
 #![tactic(auto)]
 
 mod book;
 mod brackets;
 mod declarations;
+mod ends;
 mod frames;
 mod laws;
 mod lists;
 mod lone;
 mod media;
+mod moves;
 mod parts;
 mod place;
 mod places;
@@ -30,9 +33,10 @@ mod sheet;
 
 pub use book::{Origin, SheetBook, SheetEntry};
 pub use declarations::read_style;
-pub use laws::{around_law, grammar_law, nesting_law, position_law, usable_law};
+pub use laws::{around_law, grammar_law, moved_law, nesting_law, position_law, usable_law};
 pub use lists::{MediaRules, Places, Properties, StyleRules};
 pub use lone::{LoneRule, lone_rule};
+pub use moves::move_body;
 pub use place::Position;
 pub use places::{byte_at, position};
 pub use rules::read_sheet;

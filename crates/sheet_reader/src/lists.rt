@@ -1,8 +1,11 @@
 //! The lists of a sheet. Each is made from a `Vec` and gives it back without taking memory.
 
-ghost use Rattle.std.specs.Prelude.{◌≡◌, ◌<◌, ◌++◌, ◌∷◌, [], length, map, OnOk};
+ghost use Rattle.std.specs.Prelude.{◌≡◌, ◌<◌, ◌+◌, ◌^◌, ◌++◌, ◌∷◌, [], All, length, map, OnOk};
+ghost use Rattle.selectors.specs.Moves.{cut, moved_place};
 ghost use Rattle.sheet_reader.specs.Forms.{rule_seen};
+ghost use Rattle.sheet_reader.specs.Moves.{placed_property, placed_media, CanPlaceProperty, CanPlaceMedia, IsPropertyWithin};
 
+use crate::moves::{Gap, move_media, move_properties, raise_properties};
 use crate::sheet::{MediaRule, Property, StyleRule};
 use std::alloc::AllocError;
 use std::marker::Model;
@@ -49,6 +52,25 @@ impl Properties {
         ensures { result ≡ length self.now }
     {
         self.properties.len()
+    }
+
+    /// Moves all their ranges. Takes no memory.
+    pub(crate) fn move_behind(&mut self, gap: Gap)
+        requires { All (CanPlaceProperty (cut gap.start gap.end gap.size)) self.old }
+        ensures { self.new ≡ map (placed_property (moved_place (cut gap.start gap.end gap.size))) self.old }
+    {
+        move_properties(&mut self.properties, gap);
+    }
+
+    /// The declarations with their ranges further back. Takes no memory.
+    pub(crate) fn raised(self, start: usize, size: usize) -> Properties
+        requires within { All (IsPropertyWithin size) self }
+        requires fits { start + size < 2 ^ 64 }
+        ensures { result ≡ map (placed_property (λ place. start + place)) self }
+    {
+        let mut properties = self.properties;
+        raise_properties(&mut properties, start, size);
+        Properties { properties }
     }
 }
 
@@ -190,5 +212,13 @@ impl MediaRules {
         ensures { result.now ≡ self.now }
     {
         self.rules.as_slice()
+    }
+
+    /// Moves all their preludes. Takes no memory.
+    pub(crate) fn move_behind(&mut self, gap: Gap)
+        requires { All (CanPlaceMedia (cut gap.start gap.end gap.size)) self.old }
+        ensures { self.new ≡ map (placed_media (moved_place (cut gap.start gap.end gap.size))) self.old }
+    {
+        move_media(&mut self.rules, gap);
     }
 }

@@ -7,6 +7,7 @@ ghost use Rattle.sheet_reader.specs.Seen.{part_seen, ending_seen};
 ghost use Rattle.sheet_reader.specs.Parts.{part_pieces};
 ghost use Rattle.sheet_reader.specs.Lone.{is_blank_kind, is_blank_piece, skip_blank, is_closed_ending, is_closed_rule, lone_by, lone_rule};
 
+use crate::ends::Ends;
 use crate::parts::{Ending, Level, Part, behind, part_at, part_len};
 use crate::rules::rule_of;
 use css_tokens::{Token, TokenKind, all_tokens};
@@ -88,7 +89,7 @@ pub fn lone_rule(alloc: Global, text: &str) -> Result<LoneRule, AllocError>
     let [first, ..] = left else {
         return Ok(LoneRule::Other);
     };
-    let part = part_at(alloc, Level::Top, *first, left)?;
+    let part = part_at(alloc, Level::Top, Ends::Sought, *first, left)?;
     let rest = skip_blank(behind(left, part_len(part)));
     if !rest.is_empty() {
         return Ok(LoneRule::Other);

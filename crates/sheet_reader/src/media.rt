@@ -1,18 +1,23 @@
 //! Media rules: at-rules named `media` that have a block.
 
-ghost use Rattle.std.specs.Prelude.{◌≡◌, ◌++◌, ◌∷◌, [], All, IfOk, OnOk, option_map, length};
+ghost use Rattle.std.specs.Prelude.{◌≡◌, ◌++◌, ◌∷◌, [], All, IfOk, OnOk, option_map, length, take};
 ghost use Rattle.css_tokens.specs.Marks.{IsPieceOf};
 ghost use Rattle.sheet_reader.specs.Parts.{part_pieces};
 ghost use Rattle.sheet_reader.specs.Seen.{part_seen, media_seen, frame_seen};
 ghost use Rattle.sheet_reader.specs.Layout.{level_of, names_media, media_form, media_rule};
-ghost use Rattle.sheet_reader.specs.Frames.{opened, with_media};
+ghost use Rattle.sheet_reader.specs.Frames.{opened, with_media, BeginsWith};
+ghost use Rattle.sheet_reader.specs.Ends.{AreEnds};
 
+use crate::ends::{Ends, front_ends};
 use crate::frames::{Frame, Frames};
-use crate::parts::{Ending, Level, Part};
+use crate::parts::{Ending, Level, Part, behind};
 use crate::sheet::{MediaRule, Sheet};
 use css_tokens::{Range, Token, TokenKind, spells};
 use selectors::{range_of, words_among};
 use std::alloc::{AllocError, Global};
+
+/// The pieces of a media rule around its prelude, up to its block.
+const KEYWORD_AND_BRACKET: usize = 2;
 
 /// A media rule.
 #[derive(Clone, Copy)]
@@ -93,25 +98,40 @@ fn media_rule(
     })
 }
 
+/// The ends of what stands in the block of a media rule, which begins what is left in a frame.
+fn inside_ends<'a>(frame: Frame<'a>, media: Media) -> Ends<'a>
+    requires first { BeginsWith frame.left.now (media_seen media) }
+    requires ends { AreEnds frame.ends frame.left.now }
+    ensures { AreEnds result media.entry.inside.now }
+{
+    let left = behind(frame.left, media.prelude.len() + KEYWORD_AND_BRACKET);
+    front_ends(frame.ends, left, media.inside.len())
+}
+
 /// Where a part is a media rule, adds it to the sheet, and what stands in its block to what is still to be read.
 pub(crate) fn open_media<'a>(
     alloc: Global,
     text: &str,
-    around: Option<usize>,
+    frame: Frame<'a>,
     part: Part<'a>,
     frames: &mut Frames<'a>,
     sheet: &mut Sheet,
 ) -> Result<(), AllocError>
-    requires { All (IsPieceOf text.now) (part_pieces (part_seen part)) }
+    requires pieces { All (IsPieceOf text.now) (part_pieces (part_seen part)) }
+    requires first { take (length (part_pieces (part_seen part))) frame.left.now ≡ part_pieces (part_seen part) }
+    requires ends { AreEnds frame.ends frame.left.now }
     ensures frames { OnOk result (frames.new ≡ opened (length sheet.old.media) (media_form text.now (part_seen part.entry)) frames.old) }
-    ensures sheet { OnOk result (sheet.new ≡ with_media text.now around (media_form text.now (part_seen part.entry)) sheet.old) }
+    ensures sheet { OnOk result (sheet.new
+        ≡ with_media text.now frame.entry.around (media_form text.now (part_seen part.entry)) sheet.old) }
 {
     if let Some(media) = media_form(text, part) {
         let place = sheet.media.len();
-        let rule = media_rule(alloc, text, around, media)?;
+        let rule = media_rule(alloc, text, frame.around, media)?;
         sheet.media.push(rule)?;
+        let ends = inside_ends(frame, media);
         frames.push(Frame {
             left: media.inside,
+            ends,
             around: Some(place),
         })?;
     }

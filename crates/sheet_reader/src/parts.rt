@@ -1,10 +1,12 @@
 //! The top-level parts of a sheet (CSS Syntax 3, sections 5.4.1 to 5.4.3).
 
 ghost use Rattle.std.specs.Prelude.{◌≡◌, ◌≤◌, ◌<◌, length, drop, slice_get, Some, IfOk};
+ghost use Rattle.sheet_reader.specs.Ends.{AreEnds};
 ghost use Rattle.sheet_reader.specs.Parts.{is_passed, ending_at, at_rule_at, qualified_at, part_at, ending_pieces, part_pieces};
 ghost use Rattle.sheet_reader.specs.Seen.{ending_seen, part_seen};
 
 use crate::brackets::{Stop, until};
+use crate::ends::{Ends, block_len};
 use css_tokens::{Token, TokenKind};
 use std::alloc::{AllocError, Global};
 
@@ -45,14 +47,15 @@ pub(crate) enum Part<'a> {
     },
 }
 
-fn ending_at<'a>(alloc: Global, pieces: &'a [Token]) -> Result<Ending<'a>, AllocError>
+fn ending_at<'a>(alloc: Global, ends: Ends, pieces: &'a [Token]) -> Result<Ending<'a>, AllocError>
+    requires { AreEnds ends pieces.now }
     ensures { IfOk result (λ e. ending_seen e ≡ ending_at pieces.now) }
 {
     match pieces {
         [] => Ok(Ending::TextEnd),
         [first, ..] if matches!(first.kind, TokenKind::Semicolon) => Ok(Ending::Semicolon(*first)),
         [first, rest @ ..] => {
-            let n = until(alloc, Stop::BlockEnd, rest)?;
+            let n = block_len(alloc, ends, rest)?;
             Ok(Ending::Block {
                 first: *first,
                 body: &rest[..n],
@@ -65,13 +68,15 @@ fn ending_at<'a>(alloc: Global, pieces: &'a [Token]) -> Result<Ending<'a>, Alloc
 /// The at-rule of this keyword, which stands right before the pieces.
 pub(crate) fn at_rule_at<'a>(
     alloc: Global,
+    ends: Ends,
     keyword: Token,
     pieces: &'a [Token],
 ) -> Result<Part<'a>, AllocError>
+    requires { AreEnds ends pieces.now }
     ensures { IfOk result (λ p. part_seen p ≡ at_rule_at keyword pieces.now) }
 {
     let n = until(alloc, Stop::BlockOrSemicolon, pieces)?;
-    let ending = ending_at(alloc, &pieces[n..])?;
+    let ending = ending_at(alloc, ends, &pieces[n..])?;
     Ok(Part::AtRule {
         keyword,
         prelude: &pieces[..n],
@@ -79,11 +84,12 @@ pub(crate) fn at_rule_at<'a>(
     })
 }
 
-fn qualified_at<'a>(alloc: Global, pieces: &'a [Token]) -> Result<Part<'a>, AllocError>
+fn qualified_at<'a>(alloc: Global, ends: Ends, pieces: &'a [Token]) -> Result<Part<'a>, AllocError>
+    requires { AreEnds ends pieces.now }
     ensures { IfOk result (λ p. part_seen p ≡ qualified_at pieces.now) }
 {
     let n = until(alloc, Stop::Block, pieces)?;
-    let ending = ending_at(alloc, &pieces[n..])?;
+    let ending = ending_at(alloc, ends, &pieces[n..])?;
     Ok(Part::Qualified {
         prelude: &pieces[..n],
         ending,
@@ -105,19 +111,21 @@ fn is_passed(level: Level, kind: TokenKind) -> bool
 pub(crate) fn part_at<'a>(
     alloc: Global,
     level: Level,
+    ends: Ends,
     first: Token,
     pieces: &'a [Token],
 ) -> Result<Part<'a>, AllocError>
-    requires { slice_get pieces.now 0 ≡ Some first }
+    requires first { slice_get pieces.now 0 ≡ Some first }
+    requires ends { AreEnds ends pieces.now }
     ensures { IfOk result (λ p. part_seen p ≡ part_at level first (drop 1 pieces.now)) }
 {
     if matches!(first.kind, TokenKind::AtKeyword) {
-        return at_rule_at(alloc, first, &pieces[1..]);
+        return at_rule_at(alloc, ends, first, &pieces[1..]);
     }
     if is_passed(level, first.kind) {
         return Ok(Part::Passed(first));
     }
-    qualified_at(alloc, pieces)
+    qualified_at(alloc, ends, pieces)
 }
 
 fn ending_len(ending: Ending) -> usize

@@ -3,6 +3,7 @@
 ghost use Rattle.std.specs.Prelude.{◌≡◌, ◌<◌, ◌++◌, ◌∷◌, All, false, IfOk, OnOk, option_map, option_to_list};
 ghost use Rattle.css_tokens.specs.Marks.{IsPieceOf};
 ghost use Rattle.selectors.specs.Words.{words_after};
+ghost use Rattle.sheet_reader.specs.Ends.{AreEnds};
 ghost use Rattle.sheet_reader.specs.Seen.{part_seen, ending_seen, frame_seen};
 ghost use Rattle.sheet_reader.specs.Parts.{part_pieces, ending_pieces};
 ghost use Rattle.sheet_reader.specs.Forms.{rule_seen};
@@ -11,6 +12,7 @@ ghost use Rattle.sheet_reader.specs.Sheets.{place_of, sheet_of};
 ghost use Rattle.sheet_reader.specs.Frames.{top_place, with_part, read_on, left_size, AreLeftOf, empty_sheet};
 
 use crate::declarations::read_body;
+use crate::ends::{Ends, closings};
 use crate::frames::{Frame, Frames};
 use crate::lists::{MediaRules, Places, Properties, StyleRules};
 use crate::media::{level_of, open_media};
@@ -41,7 +43,8 @@ fn style_rule(
 ) -> Result<Option<StyleRule>, AllocError>
     requires prelude { All (IsPieceOf text.now) prelude.now }
     requires inside { All (IsPieceOf text.now) inside.now }
-    ensures { IfOk result (λ r. option_map rule_seen r ≡ style_rule text.now around (words_after text.now false prelude.now) body inside.now) }
+    ensures { IfOk result (λ r. option_map rule_seen r
+        ≡ style_rule text.now around (words_after text.now false prelude.now) body inside.now) }
 {
     let words = words_among(alloc, text, prelude)?;
     let Some(range) = range_of(words.as_slice()) else {
@@ -211,7 +214,8 @@ fn read_part<'a>(
     frames: &mut Frames<'a>,
     sheet: &mut Sheet,
 ) -> Result<(), AllocError>
-    requires { AreLeftOf text.now (frame_seen frame ∷ frames.old) }
+    requires each { AreLeftOf text.now (frame_seen frame ∷ frames.old) }
+    requires ends { AreEnds frame.ends frame.left.now }
     ensures same { OnOk result (read_on text.now sheet.new frames.new ≡ read_on text.now sheet.old (frame_seen frame.entry ∷ frames.old)) }
     ensures smaller { OnOk result (left_size frames.new < left_size (frame_seen frame.entry ∷ frames.old)) }
     ensures each { OnOk result (AreLeftOf text.now frames.new) }
@@ -219,13 +223,19 @@ fn read_part<'a>(
     let [first, ..] = frame.left else {
         return Ok(());
     };
-    let part = part_at(alloc, level_of(frame.around), *first, frame.left)?;
+    let part = part_at(
+        alloc,
+        level_of(frame.around),
+        frame.ends,
+        *first,
+        frame.left,
+    )?;
     frames.push(Frame {
         left: behind(frame.left, part_len(part)),
-        around: frame.around,
+        ..frame
     })?;
     add_part(alloc, text, frame.around, part, sheet)?;
-    open_media(alloc, text, frame.around, part, frames, sheet)?;
+    open_media(alloc, text, frame, part, frames, sheet)?;
     Ok(())
 }
 
@@ -246,10 +256,17 @@ pub fn read_sheet(alloc: Global, text: &str) -> Result<Sheet, AllocError>
     ensures { IfOk result (λ s. s ≡ sheet_of text.now) }
 {
     let pieces = all_tokens(alloc, text)?;
+    let left = pieces.as_slice();
+    let table = closings(alloc, left)?;
+    let ends = Ends::Told {
+        table: table.as_slice(),
+        behind: 0,
+    };
     let mut sheet = empty_sheet(alloc)?;
     let mut frames = Frames::new(alloc);
     frames.push(Frame {
-        left: pieces.as_slice(),
+        left,
+        ends,
         around: None,
     })?;
     'frames: while let Some(frame) = frames.pop() {

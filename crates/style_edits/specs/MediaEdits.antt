@@ -1,32 +1,29 @@
 -- What a client's edit of the prelude of a media rule comes to.
-use Rattle.std.specs.Prelude.{ℕ, ◌==◌, Bool, true, false, ◌&&◌, List, [], ◌∷◌, ◌++◌, map, length, Option, Some, None, Err}
+use Rattle.std.specs.Prelude.{ℕ, ◌-◌, ◌==◌, nat_le, Bool, true, false, ◌&&◌, List, [], ◌∷◌, ◌++◌, map, length, Option, Some, None, Err}
 use Rattle.std.specs.Prelude.{if◌then◌else◌}
-use Rattle.std.specs.List.{find}
+use Rattle.std.specs.List.{find, prefix_len}
 use Rattle.css_tokens.specs.declared.token.Range.{Range}
 use Rattle.css_tokens.specs.declared.token.Token.{Token}
-use Rattle.css_tokens.specs.declared.token.TokenKind.{TokenKind}
-use Rattle.css_tokens.specs.declared.token.TokenKind.TheVariants.{AtKeyword}
 use Rattle.css_tokens.specs.Pieces.{pieces}
 use Rattle.selectors.specs.Words.{between}
 use Rattle.sheet_reader.specs.declared.book.SheetEntry.{SheetEntry}
+use Rattle.sheet_reader.specs.declared.sheet.MediaRule.{MediaRule}
+use Rattle.sheet_reader.specs.Books.{entry_of}
+use Rattle.sheet_reader.specs.Grammar.{is_at_keyword}
 use Rattle.sheet_reader.specs.Sheets.{sheet_of}
 use Rattle.sheet_reader.specs.Sealing.{is_sealed_prelude}
 use Rattle.style_edits.specs.declared.faults.SheetFault.TheVariants.{BadRange, BadText}
 use Rattle.style_edits.specs.declared.lines.LineRange.{LineRange}
+use Rattle.style_edits.specs.declared.splice.Splice.{Splice}
 use Rattle.style_edits.specs.Edits.{Found, is_at, placed_text, client_sheet, found_by}
 
 -- the prelude of a media rule with these lines and columns
 abbrev pub media_at : List ℕ → LineRange → Option Range
 media_at text lines = find (is_at text lines) (map (λ m. m.prelude) (sheet_of text).media)
 
--- an at-keyword
-abbrev pub is_keyword_kind : TokenKind → Bool
-is_keyword_kind AtKeyword = true
-is_keyword_kind _ = false
-
 -- an at-keyword that ends at this place
 abbrev pub ends_keyword : ℕ → Token → Bool
-ends_keyword place t = is_keyword_kind t.kind && t.end == place
+ends_keyword place t = is_at_keyword t.kind && t.end == place
 
 -- a space right behind the keyword is one piece with it: it ends in the hex digits of an escape
 abbrev pub takes_space : List ℕ → Bool
@@ -57,3 +54,17 @@ media_in lines text e = media_by text e (media_at e.text lines)
 -- what an edit of a media rule's prelude comes to in a book
 abbrev pub media_splice : ℕ → LineRange → List ℕ → List SheetEntry → Found
 media_splice id lines text book = found_by (media_in lines text) (client_sheet id book)
+
+-- how many media rules have a prelude that does not start behind the byte
+abbrev pub media_up_to : List MediaRule → ℕ → ℕ
+media_up_to media byte = prefix_len (λ m. nat_le m.prelude.start byte) media
+
+-- the last of them in the sheet that was found; the first where there is none
+abbrev pub media_place_by : Splice → Option SheetEntry → ℕ
+media_place_by back None = 0
+media_place_by back (Some e) = media_up_to (sheet_of e.text).media back.end - 1
+
+-- the place among the media rules of its sheet of the one whose prelude an edit made, of which this book is what it left and the splice
+-- the way back: the last one whose prelude does not start behind the edit's text
+abbrev pub edited_media : List SheetEntry → Splice → ℕ
+edited_media book back = media_place_by back (entry_of back.sheet book)

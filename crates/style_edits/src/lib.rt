@@ -6,8 +6,8 @@
 //! Promise: on Ok the book is exactly what the edit comes to, by ids, origins and texts alone, and the answer leads back; on a
 //! fault it is the first by number of the first edit that has one, and the book is as before, as it is after want of memory.
 //!
-//! Way in: `set_styles`, `set_selector`, `set_text` and `add_rule`; `put_back` makes a splice; `add_sheet` and `drop_sheet` for
-//! a script.
+//! Way in: `set_styles`, `set_selector`, `set_text`, `add_rule` and `set_media`; `put_back` makes a splice; `add_sheet` and `drop_sheet`
+//! for a script.
 //!
 //! Laws: `splice_law` and `edits_law` (src/laws.rt), splicing back, the last one first, gives the book before. What each edit
 //! comes to stands in specs/Edits, splices in specs/Splices.
@@ -27,7 +27,7 @@ pub use edits::{StyleEdit, add_rule, set_selector, set_styles, set_styles_noting
 pub use faults::{SheetErr, SheetFault};
 pub use laws::{edits_law, splice_law};
 pub use lines::LineRange;
-pub use media_edits::set_media;
+pub use media_edits::{edited_media, set_media};
 pub use rule_places::{RulePlace, edited_rule};
 pub use sheets::{add_sheet, drop_sheet};
 pub use splice::{Splice, put_back};

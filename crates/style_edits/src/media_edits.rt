@@ -1,11 +1,14 @@
 //! A client's edits of media rules.
 
 ghost use Rattle.std.specs.Prelude.{◌≡◌, ◌++◌, All, Ok, Err, IfOk, IfSome, OnErr, string_bytes};
-ghost use Rattle.std.specs.List.{find};
+ghost use Rattle.std.specs.List.{find, prefix_len};
+ghost use Rattle.std.specs.Prelude.{nat_le};
 ghost use Rattle.css_tokens.specs.Marks.{IsPieceOf};
 ghost use Rattle.sheet_reader.specs.Books.{IsEntry};
+ghost use Rattle.sheet_reader.specs.Sheets.{sheet_of};
 ghost use Rattle.style_edits.specs.Edits.{edited, IfFault};
-ghost use Rattle.style_edits.specs.MediaEdits.{is_keyword_kind, ends_keyword, takes_space, spaces_behind, spaces_at, media_in, media_splice};
+ghost use Rattle.style_edits.specs.MediaEdits.{ends_keyword, takes_space, spaces_behind, spaces_at, media_in, media_splice};
+ghost use Rattle.style_edits.specs.MediaEdits.{media_up_to, edited_media};
 ghost use Rattle.style_edits.specs.Drafts.{Drafts};
 
 use crate::drafts::{Draft, apply, placed};
@@ -14,7 +17,7 @@ use crate::faults::{SheetErr, SheetFault};
 use crate::lines::{LineRange, media_at};
 use crate::splice::Splice;
 use css_tokens::{Token, TokenKind, all_tokens};
-use sheet_reader::{SheetBook, SheetEntry, sealed_prelude};
+use sheet_reader::{MediaRule, SheetBook, SheetEntry, sealed_prelude};
 use std::alloc::{AllocError, Global};
 
 fn ends_keyword(piece: Token, place: usize) -> bool
@@ -119,4 +122,32 @@ pub fn set_media(
         Err(stop) => return Err(stop),
     };
     Ok(apply(book, draft))
+}
+
+fn media_among(rules: &[MediaRule], byte: usize) -> usize
+    ensures { result ≡ prefix_len (λ m. nat_le m.prelude.start byte) rules.now }
+{
+    rules
+        .iter()
+        .take_while(|rule| rule.prelude.start <= byte)
+        .count()
+}
+
+/// How many media rules of the sheet have a prelude that does not start behind the byte.
+fn media_up_to(entry: &SheetEntry, byte: usize) -> usize
+    requires { IsEntry entry.now }
+    ensures { result ≡ media_up_to (sheet_of entry.now.text).media byte }
+{
+    media_among(entry.reading.media.as_slice(), byte)
+}
+
+/// The media rule whose prelude an edit made, by the splice that the edit answered, in the book that it left: its place among the
+/// media rules of its sheet, from 0.
+pub fn edited_media(book: &SheetBook, back: &Splice) -> usize
+    ensures { result ≡ edited_media book.now back.now }
+{
+    match book.get(back.sheet) {
+        Some(entry) => media_up_to(entry, back.end).saturating_sub(1),
+        None => 0,
+    }
 }

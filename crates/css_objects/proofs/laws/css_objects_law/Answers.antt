@@ -1,6 +1,7 @@
 use Rattle.css_objects.proofs.Objects.{sheet_sound, range_sound, header_sound, selector_sound, selectors_sound, property_sound}
 use Rattle.css_objects.proofs.Objects.{inline_sound, rule_style_sound, rule_sound, match_sound, inherited_sound, matched_sound}
 use Rattle.css_objects.proofs.Objects.{sheet_text_sound, class_names_sound, styles_sound, new_selectors_sound, new_rule_sound}
+use Rattle.css_objects.proofs.Objects.{media_sound, new_media_sound}
 use Rattle.css_objects.proofs.laws.css_objects_law.Goals as goal
 
 pub returns : goal.returns
@@ -13,6 +14,7 @@ returns c = record {
   property = property_sound;
   inline = inline_sound;
   rule_style = rule_style_sound;
+  media = media_sound;
   rule = rule_sound;
   rule_match = match_sound;
   inherited = inherited_sound;
@@ -22,4 +24,5 @@ returns c = record {
   styles = styles_sound;
   new_selectors = new_selectors_sound;
   new_rule = new_rule_sound;
+  new_media = new_media_sound;
 }
