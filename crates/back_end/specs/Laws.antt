@@ -109,7 +109,8 @@ abbrev pub most_ids : ℕ
 most_ids = 5 * max_nodes
 
 -- The state after a step is valid; the moves lead the view to the view of it; and a step draws few ids, few serials and few numbers
--- of sheets, at most one number of a search, and keeps few edits of the tree: each of these may come to a new id when it is taken back or done again.
+-- of sheets, at most one number of a search, and keeps few edits of the tree: each of these may come to a new id when it is taken back
+-- or done again.
 pub record StepsWell (before : State) (done : Step) : Type 0 where
   pub is_state : IsState done.state
   pub course : Course done.moves (view_of before) (view_of done.state)
