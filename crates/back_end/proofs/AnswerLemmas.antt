@@ -41,7 +41,7 @@ openings-answer : (xs : List Showing) (ms : List Move) → flat_map reply_ids (o
 openings-answer [] ms = refl
 openings-answer (x ∷ xs) ms = openings-answer xs ms
 
-openings-may : (method : List ℕ) (xs : List Showing) (ms : List Move) → MayAnswerAll method ms
+pub openings-may : (method : List ℕ) (xs : List Showing) (ms : List Move) → MayAnswerAll method ms
     → MayAnswerAll method (opening_moves xs ++ ms)
 openings-may method [] ms h = h
 openings-may method (x ∷ xs) ms h = (tt, openings-may method xs ms h)

@@ -8,8 +8,7 @@ use Rattle.node_binding.specs.Bindings.{Stands}
 use Rattle.node_binding.specs.Sessions.{Session}
 use Rattle.node_binding.proofs.StartLemmas.{count-alone}
 use Rattle.cdp_messages.specs.declared.dom_ask.DomAsk.{DomAsk}
-use Rattle.cdp_messages.specs.DomAsks.{fits_ask}
-use Rattle.dom_agent.specs.Laws.{session_outcome, binding_outcome}
+use Rattle.dom_agent.specs.Laws.{session_outcome, binding_outcome, has_depth}
 use Rattle.dom_agent.specs.Requests.{Outcome, state_after}
 use Rattle.dom_agent.proofs.OutcomeLemmas.{draws_few}
 use Rattle.dom_agent.proofs.KeeperLemmas.{stays_bound}
@@ -18,7 +17,7 @@ use Rattle.back_end.specs.declared.side.PageSide.{PageSide}
 use Rattle.back_end.specs.States.{State, page_nodes}
 use Rattle.back_end.specs.Seats.{DeskStandsFor}
 
-state-few : (d : Desk) (s : PageSide) (page : PageValue) (c : DomAsk) → fits_ask c ≡ true → d.agent.next < 2 ^ 50 → page ≡ s.page
+state-few : (d : Desk) (s : PageSide) (page : PageValue) (c : DomAsk) → has_depth c ≡ true → d.agent.next < 2 ^ 50 → page ≡ s.page
     → (state : State) → DeskStandsFor d s state → (state_after d.agent (binding_outcome page c d.agent)).next < 2 ^ 60
 state-few d s page c fits room is state stands =
     let w : Session = state.client.session in
@@ -31,6 +30,6 @@ state-few d s page c fits room is state stands =
     subst (λ (p : PageValue). (state_after d.agent (binding_outcome p c d.agent)).next < 2 ^ 60) (sym (is ∙ stands.page_is))
     (omega (arith, bound.next_is, few, count, stands.stands.next_is, room))
 
-pub ask-few : (d : Desk) (s : PageSide) (page : PageValue) (c : DomAsk) → fits_ask c ≡ true → d.agent.next < 2 ^ 50 → page ≡ s.page
+pub ask-few : (d : Desk) (s : PageSide) (page : PageValue) (c : DomAsk) → has_depth c ≡ true → d.agent.next < 2 ^ 50 → page ≡ s.page
     → ∥ ((state : State) × DeskStandsFor d s state) ∥₁ → (state_after d.agent (binding_outcome page c d.agent)).next < 2 ^ 60
 ask-few d s page c fits room is standing = ∥∥₁_elim standing (hlevel props) (λ p. state-few d s page c fits room is p.0 p.1)

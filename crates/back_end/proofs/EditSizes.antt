@@ -19,11 +19,12 @@ use Rattle.cdp_json.proofs.Options.{and_then_some}
 use Rattle.cdp_messages.specs.declared.command.Command.{Command}
 use Rattle.cdp_messages.specs.declared.command.Command.TheVariants.{DomEnable, DomDisable, CssEnable, CssDisable, AskDom, EditDom, AskCss}
 use Rattle.cdp_messages.specs.declared.command.Command.TheVariants.{EditCss, MarkUndoableState, Undo, Redo, SetBreakpoint, RemoveBreakpoint}
-use Rattle.cdp_messages.specs.declared.command.Command.TheVariants.{ReplayLoad, ReplayAct}
+use Rattle.cdp_messages.specs.declared.command.Command.TheVariants.{ReplayLoad, ReplayAct, AskSearch}
 use Rattle.cdp_messages.specs.declared.dom_ask.DomAsk.TheVariants as ask
 use Rattle.cdp_messages.specs.declared.dom_edit.DomEdit.TheVariants as tree
 use Rattle.cdp_messages.specs.declared.css_ask.CssAsk.TheVariants as css
 use Rattle.cdp_messages.specs.declared.css_edit.CssEdit.TheVariants as style
+use Rattle.cdp_messages.specs.declared.search_ask.SearchAsk.TheVariants as search
 use Rattle.cdp_messages.specs.declared.command.Param.{Param}
 use Rattle.cdp_messages.specs.declared.command.Param.TheVariants as param
 use Rattle.cdp_messages.specs.declared.command.Why.{Why}
@@ -36,7 +37,7 @@ use Rattle.cdp_messages.specs.Methods.{known_method}
 use Rattle.cdp_messages.specs.Refusals.{param_name}
 use Rattle.cdp_messages.specs.Parameters.{text_edit, range_parameter, needed, allowed, depth_fields, children_fields, path_field}
 use Rattle.cdp_messages.specs.Parameters.{serials_field, node_field, query_fields, describe_fields, sheet_field, edits_field, watch_fields}
-use Rattle.cdp_messages.specs.Parameters.{reads_with, command_by}
+use Rattle.cdp_messages.specs.Parameters.{search_fields, results_fields, search_field, reads_with, command_by}
 use Rattle.cdp_messages.specs.Asked.{json_of, of_method, command_for, unless_session, or_bad_request, params_of, command_of, method_in}
 use Rattle.cdp_messages.specs.Asked.{command_in, asked_by, with_id, asked_in, asked_value, asked}
 use Rattle.back_end.specs.Laws.{most_edits, edits_asked}
@@ -250,6 +251,12 @@ edits-by method.SetMediaText ms c is = edits-two param.StyleSheetId text
     (needed param.Range range_parameter (needed param.Text text no_lookups)) (λ x. EditCss (style.SetMediaText x.0 x.1.0 x.1.1.0))
     ms c
     (λ x. omega arith) is
+edits-by method.PerformSearch ms c is =
+    edits-none search_fields (λ x. AskSearch (search.PerformSearch x.0 x.1.0)) ms c (λ x. omega arith) is
+edits-by method.GetSearchResults ms c is =
+    edits-none results_fields (λ x. AskSearch (search.GetSearchResults x.0 x.1.0 x.1.1.0)) ms c (λ x. omega arith) is
+edits-by method.DiscardSearchResults ms c is =
+    edits-none search_field (λ x. AskSearch (search.DiscardSearchResults x.0)) ms c (λ x. omega arith) is
 edits-by method.SetBreakpoint ms c is = edits-none watch_fields (λ x. SetBreakpoint x.0 x.1.0) ms c (λ x. omega arith) is
 edits-by method.RemoveBreakpoint ms c is = edits-none watch_fields (λ x. RemoveBreakpoint x.0 x.1.0) ms c (λ x. omega arith) is
 edits-by method.ReplayLoad ms c is = edits-bare (ReplayLoad (object ms)) c ms (omega arith) is

@@ -12,7 +12,7 @@ use Rattle.node_binding.proofs.StartLemmas.{count-alone}
 use Rattle.cdp_messages.specs.declared.command.Command.{Command}
 use Rattle.cdp_messages.specs.declared.command.Command.TheVariants.{DomEnable, DomDisable, CssEnable, CssDisable, AskDom, EditDom, AskCss}
 use Rattle.cdp_messages.specs.declared.command.Command.TheVariants.{EditCss, MarkUndoableState, Undo, Redo, SetBreakpoint, RemoveBreakpoint}
-use Rattle.cdp_messages.specs.declared.command.Command.TheVariants.{ReplayLoad, ReplayAct}
+use Rattle.cdp_messages.specs.declared.command.Command.TheVariants.{ReplayLoad, ReplayAct, AskSearch}
 use Rattle.cdp_messages.specs.declared.command.Asked.{Asked}
 use Rattle.cdp_messages.specs.declared.command.Refused.{Refused}
 use Rattle.cdp_messages.specs.declared.command.Why.{Why}
@@ -22,19 +22,22 @@ use Rattle.cdp_messages.specs.declared.dom_ask.DomAsk.{DomAsk}
 use Rattle.cdp_messages.specs.declared.dom_ask.DomAsk.TheVariants as ask
 use Rattle.cdp_messages.specs.declared.down.ReplyBody.TheVariants.{Nothing}
 use Rattle.cdp_messages.specs.Asked.{asked, method_name, fits_command}
-use Rattle.cdp_messages.specs.DomAsks.{ask_name, fits_ask}
+use Rattle.cdp_messages.specs.DomAsks.{ask_name}
 use Rattle.client_views.specs.Views.{ShownSheet}
 use Rattle.client_views.specs.Moves.{replied, all_off, failed, CanBeTold, Course, ends, goes}
+use Rattle.cdp_messages.specs.declared.search_ask.SearchAsk.{SearchAsk}
+use Rattle.cdp_messages.specs.declared.search_ask.SearchAsk.TheVariants as search
+use Rattle.cdp_messages.specs.SearchIds.{search_in}
 use Rattle.cdp_messages.specs.declared.css_ask.CssAsk.{CssAsk}
 use Rattle.cdp_messages.specs.declared.css_ask.CssAsk.TheVariants as css
 use Rattle.cdp_messages.specs.declared.css_edit.CssEdit.{CssEdit}
 use Rattle.cdp_messages.specs.declared.css_edit.CssEdit.TheVariants as style
 use Rattle.css_agent.specs.EditLaws.{HasEditTexts, css_edit_name}
-use Rattle.dom_agent.specs.Laws.{session_outcome, CanTell, session_view as seen_by}
+use Rattle.dom_agent.specs.Laws.{session_outcome, CanTell, has_depth, IsReplyTo, session_view as seen_by}
 use Rattle.dom_agent.specs.Keepers.{session_keeper}
 use Rattle.dom_agent.specs.Requests.{Outcome, shows_root, served, refused, known_node, named_serial, state_after, moves_of}
 use Rattle.dom_agent.proofs.RepliedLemmas.{description-keeps}
-use Rattle.dom_agent.proofs.OutcomeLemmas.{OutcomeGoes, either_ask, root-opened, asks-go, stays_session, draws_few}
+use Rattle.dom_agent.proofs.OutcomeLemmas.{OutcomeGoes, either_ask, root-opened, asks-go, depth-fits, stays_session, draws_few}
 use Rattle.dom_agent.proofs.MoveLemmas.{steps_are_moves, replies_answer}
 use Rattle.dom_breakpoints.specs.Watched.{Watched, with_watch, without_watch}
 use Rattle.cdp_messages.specs.declared.dom_edit.DomEdit.{DomEdit}
@@ -48,6 +51,7 @@ use Rattle.back_end.specs.States.{State, page_nodes, book_in, sheets_shown, view
 use Rattle.back_end.specs.OwnMethods.{load_asked, act_asked}
 use Rattle.back_end.specs.Steps.{Step, with_client, refusing, client_reset, moves_come, Turn, acts, loads, turn_step, ask_needs_on}
 use Rattle.back_end.specs.Steps.{needs_on, needs_css, turns_on, client_served, agent_step, css_step, serial_now, watch_step}
+use Rattle.back_end.specs.Steps.{results_asked, results_step, search_step}
 use Rattle.back_end.specs.Steps.{own_step, sheet_edit_step, served_step, command_step, asked_step}
 use Rattle.back_end.specs.Texts.{HasServedTexts}
 use Rattle.back_end.specs.Laws.{reply_ids, MayAnswer, HasRoom, StepsWell, KeepsAtMost, most_splices, most_edits, edits_asked, MayAnswerAll}
@@ -57,7 +61,8 @@ use Rattle.back_end.proofs.OwnTexts.{AskedTexts, frame-texts}
 use Rattle.back_end.proofs.OwnLemmas.{load-turn, act-turn, answering-well, answering-once}
 use Rattle.back_end.proofs.TurnAnswers.{AreEvents, events-answer, events-may, events-text, may-append, texts-append, come-are-events}
 use Rattle.back_end.proofs.TurnAnswers.{turn-events}
-use Rattle.back_end.proofs.AnswerLemmas.{flat-append, outcome-answers, outcome-may, outcome-text}
+use Rattle.back_end.proofs.AnswerLemmas.{flat-append, openings-may, outcome-answers, outcome-may, outcome-text}
+use Rattle.back_end.proofs.SearchSteps.{perform-answered, discard-answered}
 use Rattle.back_end.proofs.CssAnswers.{css-well, css-once, css-may, css-text}
 use Rattle.back_end.proofs.SheetSteps.{css-on-well, css-off-well}
 use Rattle.back_end.proofs.SpliceSteps.{sheet-edit-answered}
@@ -187,7 +192,7 @@ served-pushed ask (shows_root w b) state = refl
 served-pushed ask (served p body) state = refl
 served-pushed ask (refused why) state = refl
 
-agent-well : (id : ℕ) (ask : DomAsk) (state : State) → HoldsNow state → HasRoom state → is_counted id ≡ true → fits_ask ask ≡ true
+pub agent-well : (id : ℕ) (ask : DomAsk) (state : State) → HoldsNow state → HasRoom state → is_counted id ≡ true → has_depth ask ≡ true
     → (ask_needs_on ask && not state.client.dom_on) ≡ false → Well state (agent_step id ask state) 100000 0 0
 agent-well id ask state is room small fits on =
     let page = state.side.page in
@@ -206,6 +211,7 @@ agent-well id ask state is room small fits on =
       few_ids = omega (arith, few, count, served-pushed ask o state);
       few_serials = omega arith;
       few_sheets = omega arith;
+      given = refl;
     }
 
 agent-recalls : (ask : DomAsk) (o : Outcome Session) (state : State) → HasHistory state
@@ -240,6 +246,7 @@ enables-well id state is room small =
       few_ids = omega arith;
       few_serials = omega arith;
       few_sheets = omega arith;
+      given = refl;
     }
 
 pub disabled-is : (state : State) → HoldsNow state → HoldsNow (with_client (client_reset false state.client) state)
@@ -265,6 +272,7 @@ disables-well id state is room small =
       few_ids = omega arith;
       few_serials = omega arith;
       few_sheets = omega arith;
+      given = refl;
     }
 
 -- a refusal changes nothing
@@ -378,6 +386,36 @@ asks-for (tree.CopyTo node target before) = λ id. (refl, refl)
 needs-both-on : (ask : CssAsk) (on : Bool) → (needs_css (AskCss ask) && not on) ≡ false → (true && not on) ≡ false
 needs-both-on ask on met = subst (λ (d : Domains). (needs_both d && not on) ≡ false) (styles-need-both ask) met
 
+-- what `DOM.getSearchResults` comes to answers as a push by serials does
+results-may : (id : ℕ) (serials : List ℕ) (o : Outcome Session) → IsReplyTo (ask.PushBySerials serials) o
+    → MayAnswerAll (codes "DOM.getSearchResults") (moves_of id o)
+results-may id serials (shows_root w b) is = absurd cc
+results-may id serials (served p body) is = openings-may (codes "DOM.getSearchResults") p.shown _ ((is, refl), tt)
+results-may id serials (refused why) is = (tt, tt)
+
+-- what is asked of searches, where DOM is on
+serves-search : (id : ℕ) (a : SearchAsk) (state : State) → IsState state → HasRoom state → is_counted id ≡ true
+    → (needs_on (AskSearch a) && not state.client.dom_on) ≡ false → Serves state (search_step id a state) id (AskSearch a) 0
+serves-search id (search.PerformSearch query shadow) state is room small on =
+    let c : Command = AskSearch (search.PerformSearch query shadow) in
+    perform-answered (method_name c) (text_asked c) id state is room small query (λ s n. (refl, refl))
+serves-search id (search.GetSearchResults named from to) state is room small on = at (results_asked named from to state)
+  where
+    at : (r : Result (List ℕ) Why)
+        → Serves state (results_step id r state) id (AskSearch (search.GetSearchResults named from to)) 0
+    at (Err why) = serves-refusal id why (AskSearch (search.GetSearchResults named from to)) 0 state is room small
+    at (Ok serials) =
+        let a : DomAsk = ask.PushBySerials serials in
+        let o : Outcome Session = session_outcome state.side.page a state.client.session in
+        serves-plain {ids = 100000} (AskSearch (search.GetSearchResults named from to)) (omega arith)
+        (more (omega arith) (omega arith) (omega arith) (agent-well id a state is.now room small refl on))
+        (agent-recalls a o state is.history) (outcome-answers id o)
+        (results-may id serials o (replies_answer state.side.page a state.client.session is.now.page refl is.now.session))
+        (outcome-text (text_asked (AskSearch (search.GetSearchResults named from to))) id o)
+serves-search id (search.DiscardSearchResults named) state is room small on =
+    let c : Command = AskSearch (search.DiscardSearchResults named) in
+    discard-answered (method_name c) (text_asked c) id state is room small (refl, refl) (search_in named)
+
 serves : (id : ℕ) (c : Command) (state : State) → fits_command c ≡ true → HasServedTexts c → IsState state → HasRoom state
     → is_counted id ≡ true → Serves state (command_step id c state) id c (most_edits c)
 serves id DomEnable state fits texts is room small =
@@ -393,16 +431,18 @@ serves id DomDisable state fits texts is room small =
 serves id (AskDom ask) state fits texts is room small =
     let c : Command = AskDom ask in
     command-serves id c 0 state is room small (λ dom css. serves-plain {ids = 100000} c (omega arith)
-    (more (omega arith) (omega arith) (omega arith) (agent-well id ask state is.now room small fits dom))
+    (more (omega arith) (omega arith) (omega arith) (agent-well id ask state is.now room small (depth-fits ask fits) dom))
     (agent-recalls ask (session_outcome state.side.page ask state.client.session) state is.history)
     (outcome-answers id (session_outcome state.side.page ask state.client.session))
     (outcome-may id ask (session_outcome state.side.page ask state.client.session)
-    (replies_answer state.side.page ask state.client.session is.now.page fits is.now.session))
+    (replies_answer state.side.page ask state.client.session is.now.page (depth-fits ask fits) is.now.session))
     (outcome-text (text_asked c) id (session_outcome state.side.page ask state.client.session)))
 serves id (EditDom edit) state fits texts is room small =
     let c : Command = EditDom edit in
     command-serves id c 2 state is room small
     (λ dom css. tree-edit-answered (method_name c) (text_asked c) id edit state texts (asks-for edit) is room small)
+serves id (AskSearch a) state fits texts is room small =
+    command-serves id (AskSearch a) 0 state is room small (λ dom css. serves-search id a state is room small dom)
 serves id MarkUndoableState state fits texts is room small =
     let c : Command = MarkUndoableState in
     command-serves id c 0 state is room small

@@ -28,6 +28,7 @@ steps-well few least well recalls = record {
   serials = well.few_serials;
   sheets = well.few_sheets;
   trees = omega (arith, recalls.few_trees, least);
+  searches = omega (arith, well.given);
 }
 
 -- numbers are left after a step that draws few

@@ -23,6 +23,8 @@ pub mod CommandTexts
 pub mod OwnTexts
 pub mod OwnLemmas
 pub mod SeatLemmas
+pub mod SearchSteps
+pub mod SearchSeats
 pub mod PushSeats
 pub mod SheetSeats
 pub mod WatchSeats

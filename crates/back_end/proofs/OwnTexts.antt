@@ -19,10 +19,12 @@ use Rattle.page_forms.proofs.NodeTexts.{object_utf8}
 use Rattle.cdp_messages.specs.declared.command.Asked.{Asked}
 use Rattle.cdp_messages.specs.declared.command.Command.{Command}
 use Rattle.cdp_messages.specs.declared.command.Command.TheVariants.{AskDom, EditDom, AskCss, EditCss, SetBreakpoint, RemoveBreakpoint}
+use Rattle.cdp_messages.specs.declared.command.Command.TheVariants.{AskSearch}
 use Rattle.cdp_messages.specs.declared.dom_ask.DomAsk.TheVariants as ask
 use Rattle.cdp_messages.specs.declared.dom_edit.DomEdit.TheVariants as tree
 use Rattle.cdp_messages.specs.declared.css_ask.CssAsk.TheVariants as css
 use Rattle.cdp_messages.specs.declared.css_edit.CssEdit.TheVariants as style
+use Rattle.cdp_messages.specs.declared.search_ask.SearchAsk.TheVariants as search
 use Rattle.cdp_messages.specs.declared.command.Refused.{Refused}
 use Rattle.cdp_messages.specs.declared.command.Why.{Why}
 use Rattle.cdp_messages.specs.declared.method.Method.{Method}
@@ -158,6 +160,9 @@ by-method method.AddRule ms u = given add_rule_fields (λ x. EditCss (style.AddR
     (λ x. IsUtf8 x.0 × (IsUtf8 x.1.0 × (Any x.1.1.0 × Any x.1.1.1))) ms u rule-gives (λ x g. g.1.0)
 by-method method.SetMediaText ms u = given set_media_fields (λ x. EditCss (style.SetMediaText x.0 x.1.0 x.1.1.0))
     (λ x. IsUtf8 x.0 × (Any x.1.0 × OneText x.1.1)) ms u media-gives (λ x g. g.1.1.0)
+by-method method.PerformSearch ms u = brings-none _ (λ x. AskSearch (search.PerformSearch x.0 x.1.0)) (λ x. tt)
+by-method method.GetSearchResults ms u = brings-none _ (λ x. AskSearch (search.GetSearchResults x.0 x.1.0 x.1.1.0)) (λ x. tt)
+by-method method.DiscardSearchResults ms u = brings-none _ (λ x. AskSearch (search.DiscardSearchResults x.0)) (λ x. tt)
 by-method method.SetBreakpoint ms u = brings-none _ (λ x. SetBreakpoint x.0 x.1.0) (λ x. tt)
 by-method method.RemoveBreakpoint ms u = brings-none _ (λ x. RemoveBreakpoint x.0 x.1.0) (λ x. tt)
 by-method method.ReplayLoad ms u = u

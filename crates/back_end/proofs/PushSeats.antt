@@ -52,9 +52,9 @@ push-same-id serial state b is begun stands there =
 
 pub push-stands : (d d1 : Desk) (s : PageSide) (state : State) (serial : ℕ) (page : PageValue) → DeskStandsFor d s state
     → CanPush serial state → page ≡ s.page
-    → d1.is_on ≡ d.is_on → d1.css ≡ d.css → d1.watches ≡ d.watches → d1.agent ≡ (bound_push serial page d.agent).state
+    → d1.is_on ≡ d.is_on → d1.css ≡ d.css → d1.watches ≡ d.watches → d1.searches ≡ d.searches → d1.agent ≡ (bound_push serial page d.agent).state
     → DeskStandsFor d1 s (push_step serial state).state
-push-stands d d1 s state serial page stands can page_is on_is css_is watches_is agent_is =
+push-stands d d1 s state serial page stands can page_is on_is css_is watches_is searches_is agent_is =
     let begun : IsBegun state.client.session = is-begun state.client.session can.begun in
     let alike = push-alike serial state d.agent stands.now begun stands.stands in
     let same : d1.agent ≡ (bound_push serial state.side.page d.agent).state = agent_is ∙ ap
@@ -69,6 +69,7 @@ push-stands d d1 s state serial page stands can page_is on_is css_is watches_is 
       css_is = css_is ∙ stands.css_is;
       stands = subst (λ (a : BindingValue). Stands (page_nodes state) (push_of serial state).state a) (sym same) alike.stands;
       watches_are = watches_is ∙ stands.watches_are;
+      searches_are = searches_is ∙ stands.searches_are;
     }
 
 pub push-sent : (d : Desk) (s : PageSide) (state : State) (serial : ℕ) (page : PageValue) (old new : List ℕ) → DeskStandsFor d s state

@@ -131,4 +131,5 @@ push-well serial state is low begun =
       few_ids = omega (arith, few, count);
       few_serials = omega arith;
       few_sheets = omega arith;
+      given = refl;
     }

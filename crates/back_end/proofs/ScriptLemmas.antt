@@ -53,9 +53,9 @@ left-is e page w state page_is is = ap (λ (p : PageValue). watches_left e p.tre
 pub edit-stands : (d d1 : Desk) (s s1 : PageSide) (state : State) (e : TreeEdit) → DeskStandsFor d s state
     → CanApply s.page.next e s.page.tree → EditHasTexts e → d.agent.next < 2 ^ 51 → s.page.next < 2 ^ 51 → s.sheets.next < 2 ^ 51
     → s1.page ≡ after e s.page → s1.sheets ≡ s.sheets → d1.is_on ≡ d.is_on → d1.css ≡ d.css
-    → d1.watches ≡ watches_left e s.page.tree d.watches → d1.agent ≡ (binding_edited e s.page d.agent).state
+    → d1.watches ≡ watches_left e s.page.tree d.watches → d1.searches ≡ d.searches → d1.agent ≡ (binding_edited e s.page d.agent).state
     → DeskStandsFor d1 s1 (edit_step e state).state
-edit-stands d d1 s s1 state e stands can texts ids serials sheets page_is sheets_is on_is css_is watches_is agent_is =
+edit-stands d d1 s s1 state e stands can texts ids serials sheets page_is sheets_is on_is css_is watches_is searches_is agent_is =
     let page = state.side.page in
     let w = state.client.session in
     let same : s.page ≡ page = stands.page_is in
@@ -80,6 +80,7 @@ edit-stands d d1 s s1 state e stands can texts ids serials sheets page_is sheets
       on_is = on_is ∙ stands.on_is;
       css_is = css_is ∙ stands.css_is;
       watches_are = watches_is ∙ left-is e s.page d.watches state same stands.watches_are;
+      searches_are = searches_is ∙ stands.searches_are;
       stands = subst (λ a. Stands (alone (after e page).tree) (session_edited e page w).state a)
           (sym (agent_is ∙ ap (λ (p : PageValue). (binding_edited e p d.agent).state) same)) bound.stands;
     }
@@ -137,6 +138,7 @@ drawn-stands d s s1 state page stands is sheets_is valid same = record {
   on_is = stands.on_is;
   css_is = stands.css_is;
   watches_are = stands.watches_are;
+  searches_are = stands.searches_are;
   stands = subst (λ tree. Stands (alone tree) state.client.session d.agent) (sym same) stands.stands;
 }
 
@@ -331,10 +333,10 @@ pub in_none : {T E : Type 0} (result : Result T E) (P : Type 0) (fault : E) → 
 in_none result P fault is = subst (λ r. OnOk r P) (sym is) tt
 
 -- a desk and a side that stayed as they were
-pub stayed-stands : (d d1 : Desk) (s s1 : PageSide) (state : State) → d1.is_on ≡ d.is_on → d1.css ≡ d.css → d1.watches ≡ d.watches
+pub stayed-stands : (d d1 : Desk) (s s1 : PageSide) (state : State) → d1.is_on ≡ d.is_on → d1.css ≡ d.css → d1.watches ≡ d.watches → d1.searches ≡ d.searches
     → d1.agent ≡ d.agent → s1.page ≡ s.page → s1.sheets ≡ s.sheets
     → DeskStandsFor d s state → DeskStandsFor d1 s1 state
-stayed-stands d d1 s s1 state on_is css_is watches_is agent_is page_is sheets_is stands = record {
+stayed-stands d d1 s s1 state on_is css_is watches_is searches_is agent_is page_is sheets_is stands = record {
   now = stands.now;
   page_is = page_is ∙ stands.page_is;
   sheets_are = ap (λ (b : NumberedBook). b.entries) sheets_is ∙ stands.sheets_are;
@@ -343,5 +345,6 @@ stayed-stands d d1 s s1 state on_is css_is watches_is agent_is page_is sheets_is
   on_is = on_is ∙ stands.on_is;
   css_is = css_is ∙ stands.css_is;
   watches_are = watches_is ∙ stands.watches_are;
+  searches_are = searches_is ∙ stands.searches_are;
   stands = subst (λ a. Stands (page_nodes state) state.client.session a) (sym agent_is) stands.stands;
 }

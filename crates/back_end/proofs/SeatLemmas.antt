@@ -6,17 +6,17 @@ use Rattle.page_tree.specs.Pages.{PageValue}
 use Rattle.node_binding.specs.Bindings.{Stands, cleared}
 use Rattle.node_binding.specs.Sessions.{Session, reset}
 use Rattle.node_binding.proofs.StandsLemmas.{Stands-reset}
-use Rattle.cdp_messages.specs.DomAsks.{fits_ask}
 use Rattle.client_views.specs.Moves.{frames_of_moves}
 use Rattle.cdp_messages.specs.declared.dom_ask.DomAsk.{DomAsk}
 use Rattle.cdp_messages.specs.declared.dom_ask.DomAsk.TheVariants.{GetDocument, RequestChildNodes, PushByPath, PushBySerials, QuerySelector}
 use Rattle.cdp_messages.specs.declared.dom_ask.DomAsk.TheVariants.{QuerySelectorAll, GetAttributes, DescribeNode}
 use Rattle.cdp_messages.specs.declared.command.Why.TheVariants.{DomOff, CssOff}
-use Rattle.dom_agent.specs.Laws.{session_outcome, binding_outcome}
+use Rattle.dom_agent.specs.Laws.{session_outcome, binding_outcome, has_depth}
 use Rattle.dom_agent.specs.Requests.{Outcome, shows_root, served, refused, state_after, answer}
 use Rattle.dom_agent.proofs.OutcomeLemmas.{stays_session}
 use Rattle.dom_agent.proofs.KeeperLemmas.{stays_bound, same_moves}
 use Rattle.dom_breakpoints.specs.Watched.{unwatched}
+use Rattle.dom_search.specs.Searches.{forgotten}
 use Rattle.undo_marks.specs.Marks.{Marks}
 use Rattle.undo_marks.specs.Changes.{HistoryEntry as Entry}
 use Rattle.undo_marks.specs.Saved.{Saved}
@@ -61,6 +61,7 @@ marks-stands marks d s state stands = record {
   on_is = stands.on_is;
   css_is = stands.css_is;
   watches_are = stands.watches_are;
+  searches_are = stands.searches_are;
   stands = stands.stands;
 }
 
@@ -121,17 +122,22 @@ served-watches c (shows_root w b) client = refl
 served-watches c (served p body) client = refl
 served-watches c (refused why) client = refl
 
+served-searches : (c : DomAsk) (o : Outcome Session) (client : Client) → client.searches ≡ (client_served c o client).searches
+served-searches c (shows_root w b) client = refl
+served-searches c (served p body) client = refl
+served-searches c (refused why) client = refl
+
 served-session : (c : DomAsk) (o : Outcome Session) (client : Client) → state_after client.session o ≡ (client_served c o client).session
 served-session c (shows_root w b) client = refl
 served-session c (served p body) client = refl
 served-session c (refused why) client = refl
 
 pub asked-stands : (d d1 : Desk) (s s1 : PageSide) (state : State) (id : ℕ) (c : DomAsk) (page : PageValue)
-    → fits_ask c ≡ true → false ≡ (ask_needs_on c && not d.is_on) → DeskStandsFor d s state
+    → has_depth c ≡ true → false ≡ (ask_needs_on c && not d.is_on) → DeskStandsFor d s state
     → s1.page ≡ s.page → s1.sheets ≡ s.sheets → page ≡ s.page → d1.is_on ≡ (d.is_on || turns_on c) → d1.css ≡ d.css
-    → d1.watches ≡ d.watches → d1.agent ≡ state_after d.agent (binding_outcome page c d.agent)
+    → d1.watches ≡ d.watches → d1.searches ≡ d.searches → d1.agent ≡ state_after d.agent (binding_outcome page c d.agent)
     → DeskStandsFor d1 s1 (command_step id (AskDom c) state).state
-asked-stands d d1 s s1 state id c page fits is_off stands same_side sheets_is same_page on_is css_is watches_is agent_is =
+asked-stands d d1 s s1 state id c page fits is_off stands same_side sheets_is same_page on_is css_is watches_is searches_is agent_is =
     let w = state.client.session in
     let on : (ask_needs_on c && not state.client.dom_on) ≡ false = same-on c d.is_on state.client.dom_on false stands.on_is is_off in
     let o : Outcome Session = session_outcome state.side.page c w in
@@ -150,12 +156,13 @@ asked-stands d d1 s s1 state id c page fits is_off stands same_side sheets_is sa
       on_is = on_is ∙ on-after c state.side.page state.client d.is_on stands.on_is;
       css_is = css_is ∙ stands.css_is ∙ served-css c o state.client;
       watches_are = watches_is ∙ stands.watches_are ∙ served-watches c o state.client;
+      searches_are = searches_is ∙ stands.searches_are ∙ served-searches c o state.client;
       stands = subst (λ z. Stands (page_nodes state) z d1.agent) (served-session c o state.client)
           (subst (λ a. Stands (page_nodes state) (state_after w o) a) agent_now bound);
     })
 
 pub asked-sent : (d : Desk) (s : PageSide) (state : State) (id : ℕ) (c : DomAsk) (page : PageValue) (old new : List ℕ)
-    → fits_ask c ≡ true → false ≡ (ask_needs_on c && not d.is_on) → DeskStandsFor d s state → page ≡ s.page
+    → has_depth c ≡ true → false ≡ (ask_needs_on c && not d.is_on) → DeskStandsFor d s state → page ≡ s.page
     → new ≡ old ++ answer id (binding_outcome page c d.agent) → new ≡ old ++ frames_of_moves (command_step id (AskDom c) state).moves
 asked-sent d s state id c page old new fits is_off stands same_page sent =
     let on : (ask_needs_on c && not state.client.dom_on) ≡ false = same-on c d.is_on state.client.dom_on false stands.on_is is_off in
@@ -167,9 +174,9 @@ asked-sent d s state id c page old new fits is_off stands same_page sent =
 -- ---- the seat's own commands
 
 pub enabled-stands : (d d1 : Desk) (s s1 : PageSide) (state : State) (id : ℕ) → DeskStandsFor d s state → s1.page ≡ s.page
-    → s1.sheets ≡ s.sheets → d1.is_on ≡ true → d1.css ≡ d.css → d1.watches ≡ d.watches → d1.agent ≡ d.agent
+    → s1.sheets ≡ s.sheets → d1.is_on ≡ true → d1.css ≡ d.css → d1.watches ≡ d.watches → d1.searches ≡ d.searches → d1.agent ≡ d.agent
     → DeskStandsFor d1 s1 (served_step id DomEnable state).state
-enabled-stands d d1 s s1 state id stands same sheets_is on css_is watches_is agent_is = record {
+enabled-stands d d1 s s1 state id stands same sheets_is on css_is watches_is searches_is agent_is = record {
   now = enabled-is state stands.now;
   page_is = same ∙ stands.page_is;
   sheets_are = ap (λ (b : NumberedBook). b.entries) sheets_is ∙ stands.sheets_are;
@@ -178,6 +185,7 @@ enabled-stands d d1 s s1 state id stands same sheets_is on css_is watches_is age
   on_is = on;
   css_is = css_is ∙ stands.css_is;
   watches_are = watches_is ∙ stands.watches_are;
+  searches_are = searches_is ∙ stands.searches_are;
   stands = subst (λ a. Stands (page_nodes state) state.client.session a) (sym agent_is) stands.stands;
 }
 
@@ -191,8 +199,8 @@ and-false false = refl
 
 pub disabled-stands : (d d1 : Desk) (s s1 : PageSide) (state : State) (id : ℕ) → DeskStandsFor d s state → d.is_on ≡ true
     → s1.page ≡ s.page → s1.sheets ≡ s.sheets → d1.is_on ≡ false
-    → d1.css ≡ false → d1.watches ≡ unwatched → d1.agent ≡ cleared d.agent → DeskStandsFor d1 s1 (command_step id DomDisable state).state
-disabled-stands d d1 s s1 state id stands was same sheets_is off css_off watches_is agent_is =
+    → d1.css ≡ false → d1.watches ≡ unwatched → d1.searches ≡ forgotten d.searches → d1.agent ≡ cleared d.agent → DeskStandsFor d1 s1 (command_step id DomDisable state).state
+disabled-stands d d1 s s1 state id stands was same sheets_is off css_off watches_is searches_is agent_is =
     subst (λ (done : Step). DeskStandsFor d1 s1 done.state)
     (sym (on-is id DomDisable state (disable-on d.is_on state.client.dom_on stands.on_is was) refl)) (record {
       now = disabled-is state stands.now;
@@ -203,6 +211,7 @@ disabled-stands d d1 s s1 state id stands was same sheets_is off css_off watches
       on_is = off;
       css_is = css_off ∙ sym (and-false state.client.css_on);
       watches_are = watches_is;
+      searches_are = searches_is ∙ ap forgotten stands.searches_are;
       stands = subst (λ a. Stands (page_nodes state) (reset state.client.session) a) (sym agent_is)
           (Stands-reset (page_nodes state) (page_nodes state) state.client.session d.agent stands.stands);
     })

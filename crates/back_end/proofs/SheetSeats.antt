@@ -46,6 +46,7 @@ use Rattle.media_rules.specs.declared.medium.Medium.{Medium}
 use Rattle.back_end.specs.States.{State, page_nodes, book_in, styled_in}
 use Rattle.back_end.specs.Plans.{Deed, restyles, size_fault, drop_fault, replace_fault, dropping, replacing}
 use Rattle.dom_breakpoints.specs.Watched.{unwatched}
+use Rattle.dom_search.specs.Searches.{forgotten}
 use Rattle.cdp_messages.specs.declared.command.Command.{Command}
 use Rattle.cdp_messages.specs.declared.command.Command.TheVariants.{CssEnable, CssDisable, AskCss}
 use Rattle.back_end.specs.Steps.{Step, refusing, with_crossed, planned_step, act_step, sheet_step, sheet_move, moves_gone, moves_come}
@@ -118,9 +119,9 @@ css-taken command d s state stands was = ap (λ b. needs_css command && not b) (
 -- ---- `CSS.enable` and `CSS.disable`
 
 pub css-enabled-stands : (d d1 : Desk) (s : PageSide) (state : State) (id : ℕ) → DeskStandsFor d s state → d.is_on ≡ true
-    → d1.is_on ≡ d.is_on → d1.css ≡ true → d1.watches ≡ d.watches → d1.agent ≡ d.agent
+    → d1.is_on ≡ d.is_on → d1.css ≡ true → d1.watches ≡ d.watches → d1.searches ≡ d.searches → d1.agent ≡ d.agent
     → DeskStandsFor d1 s (command_step id CssEnable state).state
-css-enabled-stands d d1 s state id stands was on_is css_is watches_is agent_is =
+css-enabled-stands d d1 s state id stands was on_is css_is watches_is searches_is agent_is =
     subst (λ (done : Step). DeskStandsFor d1 s done.state)
     (sym (on-is id CssEnable state (dom-on CssEnable d s state stands was) refl)) (record {
       now = css-on-is state stands.now (sym stands.on_is ∙ was);
@@ -131,6 +132,7 @@ css-enabled-stands d d1 s state id stands was on_is css_is watches_is agent_is =
       on_is = on_is ∙ stands.on_is;
       css_is = css_is;
       watches_are = watches_is ∙ stands.watches_are;
+      searches_are = searches_is ∙ stands.searches_are;
       stands = subst (λ a. Stands (page_nodes state) state.client.session a) (sym agent_is) stands.stands;
     })
 
@@ -152,9 +154,9 @@ css-enabled-sent d s state id book old middle new stands was book_is first last 
     (sym (on-is id CssEnable state (dom-on CssEnable d s state stands was) refl))
 
 pub css-disabled-stands : (d d1 : Desk) (s : PageSide) (state : State) (id : ℕ) → DeskStandsFor d s state → d.is_on ≡ true → d.css ≡ true
-    → d1.is_on ≡ d.is_on → d1.css ≡ false → d1.watches ≡ d.watches → d1.agent ≡ d.agent
+    → d1.is_on ≡ d.is_on → d1.css ≡ false → d1.watches ≡ d.watches → d1.searches ≡ d.searches → d1.agent ≡ d.agent
     → DeskStandsFor d1 s (command_step id CssDisable state).state
-css-disabled-stands d d1 s state id stands was css_was on_is css_is watches_is agent_is =
+css-disabled-stands d d1 s state id stands was css_was on_is css_is watches_is searches_is agent_is =
     subst (λ (done : Step). DeskStandsFor d1 s done.state)
     (sym (on-is id CssDisable state (dom-on CssDisable d s state stands was) (css-taken CssDisable d s state stands css_was)))
     (record {
@@ -166,6 +168,7 @@ css-disabled-stands d d1 s state id stands was css_was on_is css_is watches_is a
       on_is = on_is ∙ stands.on_is;
       css_is = css_is;
       watches_are = watches_is ∙ stands.watches_are;
+      searches_are = searches_is ∙ stands.searches_are;
       stands = subst (λ a. Stands (page_nodes state) state.client.session a) (sym agent_is) stands.stands;
     })
 
@@ -312,6 +315,7 @@ came-stands d s s1 state origin text stands utf8 fits page_is sheets_is =
       on_is = stands.on_is;
       css_is = stands.css_is;
       watches_are = stands.watches_are;
+      searches_are = stands.searches_are;
       stands = stands.stands;
     }
 
@@ -363,6 +367,7 @@ left-stands d s s1 state number stands there page_is sheets_is = at (entry_of nu
         on_is = stands.on_is;
         css_is = stands.css_is;
         watches_are = stands.watches_are;
+        searches_are = stands.searches_are;
         stands = stands.stands;
       }
 
@@ -581,9 +586,9 @@ pub load-stands : (d d1 : Desk) (s s1 : PageSide) (state : State) (page : Loaded
     → PageHasTexts page
     → s1.page ≡ loaded s.page.next page.nodes → s1.sheets.entries ≡ as_book (numbered_sheets s.sheets.next page.sheets)
     → s1.sheets.next ≡ s.sheets.next + length page.sheets → s1.sheets.medium ≡ page.medium
-    → d1.is_on ≡ d.is_on → d1.css ≡ d.css → d1.watches ≡ unwatched → d1.agent ≡ cleared d.agent
+    → d1.is_on ≡ d.is_on → d1.css ≡ d.css → d1.watches ≡ unwatched → d1.searches ≡ forgotten d.searches → d1.agent ≡ cleared d.agent
     → DeskStandsFor d1 s1 (load_step page state).state
-load-stands d d1 s s1 state page stands can texts page_is sheets_are next_is medium_is on_is css_is watches_is agent_is = record {
+load-stands d d1 s s1 state page stands can texts page_is sheets_are next_is medium_is on_is css_is watches_is searches_is agent_is = record {
   now = load-is state page stands.now can texts;
   page_is = page_is ∙ ap (λ (p : PageValue). loaded p.next page.nodes) stands.page_is;
   sheets_are = sheets_are ∙ ap (λ n. as_book (numbered_sheets n page.sheets)) stands.next_is;
@@ -592,6 +597,7 @@ load-stands d d1 s s1 state page stands can texts page_is sheets_are next_is med
   on_is = on_is ∙ stands.on_is;
   css_is = css_is ∙ stands.css_is ∙ both-on state.client.css_on state.client.dom_on stands.now.css_off;
   watches_are = watches_is;
+  searches_are = searches_is ∙ ap forgotten stands.searches_are;
   stands = subst (λ a. Stands (page_nodes (load_step page state).state) (reset state.client.session) a) (sym agent_is)
       (Stands-reset (page_nodes state) (page_nodes (load_step page state).state) state.client.session d.agent stands.stands);
 }

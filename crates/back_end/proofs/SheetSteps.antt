@@ -147,6 +147,7 @@ change-well c state is low room can =
       few_ids = omega arith;
       few_serials = omega (arith, ap (λ (page : PageValue). page.next) same);
       few_sheets = few;
+      given = refl;
     }
 
 -- ---- several changes
@@ -247,6 +248,7 @@ css-on-well id state is low on small = record {
   few_ids = omega arith;
   few_serials = omega arith;
   few_sheets = omega arith;
+  given = refl;
 }
 
 pub css-off-is : (state : State) → HoldsNow state → HoldsNow (with_client (record state.client { css_on = false }) state)
@@ -274,4 +276,5 @@ css-off-well id state is low small =
       few_ids = omega arith;
       few_serials = omega arith;
       few_sheets = omega arith;
+      given = refl;
     }

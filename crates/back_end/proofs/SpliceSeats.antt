@@ -146,6 +146,7 @@ restyled-both d h h1 s s1 state id x backs both room texts on css edited page_is
       stands = subst (λ (p : PageValue). Stands (alone p.tree) (splice_steps ss state).state.client.session d.agent) (sym after.page)
           (subst (λ (c : Client). Stands (alone state.side.page.tree) c.session d.agent) (sym after.client) stands.stands);
       watches_are = stands.watches_are ∙ ap (λ (c : Client). c.watched) (sym after.client);
+      searches_are = stands.searches_are ∙ ap (λ (c : Client). c.searches) (sym after.client);
     } in
     let kept = restyled-kept h h1 state ss backs both.kept stands.now done.taken (sym made.answers ∙ done.backs) noted in
     let all = keeping (map (λ s. Sheet s) ss) state (splice_steps ss state) in
@@ -189,7 +190,7 @@ pub unrestyled-both : (d : Desk) (h : Marks Inverse) (s s1 : PageSide) (state : 
     → BothStandFor d h s1 (command_step id (EditCss x) state).state
 unrestyled-both d h s s1 state id x f both on css is page_is sheets_is =
     subst (λ (done : Step). BothStandFor d h s1 done.state) (sym (fault-is d s state id x f both.stands on css is))
-    (record { stands = stayed-stands d d s s1 state refl refl refl refl page_is sheets_is both.stands; kept = both.kept })
+    (record { stands = stayed-stands d d s s1 state refl refl refl refl refl page_is sheets_is both.stands; kept = both.kept })
 
 pub unrestyled-sent : (d : Desk) (s : PageSide) (state : State) (id : ℕ) (x : CssEdit) (f : SheetFault) (before after : List ℕ)
     → DeskStandsFor d s state → d.is_on ≡ true → d.css ≡ true

@@ -202,6 +202,7 @@ splice-well s state is low t =
       few_ids = omega arith;
       few_serials = omega arith;
       few_sheets = omega arith;
+      given = refl;
     }
 
 -- ---- splices, one after the other

@@ -143,6 +143,7 @@ edit-well state e is low ids can texts =
       few_ids = few;
       few_serials = omega (arith, next);
       few_sheets = omega arith;
+      given = refl;
     }
 
 -- ---- edits, one after the other
@@ -338,6 +339,7 @@ crossing-well {done = done} well = record {
   few_ids = well.few_ids;
   few_serials = well.few_serials;
   few_sheets = well.few_sheets;
+  given = well.given;
 }
 
 plan-well : (state : State) (plan : Plan) → HoldsNow state → HasRoom state → Planned state plan
@@ -358,6 +360,7 @@ plan-well state plan is room p =
       few_ids = omega (arith, done.few_ids, p.short);
       few_serials = omega (arith, done.few_serials, p.serials);
       few_sheets = omega (arith, done.few_sheets);
+      given = done.given;
     }
 
 -- a page that is shown on another medium
@@ -380,6 +383,7 @@ medium-well state medium is room = record {
   few_ids = omega arith;
   few_serials = omega arith;
   few_sheets = omega arith;
+  given = refl;
 }
 
 deed-well : (state : State) (deed : Deed) → HoldsNow state → HasRoom state → CanDo deed state
@@ -473,6 +477,7 @@ load-well state page is room can texts =
       few_ids = omega arith;
       few_serials = omega (arith, nodes);
       few_sheets = omega (arith, few);
+      given = refl;
     }
 
 -- ---- the law of a script's own steps

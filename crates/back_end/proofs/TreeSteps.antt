@@ -249,6 +249,7 @@ plan-page-well state plan is room p =
       few_ids = omega (arith, done.few_ids, p.short);
       few_serials = omega (arith, done.few_serials, p.serials);
       few_sheets = omega (arith, done.few_sheets);
+      given = done.given;
     }
 
 -- ---- edits are kept

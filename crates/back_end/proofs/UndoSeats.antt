@@ -274,6 +274,7 @@ put-stands d s s1 state x stands t page_is sheets_is =
       on_is = stands.on_is;
       css_is = stands.css_is;
       watches_are = stands.watches_are;
+      searches_are = stands.searches_are;
       stands = stands.stands;
     }
 

@@ -39,9 +39,9 @@ module _ (d : Desk) (s : PageSide) (state : State) (id : ℕ) (command : Command
   unknown-sent old new was is sent = sent ∙ ap (λ (done : Step). old ++ frames_of_moves done.moves) (sym (step-is None was is))
 
   pub changed-stands : (d1 : Desk) (serial : ℕ) → d.is_on ≡ true → Some serial ≡ map.get d.agent.serials node
-      → d1.is_on ≡ d.is_on → d1.css ≡ d.css → d1.watches ≡ change serial d.watches → d1.agent ≡ d.agent
+      → d1.is_on ≡ d.is_on → d1.css ≡ d.css → d1.watches ≡ change serial d.watches → d1.searches ≡ d.searches → d1.agent ≡ d.agent
       → DeskStandsFor d1 s (command_step id command state).state
-  changed-stands d1 serial was is on_is css_is watches_is agent_is =
+  changed-stands d1 serial was is on_is css_is watches_is searches_is agent_is =
       subst (λ (done : Step). DeskStandsFor d1 s done.state) (sym (step-is (Some serial) was is)) (record {
         now = watches-are change state node serial changes.adds (sym (is ∙ stands.stands.serials_are node)) stands.now;
         page_is = stands.page_is;
@@ -51,5 +51,6 @@ module _ (d : Desk) (s : PageSide) (state : State) (id : ℕ) (command : Command
         on_is = on_is ∙ stands.on_is;
         css_is = css_is ∙ stands.css_is;
         watches_are = watches_is ∙ ap (change serial) stands.watches_are;
+        searches_are = searches_is ∙ stands.searches_are;
         stands = subst (λ a. Stands (page_nodes state) state.client.session a) (sym agent_is) stands.stands;
       })

@@ -114,4 +114,5 @@ watch-well id change state node serial adds h is low small =
       few_ids = omega arith;
       few_serials = omega arith;
       few_sheets = omega arith;
+      given = refl;
     }

@@ -20,13 +20,14 @@ use Rattle.back_end.specs.Steps.{Step, with_marks, answering}
 use Rattle.back_end.specs.Laws.{HasRoom}
 use Rattle.back_end.proofs.SheetLemmas.{can-tell-sheets, below-none}
 
--- a step that draws at most so many ids, serials and numbers of sheets
+-- a step that draws at most so many ids, serials and numbers of sheets, and no number of a search
 pub record Well (before : State) (done : Step) (ids serials sheets : ℕ) : Type 0 where
   pub now : HoldsNow done.state
   pub course : Course done.moves (view_of before) (view_of done.state)
   pub few_ids : length done.state.client.session.pushed ≤ length before.client.session.pushed + ids
   pub few_serials : done.state.side.page.next ≤ before.side.page.next + serials
   pub few_sheets : done.state.side.next_sheet ≤ before.side.next_sheet + sheets
+  pub given : done.state.client.searches.given ≡ before.client.searches.given
 
 -- numbers are left for messages
 pub record HasNumbers (state : State) : Type 0 where
@@ -76,6 +77,7 @@ stays state is low = record {
   few_ids = omega arith;
   few_serials = omega arith;
   few_sheets = omega arith;
+  given = refl;
 }
 
 -- nothing changes, and a move is told that says so
@@ -89,6 +91,7 @@ stays-with m state is low moves =
       few_ids = omega arith;
       few_serials = omega arith;
       few_sheets = omega arith;
+      given = refl;
     }
 
 -- a step, and then another
@@ -100,6 +103,7 @@ then-well first later = record {
   few_ids = omega (arith, first.few_ids, later.few_ids);
   few_serials = omega (arith, first.few_serials, later.few_serials);
   few_sheets = omega (arith, first.few_sheets, later.few_sheets);
+  given = later.given ∙ first.given;
 }
 
 pub more : {before : State} {done : Step} {i s n j t m : ℕ} → i ≤ j → s ≤ t → n ≤ m → Well before done i s n → Well before done j t m
@@ -109,6 +113,7 @@ more ids serials sheets well = record {
   few_ids = omega (arith, well.few_ids, ids);
   few_serials = omega (arith, well.few_serials, serials);
   few_sheets = omega (arith, well.few_sheets, sheets);
+  given = well.given;
 }
 
 -- with another history all is as it was
@@ -134,6 +139,7 @@ well-marked {done = done} marks well = record {
   few_ids = well.few_ids;
   few_serials = well.few_serials;
   few_sheets = well.few_sheets;
+  given = well.given;
 }
 
 -- a step, and then the empty result

@@ -26,13 +26,14 @@ use Rattle.undo_marks.specs.SavedEdits.{page_after, MeetsNoFault}
 use Rattle.undo_marks.specs.Saved.{Saved}
 use Rattle.undo_marks.specs.declared.inverse_lists.Inverse.{Inverse}
 use Rattle.undo_marks.specs.declared.inverse_lists.Inverse.TheVariants.{Tree, Sheet}
+use Rattle.dom_search.specs.Searches.{next_search}
 use Rattle.page_forms.specs.Sheets.{max_sheets}
 use Rattle.page_forms.specs.Pages.{CanLoadPage}
 use Rattle.back_end.specs.States.{State, IsState, view_of, saved_now}
 use Rattle.back_end.specs.Steps.{Step, Turn, acts, loads, frame_step, turn_step, undo_step, redo_step, undo_edits, redo_edits}
 use Rattle.cdp_messages.specs.declared.command.Command.TheVariants.{DomEnable, DomDisable, CssEnable, CssDisable, AskDom, AskCss, EditDom}
 use Rattle.cdp_messages.specs.declared.command.Command.TheVariants.{EditCss, MarkUndoableState, Undo, Redo, SetBreakpoint, RemoveBreakpoint}
-use Rattle.cdp_messages.specs.declared.command.Command.TheVariants.{ReplayLoad, ReplayAct}
+use Rattle.cdp_messages.specs.declared.command.Command.TheVariants.{ReplayLoad, ReplayAct, AskSearch}
 use Rattle.back_end.specs.Texts.{PageHasTexts, ActHasTexts}
 
 -- ---- how many edits a history has
@@ -74,6 +75,7 @@ most_edits DomEnable = 0
 most_edits DomDisable = 0
 most_edits (AskDom ask) = 0
 most_edits (EditDom edit) = 2
+most_edits (AskSearch ask) = 0
 most_edits MarkUndoableState = 0
 most_edits Undo = 0
 most_edits Redo = 0
@@ -93,12 +95,13 @@ edits_asked (Err r) = 0
 
 -- ---- room
 
--- ids, serials, numbers of sheets and places in the history are left for a step
+-- ids, serials, numbers of sheets and searches, and places in the history are left for a step
 pub record HasRoom (state : State) : Type 0 where
   pub ids : length state.client.session.pushed + 1 < drawn_before_step
   pub serials : state.side.page.next < drawn_before_step
   pub sheets : state.side.next_sheet < drawn_before_step
   pub edits : edits_kept state < kept_before_step
+  pub searches : next_search state.client.searches < drawn_before_step
 
 -- Ids that a step may draw beside those of the nodes that an undo puts back: an edit by a script makes two nodes known before it, each
 -- with all that is beside it and above, and a move is two edits.
@@ -106,7 +109,8 @@ abbrev pub most_ids : ℕ
 most_ids = 5 * max_nodes
 
 -- The state after a step is valid; the moves lead the view to the view of it; and a step draws few ids, few serials and few numbers
--- of sheets, and keeps few edits of the tree: each of these may come to a new id when it is taken back or done again.
+-- of sheets, at most one number of a search, and keeps few edits of the tree: each of these may come to a new id when it is taken back
+-- or done again.
 pub record StepsWell (before : State) (done : Step) : Type 0 where
   pub is_state : IsState done.state
   pub course : Course done.moves (view_of before) (view_of done.state)
@@ -114,6 +118,7 @@ pub record StepsWell (before : State) (done : Step) : Type 0 where
   pub serials : done.state.side.page.next ≤ before.side.page.next + (max_nodes + 1)
   pub sheets : done.state.side.next_sheet ≤ before.side.next_sheet + max_sheets
   pub trees : tree_edits done.state ≤ tree_edits before + 2
+  pub searches : done.state.client.searches.given ≤ before.client.searches.given + 1
 
 -- a move that may answer a command of that method; an event answers none
 abbrev pub MayAnswer : List ℕ → Move → Type 0

@@ -14,12 +14,13 @@ use Rattle.page_forms.specs.Mediums.{usual_medium}
 use Rattle.undo_marks.specs.Marks.{Marks, entry_count}
 use Rattle.undo_marks.specs.declared.inverse_lists.Inverse.{Inverse}
 use Rattle.back_end.specs.States.{State, HoldsNow, Keeps, page_nodes, book_in}
+use Rattle.dom_search.specs.Searches.{next_search}
 use Rattle.back_end.specs.declared.desk.Desk.{Desk}
 use Rattle.back_end.specs.declared.seat.Seat.{Seat}
 use Rattle.back_end.specs.declared.side.PageSide.{PageSide}
 
--- The page and its sheets are the state's, and each domain is on where it is on in the state; the binding has the session,
--- and the watches are the state's. Of the history nothing is said.
+-- The page and its sheets are the state's, and each domain is on where it is on in the state; the binding has the session, and the
+-- watches and what was found are the state's. Of the history nothing is said.
 pub record DeskStandsFor (desk : Desk) (side : PageSide) (state : State) : Type 0 where
   pub now : HoldsNow state
   pub page_is : side.page ≡ state.side.page
@@ -30,6 +31,7 @@ pub record DeskStandsFor (desk : Desk) (side : PageSide) (state : State) : Type 
   pub css_is : desk.css ≡ state.client.css_on
   pub stands : Stands (page_nodes state) state.client.session desk.agent
   pub watches_are : desk.watches ≡ state.client.watched
+  pub searches_are : desk.searches ≡ state.client.searches
 
 -- a desk with its side and a history stand for a state: the history keeps the edits of the state's
 pub record BothStandFor (desk : Desk) (history : Marks Inverse) (side : PageSide) (state : State) : Type 0 where
@@ -44,17 +46,18 @@ StandsFor seat side state = BothStandFor seat.desk seat.history side state
 abbrev pub IsSeated : Seat → PageSide → Type 0
 IsSeated seat side = seat.is_dead ≡ false → ∥ ((state : State) × StandsFor seat side state) ∥₁
 
--- ids, serials and numbers of sheets are left for a step
+-- ids, serials and numbers of sheets and searches are left for a step
 pub record HasNumbersLeft (desk : Desk) (side : PageSide) : Type 0 where
   pub ids : desk.agent.next < drawn_before_step
   pub serials : side.page.next < drawn_before_step
   pub sheets : side.sheets.next < drawn_before_step
+  pub searches : next_search desk.searches < drawn_before_step
 
 -- how many edits a history has
 abbrev pub edits_in : Marks Inverse → ℕ
 edits_in history = entry_count history.past + entry_count history.future
 
--- ids, serials, numbers of sheets and places in the history are left for a step
+-- ids, serials, numbers of sheets and searches, and places in the history are left for a step
 pub record HasRoomLeft (seat : Seat) (side : PageSide) : Type 0 where
   pub numbers : HasNumbersLeft seat.desk side
   pub edits : edits_in seat.history < kept_before_step

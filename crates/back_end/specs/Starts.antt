@@ -6,6 +6,7 @@ use Rattle.page_forms.specs.Texts.{PageHasTexts}
 use Rattle.client_views.specs.Views.{sheet_number, is_distinct}
 use Rattle.node_binding.specs.Bindings.{empty_from}
 use Rattle.dom_breakpoints.specs.Watched.{unwatched}
+use Rattle.dom_search.specs.Searches.{no_searches}
 use Rattle.undo_marks.specs.Marks.{no_marks}
 use Rattle.back_end.specs.declared.seat.Seat.{Seat}
 use Rattle.back_end.specs.declared.side.PageSide.{PageSide}
@@ -23,6 +24,7 @@ pub record IsNewSeat (seat : Seat) (side : PageSide) (page : LoadedPage) : Type 
   pub css : seat.desk.css ≡ false
   pub agent_is : seat.desk.agent ≡ empty_from 1
   pub watches_are : seat.desk.watches ≡ unwatched
+  pub searches_are : seat.desk.searches ≡ no_searches
   pub history_is : seat.history ≡ no_marks
 
 -- the state of a page that was just loaded is valid

@@ -17,6 +17,7 @@ use Rattle.page_forms.specs.Pages.{LoadedPage}
 use Rattle.sheet_reader.specs.declared.book.SheetEntry.{SheetEntry}
 use Rattle.media_rules.specs.declared.medium.Medium.{Medium}
 use Rattle.css_agent.specs.Asks.{StyledPage, styled_page}
+use Rattle.dom_search.specs.Searches.{Kept as Searched, no_searches}
 use Rattle.back_end.specs.Sheets.{as_book, numbered_sheets, AreSheetsBelow}
 use Rattle.back_end.specs.Texts.{KeptHasTexts}
 
@@ -30,14 +31,15 @@ pub record Side : Type 0 where
   pub next_sheet : ℕ
   pub medium : Medium
 
--- What one client has of the page: which domains are on, what is opened and the ids, the watched nodes, and the history of its
--- edits, by the pages before and after each.
+-- What one client has of the page: which domains are on, what is opened and the ids, the watched nodes, the history of its edits, by
+-- the pages before and after each, and what its searches found.
 pub record Client : Type 0 where
   pub dom_on : Bool
   pub css_on : Bool
   pub session : Session
   pub watched : Watched
   pub marks : Marks (Entry Saved Inverse)
+  pub searches : Searched
 
 -- the page's side and its client
 pub record State : Type 0 where
@@ -66,7 +68,7 @@ view_of state = seen_by state.client.session state.side.page (sheets_shown state
 
 -- a client that has asked for nothing yet
 abbrev pub new_client : Client
-new_client = record { dom_on = false; css_on = false; session = begun; watched = unwatched; marks = no_marks }
+new_client = record { dom_on = false; css_on = false; session = begun; watched = unwatched; marks = no_marks; searches = no_searches }
 
 -- a page that is loaded, whose serials and numbers of sheets go on from these
 abbrev pub loaded_side : ℕ → ℕ → LoadedPage → Side

@@ -1,6 +1,8 @@
 -- The steps of a state: on each frame that comes up, and those that a script makes itself. A step gives the state after it, and
 -- the moves by which the client's view comes to what it is then.
 use Rattle.std.specs.Prelude.{ℕ, ◌+◌, Bool, true, false, not, ◌&&◌, ◌||◌, cond, List, [], ◌∷◌, ◌++◌, map, reverse, Option, Some, None}
+use Rattle.std.specs.Prelude.{length, is_some}
+use Rattle.std.specs.FinMap as table
 use Rattle.std.specs.Prelude.{unwrap_or, option_map, Result, Ok, Err}
 use Rattle.std.specs.Char.{to_ascii_lowercase}
 use Rattle.node_tree.specs.Nodes.{Branch}
@@ -13,16 +15,25 @@ use Rattle.page_tree.specs.declared.edits.TreeEdit.{TreeEdit}
 use Rattle.page_tree.specs.declared.edits.TreeEdit.TheVariants.{SetAttr, DropAttr, SetText, Attach, Detach}
 use Rattle.page_forms.specs.declared.acts.Act.{Act}
 use Rattle.page_forms.specs.Pages.{LoadedPage}
-use Rattle.node_binding.specs.Sessions.{Session, session_ids, serial_at, reset}
+use Rattle.node_binding.specs.Sessions.{Session, is_open, session_ids, serial_at, reset}
 use Rattle.cdp_messages.specs.declared.command.Why.{Why}
-use Rattle.cdp_messages.specs.declared.command.Why.TheVariants.{DomOff, CssOff, UnknownNode, NotElement, NoSheet, Crossed}
+use Rattle.cdp_messages.specs.declared.command.Why.TheVariants.{DomOff, CssOff, UnknownNode, NotElement, NoSheet, Crossed, NotPushed}
+use Rattle.cdp_messages.specs.declared.command.Why.TheVariants.{NoSearch, BadSearchRange}
 use Rattle.cdp_messages.specs.declared.command.Asked.{Asked}
 use Rattle.cdp_messages.specs.declared.command.Refused.{Refused}
 use Rattle.cdp_messages.specs.declared.dom_ask.DomAsk.{DomAsk}
+use Rattle.cdp_messages.specs.declared.dom_ask.DomAsk.TheVariants.{PushBySerials}
+use Rattle.cdp_messages.specs.declared.search_ask.SearchAsk.{SearchAsk}
+use Rattle.cdp_messages.specs.declared.search_ask.SearchAsk.TheVariants as search
+use Rattle.cdp_messages.specs.SearchIds.{search_in}
+use Rattle.dom_search.specs.declared.searches.SearchFault.{SearchFault}
+use Rattle.dom_search.specs.declared.searches.SearchFault.TheVariants as no
+use Rattle.dom_search.specs.Found.{found_in}
+use Rattle.dom_search.specs.Searches.{Kept as Searched, next_search, with_search, without_search, forgotten, slice_of}
 use Rattle.cdp_messages.specs.declared.down.PauseData.{PauseData}
 use Rattle.cdp_messages.specs.declared.down.PauseData.TheVariants as told_pause
 use Rattle.cdp_messages.specs.declared.down.ReplyBody.{ReplyBody}
-use Rattle.cdp_messages.specs.declared.down.ReplyBody.TheVariants.{Nothing, NodeId}
+use Rattle.cdp_messages.specs.declared.down.ReplyBody.TheVariants.{Nothing, NodeId, Search}
 use Rattle.cdp_messages.specs.Asked.{asked, method_of}
 use Rattle.cdp_messages.specs.Methods.{domains_of, needs_dom, needs_both, turns_dom_on}
 use Rattle.sheet_reader.specs.declared.book.SheetEntry.{SheetEntry}
@@ -66,7 +77,7 @@ use Rattle.back_end.specs.OwnMethods.{edit_why, sheet_why, load_asked, act_judge
 use Rattle.cdp_messages.specs.declared.command.Command.{Command}
 use Rattle.cdp_messages.specs.declared.command.Command.TheVariants.{DomEnable, DomDisable, CssEnable, CssDisable, AskDom, AskCss, EditDom}
 use Rattle.cdp_messages.specs.declared.command.Command.TheVariants.{EditCss, MarkUndoableState, Undo, Redo, SetBreakpoint, RemoveBreakpoint}
-use Rattle.cdp_messages.specs.declared.command.Command.TheVariants.{ReplayLoad, ReplayAct}
+use Rattle.cdp_messages.specs.declared.command.Command.TheVariants.{ReplayLoad, ReplayAct, AskSearch}
 
 -- what a step makes: the state after it, and what it tells the client
 pub record Step : Type 0 where
@@ -322,9 +333,14 @@ act_step act state = planned_step (act_fault act state.side.page (book_in state)
 abbrev pub lone_step : TreeEdit → State → Step
 lone_step e state = planned_step (edit_fault (first_fault e state.side.page.tree)) (one_edit e state.side.page) state
 
--- the client of a page that goes: nothing is known, the ids are dead, no node is watched and no edit kept
+-- the client of a page that goes: nothing is known, the ids are dead, no node is watched, and no edit and nothing found is kept
 abbrev pub client_reset : Bool → Client → Client
-client_reset on client = record new_client { dom_on = on; css_on = client.css_on && on; session = reset client.session }
+client_reset on client = record new_client {
+  dom_on = on;
+  css_on = client.css_on && on;
+  session = reset client.session;
+  searches = forgotten client.searches;
+}
 
 -- the moves that tell that sheets go, each by itself
 abbrev pub moves_gone : List ShownSheet → List Move
@@ -533,6 +549,60 @@ watch_step id change None state = refusing (Some id) UnknownNode state
 watch_step id change (Some node) state =
     answering id (idle (with_client (record state.client { watched = change node state.client.watched }) state))
 
+-- ---- searches
+
+-- the state with what was found by others
+abbrev pub with_searches : Searched → State → State
+with_searches searches state = with_client (record state.client { searches = searches }) state
+
+-- what a query finds is kept; it is answered by the number of the search, and how many nodes were found
+abbrev pub perform_step : ℕ → List ℕ → State → Step
+perform_step id query state =
+    let found = found_in state.side.page.tree query in
+    let searches = state.client.searches in
+    replying id (Search (next_search searches) (length found)) (idle (with_searches (with_search found searches) state))
+
+-- why nothing of a search is given
+abbrev pub search_why : SearchFault → Why
+search_why no.NoSearch = NoSearch
+search_why no.SearchRange = BadSearchRange
+
+-- of the search with that number, if its id is one: the serials in a range, or why there are none
+abbrev pub results_in : ℕ → ℕ → Searched → Option ℕ → Result (List ℕ) SearchFault
+results_in from to searches None = Err no.NoSearch
+results_in from to searches (Some search) = slice_of search from to searches
+
+-- the serials that are asked for, or the refusal
+abbrev pub or_why : Result (List ℕ) SearchFault → Result (List ℕ) Why
+or_why (Ok serials) = Ok serials
+or_why (Err fault) = Err (search_why fault)
+
+-- the serials in a range of what a search found, or the first refusal: the document is not opened, no such search, a bad range
+abbrev pub results_asked : List ℕ → ℕ → ℕ → State → Result (List ℕ) Why
+results_asked search from to state =
+    cond (is_open state.client.session.opened state.side.page.tree.row.serial)
+    (or_why (results_in from to state.client.searches (search_in search))) (Err NotPushed)
+
+-- nodes that were found are answered as if the client asked for them by these serials: each becomes known, with all above it, and 0
+-- stands for one that is gone
+abbrev pub results_step : ℕ → Result (List ℕ) Why → State → Step
+results_step id (Err why) state = refusing (Some id) why state
+results_step id (Ok serials) state = agent_step id (PushBySerials serials) state
+
+-- what the search found is kept no more, where it is kept
+abbrev pub discard_step : ℕ → Option ℕ → State → Step
+discard_step id None state = refusing (Some id) NoSearch state
+discard_step id (Some search) state =
+    let searches = state.client.searches in
+    cond (is_some (table.get searches.lists search)) (answering id (idle (with_searches (without_search search searches) state)))
+    (refusing (Some id) NoSearch state)
+
+-- the step on what is asked of searches
+abbrev pub search_step : ℕ → SearchAsk → State → Step
+search_step id (search.PerformSearch query shadow) state = perform_step id query state
+search_step id (search.GetSearchResults search from to) state = results_step id (results_asked search from to state) state
+search_step id (search.DiscardSearchResults search) state = discard_step id (search_in search) state
+
 -- ---- our own two methods
 
 -- the step on one of our own two methods: the script's step that it comes to, and the reply; or the refusal
@@ -555,6 +625,7 @@ served_step id DomEnable state = record {
 served_step id DomDisable state = record { state = with_client (client_reset false state.client) state; moves = all_off id ∷ [] }
 served_step id (AskDom ask) state = agent_step id ask state
 served_step id (EditDom edit) state = tree_edit_step id edit state
+served_step id (AskSearch ask) state = search_step id ask state
 served_step id MarkUndoableState state = mark_step id state
 served_step id Undo state = undo_step id state
 served_step id Redo state = redo_step id state

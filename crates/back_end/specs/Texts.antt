@@ -10,7 +10,7 @@ use Rattle.cdp_json.specs.Plain.{HasUtf8}
 use Rattle.cdp_messages.specs.declared.command.Command.{Command}
 use Rattle.cdp_messages.specs.declared.command.Command.TheVariants.{DomEnable, DomDisable, AskDom, EditDom, MarkUndoableState, Undo, Redo}
 use Rattle.cdp_messages.specs.declared.command.Command.TheVariants.{CssEnable, CssDisable, AskCss, EditCss, SetBreakpoint, RemoveBreakpoint}
-use Rattle.cdp_messages.specs.declared.command.Command.TheVariants.{ReplayLoad, ReplayAct}
+use Rattle.cdp_messages.specs.declared.command.Command.TheVariants.{ReplayLoad, ReplayAct, AskSearch}
 use Rattle.cdp_messages.specs.declared.dom_edit.DomEdit.{DomEdit}
 use Rattle.cdp_messages.specs.declared.dom_edit.DomEdit.TheVariants as dom
 use Rattle.back_end.specs.declared.node_edits.TreeWish.{TreeWish}
@@ -49,6 +49,7 @@ HasServedTexts DomEnable = ⊤
 HasServedTexts DomDisable = ⊤
 HasServedTexts (AskDom ask) = ⊤
 HasServedTexts (EditDom edit) = HasTreeTexts edit
+HasServedTexts (AskSearch ask) = ⊤
 HasServedTexts MarkUndoableState = ⊤
 HasServedTexts Undo = ⊤
 HasServedTexts Redo = ⊤

@@ -2,6 +2,7 @@ ghost use Rattle.std.specs.Prelude.{◌≡◌, ◌<◌, ◌++◌, ◌&&◌, ◌|
 ghost use Rattle.node_tree.specs.Numbers.{kept_before_step};
 ghost use Rattle.node_binding.specs.Bindings.{empty_from};
 ghost use Rattle.dom_breakpoints.specs.Watched.{unwatched};
+ghost use Rattle.dom_search.specs.Searches.{no_searches};
 ghost use Rattle.cdp_messages.specs.DomAsks.{fits_ask};
 ghost use Rattle.cdp_messages.specs.Asked.{fits_command};
 ghost use Rattle.client_views.specs.Moves.{frames_of_moves};
@@ -19,11 +20,12 @@ use cdp_messages::{
 use css_agent::CssAgent;
 use dom_agent::DomAgent;
 use dom_breakpoints::Watches;
+use dom_search::Searches;
 use std::alloc::{AllocError, Global};
 use undo_marks::History;
 
-/// What a seat works with: whether the domains DOM and CSS are on, and what the client knows of the page, and
-/// which nodes it watches.
+/// What a seat works with: whether the domains DOM and CSS are on, and what the client knows of the page, which nodes it
+/// watches, and what its searches found.
 #[derive(Drop)]
 pub(crate) struct Desk {
     pub(crate) alloc: Global,
@@ -31,6 +33,7 @@ pub(crate) struct Desk {
     pub(crate) css: CssAgent,
     pub(crate) agent: DomAgent,
     pub(crate) watches: Watches,
+    pub(crate) searches: Searches,
 }
 
 impl Desk {
@@ -40,6 +43,7 @@ impl Desk {
         ensures css { result.css ≡ false }
         ensures agent { result.agent ≡ empty_from 1 }
         ensures watches { result.watches ≡ unwatched }
+        ensures searches { result.searches ≡ no_searches }
     {
         Desk {
             alloc,
@@ -47,6 +51,7 @@ impl Desk {
             css: CssAgent::new(alloc),
             agent: DomAgent::new(alloc),
             watches: Watches::new(alloc),
+            searches: Searches::new(alloc),
         }
     }
 
@@ -141,6 +146,7 @@ impl Desk {
             Command::DomDisable => self.disable(history, side, id, out),
             Command::AskDom(ask) => self.ask_agent(side, id, &ask, out),
             Command::EditDom(edit) => self.answer_tree_edit(history, side, id, edit, out),
+            Command::AskSearch(ask) => self.answer_search(side, id, &ask, out),
             Command::MarkUndoableState => self.end_group(history, side, id, out),
             Command::Undo => self.undo(history, side, id, out),
             Command::Redo => self.redo(history, side, id, out),
@@ -199,6 +205,7 @@ impl Desk {
         self.is_on = false;
         self.agent.reset();
         self.watches.clear();
+        self.searches.clear();
         history.clear();
         Ok(())
     }

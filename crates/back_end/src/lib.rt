@@ -21,6 +21,7 @@ mod own;
 mod pauses;
 mod pushes;
 mod script;
+mod searching;
 mod seat;
 mod sheet_acts;
 mod sheet_edits;

@@ -220,6 +220,7 @@ impl Desk {
         self.tell_gone(side.book(), out)?;
         self.agent.reset();
         self.watches.clear();
+        self.searches.clear();
         *side = loaded;
         self.tell_come(side.book(), out)
     }

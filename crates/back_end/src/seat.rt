@@ -2,6 +2,7 @@ ghost use Rattle.std.specs.Prelude.{◌≡◌, ◌++◌, ◌↔◌, IsTrue, true
 ghost use Rattle.undo_marks.specs.Marks.{no_marks};
 ghost use Rattle.node_binding.specs.Bindings.{empty_from};
 ghost use Rattle.dom_breakpoints.specs.Watched.{unwatched};
+ghost use Rattle.dom_search.specs.Searches.{no_searches};
 ghost use Rattle.page_forms.specs.Acts.{IsInsertable};
 ghost use Rattle.page_forms.specs.Pages.{loaded_page, CanLoadPage};
 ghost use Rattle.client_views.specs.Moves.{frames_of_moves};
@@ -18,7 +19,7 @@ use page_forms::{Act, PageForm};
 use std::alloc::{AllocError, Global};
 use undo_marks::History;
 
-/// The least number that is no id, no serial and no number of a sheet with room behind it for another step.
+/// The least number that is no id, no serial and no number of a sheet or a search with room behind it for another step.
 const LIMIT: u64 = 1 << 50;
 
 /// The least number of edits of a history that has no place for another step.
@@ -39,6 +40,7 @@ impl Seat {
         ensures css { result.desk.css ≡ false }
         ensures agent { result.desk.agent ≡ empty_from 1 }
         ensures watches { result.desk.watches ≡ unwatched }
+        ensures searches { result.desk.searches ≡ no_searches }
         ensures history { result.history ≡ no_marks }
         ensures alive { result.is_dead ≡ false }
     {
@@ -49,14 +51,15 @@ impl Seat {
         }
     }
 
-    /// Whether the next id, the next serial and the next sheet's number are below 2^50, so that a step can draw what it needs, and
-    /// fewer than 2^30 edits are kept, each of which may draw an id when it is taken back or done again.
+    /// Whether the next id, the next serial and the next numbers of a sheet and a search are below 2^50, so that a step can draw what
+    /// it needs, and fewer than 2^30 edits are kept, each of which may draw an id when it is taken back or done again.
     pub fn has_room(&self, side: &PageSide) -> bool
         ensures { IsTrue result ↔ HasRoomLeft self.now side.now }
     {
         self.desk.agent.next_id() < LIMIT
             && side.page.next_serial() < LIMIT
             && side.sheets.next_number() < LIMIT
+            && self.desk.searches.next() < LIMIT
             && self.history.kept() < MOST_EDITS
     }
 

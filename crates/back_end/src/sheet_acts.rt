@@ -57,6 +57,7 @@ impl Desk {
         ensures css { OnOk result (self.new.css ≡ self.old.css) }
         ensures rest { (self.new.is_on ≡ self.old.is_on) × (self.new.agent ≡ self.old.agent) }
         ensures watches { self.new.watches ≡ self.old.watches }
+        ensures searches { self.new.searches ≡ self.old.searches }
         ensures sent { OnOk result (out.new.items ≡ out.old.items ++ message_frames (turn_messages false self.old.css book.now)) }
     {
         let on = self.css.is_on();

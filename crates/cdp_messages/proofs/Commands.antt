@@ -21,11 +21,12 @@ use Rattle.cdp_json.proofs.RowLaws.{ends_lawful, and_need_lawful, and_may_lawful
 use Rattle.cdp_messages.specs.declared.command.Command.{Command}
 use Rattle.cdp_messages.specs.declared.command.Command.TheVariants.{DomEnable, DomDisable, CssEnable, CssDisable, AskDom, EditDom, AskCss}
 use Rattle.cdp_messages.specs.declared.command.Command.TheVariants.{EditCss, MarkUndoableState, Undo, Redo, SetBreakpoint, RemoveBreakpoint}
-use Rattle.cdp_messages.specs.declared.command.Command.TheVariants.{ReplayLoad, ReplayAct}
+use Rattle.cdp_messages.specs.declared.command.Command.TheVariants.{ReplayLoad, ReplayAct, AskSearch}
 use Rattle.cdp_messages.specs.declared.dom_ask.DomAsk.TheVariants as ask
 use Rattle.cdp_messages.specs.declared.dom_edit.DomEdit.TheVariants as tree
 use Rattle.cdp_messages.specs.declared.css_ask.CssAsk.TheVariants as css
 use Rattle.cdp_messages.specs.declared.css_edit.CssEdit.TheVariants as style
+use Rattle.cdp_messages.specs.declared.search_ask.SearchAsk.TheVariants as search
 use Rattle.cdp_messages.specs.declared.command.Asked.{Asked}
 use Rattle.cdp_messages.specs.declared.command.Refused.{Refused}
 use Rattle.cdp_messages.specs.declared.command.Param.{Param}
@@ -41,7 +42,8 @@ use Rattle.cdp_messages.specs.Parameters.{depth_number, place_fields, place_part
 use Rattle.cdp_messages.specs.Parameters.{edit_from, text_edit, allowed, one_there, one_of, depth_fields, children_fields, path_field}
 use Rattle.cdp_messages.specs.Parameters.{serials_field, node_field, query_fields, describe_fields, attribute_fields, name_fields}
 use Rattle.cdp_messages.specs.Parameters.{value_fields, move_fields, sheet_field, edits_field, set_selector_fields, sheet_text_fields}
-use Rattle.cdp_messages.specs.Parameters.{add_rule_fields, set_media_fields, watch_fields, reads_with, command_by, Form, form, parameters_form}
+use Rattle.cdp_messages.specs.Parameters.{add_rule_fields, set_media_fields, search_fields, results_fields, search_field, watch_fields}
+use Rattle.cdp_messages.specs.Parameters.{reads_with, command_by, Form, form, parameters_form}
 use Rattle.cdp_messages.specs.Asked.{refusal, of_method, command_for, params_of, unless_session, command_of, method_in, command_in, with_id}
 use Rattle.cdp_messages.specs.Asked.{asked_in, asked_value, asked_by, json_of, method_of, method_name, parameters, fits_command}
 use Rattle.cdp_messages.specs.Asked.{command_value, request}
@@ -216,6 +218,16 @@ describe_fields_faithful =
     (may_look_for_faithful _ _ refl whole_faithful
     (may_look_for_faithful _ _ refl whole_faithful depth_fields_faithful refl) refl) depth_fields_faithful
 
+search_fields_faithful : FaithfulLookups search_fields
+search_fields_faithful = look_for_faithful _ _ refl text_faithful (may_look_for_faithful _ _ refl flag_faithful nothing_more refl) refl
+
+results_fields_faithful : FaithfulLookups results_fields
+results_fields_faithful = look_for_faithful _ _ refl text_faithful
+    (look_for_faithful _ _ refl whole_faithful (look_for_faithful _ _ refl whole_faithful nothing_more refl) refl) refl
+
+search_field_faithful : FaithfulLookups search_field
+search_field_faithful = look_for_faithful _ _ refl text_faithful nothing_more refl
+
 attribute_fields_faithful : FaithfulLookups attribute_fields
 attribute_fields_faithful = look_for_faithful _ _ refl whole_faithful
     (look_for_faithful _ _ refl text_faithful (look_for_faithful _ _ refl text_faithful nothing_more refl) refl) refl
@@ -302,6 +314,12 @@ command_again (EditDom (tree.MoveTo node target before)) f = read_again move_fie
     (node, (target, (before, tt))) f
 command_again (EditDom (tree.CopyTo node target before)) f = read_again move_fields_faithful (λ x. EditDom (tree.CopyTo x.0 x.1.0 x.1.1.0))
     (node, (target, (before, tt))) f
+command_again (AskSearch (search.PerformSearch query shadow)) f =
+    read_again search_fields_faithful (λ x. AskSearch (search.PerformSearch x.0 x.1.0)) (query, (shadow, tt)) f
+command_again (AskSearch (search.GetSearchResults id from to)) f =
+    read_again results_fields_faithful (λ x. AskSearch (search.GetSearchResults x.0 x.1.0 x.1.1.0)) (id, (from, (to, tt))) f
+command_again (AskSearch (search.DiscardSearchResults id)) f =
+    read_again search_field_faithful (λ x. AskSearch (search.DiscardSearchResults x.0)) (id, tt) f
 command_again MarkUndoableState f = refl
 command_again Undo f = refl
 command_again Redo f = refl
@@ -361,6 +379,9 @@ named_again method.SetRuleSelector = refl
 named_again method.SetStyleSheetText = refl
 named_again method.AddRule = refl
 named_again method.SetMediaText = refl
+named_again method.PerformSearch = refl
+named_again method.GetSearchResults = refl
+named_again method.DiscardSearchResults = refl
 named_again method.SetBreakpoint = refl
 named_again method.RemoveBreakpoint = refl
 named_again method.ReplayLoad = refl
@@ -447,6 +468,12 @@ command_fits method.AddRule ms c e =
     read_fits rule_fields_faithful method.AddRule (λ x. EditCss (style.AddRule x.0 x.1.0 x.1.1.0)) (λ x. refl) ms c e
 command_fits method.SetMediaText ms c e = read_fits media_fields_faithful method.SetMediaText
     (λ x. EditCss (style.SetMediaText x.0 x.1.0 x.1.1.0)) (λ x. refl) ms c e
+command_fits method.PerformSearch ms c e =
+    read_fits search_fields_faithful method.PerformSearch (λ x. AskSearch (search.PerformSearch x.0 x.1.0)) (λ x. refl) ms c e
+command_fits method.GetSearchResults ms c e = read_fits results_fields_faithful method.GetSearchResults
+    (λ x. AskSearch (search.GetSearchResults x.0 x.1.0 x.1.1.0)) (λ x. refl) ms c e
+command_fits method.DiscardSearchResults ms c e =
+    read_fits search_field_faithful method.DiscardSearchResults (λ x. AskSearch (search.DiscardSearchResults x.0)) (λ x. refl) ms c e
 command_fits method.SetBreakpoint ms c e = read_fits watch_fields_faithful method.SetBreakpoint (λ x. SetBreakpoint x.0 x.1.0)
     (λ x. refl) ms c e
 command_fits method.RemoveBreakpoint ms c e = read_fits watch_fields_faithful method.RemoveBreakpoint (λ x. RemoveBreakpoint x.0 x.1.0)
@@ -575,6 +602,9 @@ parameters_are_plain (EditDom (tree.SetNodeValue node value)) f other = value_fi
 parameters_are_plain (EditDom (tree.RemoveNode node)) f other = node_field_faithful.plain (node, tt) f
 parameters_are_plain (EditDom (tree.MoveTo node target before)) f other = move_fields_faithful.plain (node, (target, (before, tt))) f
 parameters_are_plain (EditDom (tree.CopyTo node target before)) f other = move_fields_faithful.plain (node, (target, (before, tt))) f
+parameters_are_plain (AskSearch (search.PerformSearch query shadow)) f other = search_fields_faithful.plain (query, (shadow, tt)) f
+parameters_are_plain (AskSearch (search.GetSearchResults id from to)) f other = results_fields_faithful.plain (id, (from, (to, tt))) f
+parameters_are_plain (AskSearch (search.DiscardSearchResults id)) f other = search_field_faithful.plain (id, tt) f
 parameters_are_plain MarkUndoableState f other = refl
 parameters_are_plain Undo f other = refl
 parameters_are_plain Redo f other = refl

@@ -12,7 +12,7 @@ use Rattle.node_tree.specs.Nodes.{alone, height}
 use Rattle.dom_objects.specs.NodeObject.{flat}
 use Rattle.dom_objects.specs.NodeData.{tree_items, tree_data}
 use Rattle.cdp_messages.specs.declared.down.ReplyBody.TheVariants.{Nothing, Root, Node, NodeId, NodeIds, Attributes, ClassNames, SheetText}
-use Rattle.cdp_messages.specs.declared.down.ReplyBody.TheVariants.{Styles, Selectors, Rule, Media, Matched}
+use Rattle.cdp_messages.specs.declared.down.ReplyBody.TheVariants.{Styles, Selectors, Rule, Media, Matched, Search}
 use Rattle.cdp_messages.specs.Events.{attribute_modified, attribute_removed, text_modified, count_updated, inserted, removed, set_children}
 use Rattle.cdp_messages.specs.Events.{document_updated, sheet_added, sheet_changed, sheet_removed, paused}
 use Rattle.cdp_messages.specs.declared.down.PauseData.TheVariants as pause
@@ -42,6 +42,7 @@ replies_are_shallow id (NodeIds ns) h = shallow (items_depth (items_of (map whol
 replies_are_shallow id (Attributes pairs) h = shallow (items_depth (items_of (map string (flat pairs)))) (texts_depth (flat pairs)) where
   shallow : (d : ℕ) → d ≤ 0 → suc (max 0 (max (suc (max (suc d) 0)) 0)) ≤ 127
   shallow d p = omega arith
+replies_are_shallow id (Search search count) h = omega arith
 replies_are_shallow id (ClassNames names) h = result_above (depth (class_names_result.spell names)) 2 (class_names_sound.shallow names)
     (omega arith)
 replies_are_shallow id (SheetText text) h = result_above (depth (sheet_text_result.spell text)) 1 (sheet_text_sound.shallow text)

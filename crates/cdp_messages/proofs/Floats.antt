@@ -10,7 +10,7 @@ use Rattle.dom_objects.specs.NodeObject.{flat}
 use Rattle.cdp_messages.specs.Asked.{command_value, is_whole_where_there}
 use Rattle.cdp_messages.specs.declared.down.ReplyBody.{ReplyBody}
 use Rattle.cdp_messages.specs.declared.down.ReplyBody.TheVariants.{Nothing, Root, Node, NodeId, NodeIds, Attributes, ClassNames, SheetText}
-use Rattle.cdp_messages.specs.declared.down.ReplyBody.TheVariants.{Styles, Selectors, Rule, Media, Matched}
+use Rattle.cdp_messages.specs.declared.down.ReplyBody.TheVariants.{Styles, Selectors, Rule, Media, Matched, Search}
 use Rattle.cdp_messages.specs.Events.{News, attribute_modified, attribute_removed, text_modified, count_updated, inserted, removed}
 use Rattle.cdp_messages.specs.Events.{set_children, document_updated, sheet_added, sheet_changed, sheet_removed, paused, news_data}
 use Rattle.cdp_messages.specs.declared.down.PauseData.TheVariants as pause
@@ -40,6 +40,7 @@ has_float-reply id (Node tree) = either (either (tree_free tree) refl) refl
 has_float-reply id (NodeId n) = refl
 has_float-reply id (NodeIds ns) = either (either (numbers_free ns) refl) refl
 has_float-reply id (Attributes pairs) = either (either (texts_free (flat pairs)) refl) refl
+has_float-reply id (Search search count) = refl
 has_float-reply id (ClassNames names) = either (class_names_sound.no_float names) refl
 has_float-reply id (SheetText text) = either (sheet_text_sound.no_float text) refl
 has_float-reply id (Styles styles) = either (styles_sound.no_float styles) refl

@@ -4,6 +4,7 @@ mod Floats
 mod FrameBytes
 mod FieldsRead
 pub mod Messages
+pub mod SearchIds
 mod NeedsRead
 pub mod NewsLaws
 pub mod TextsUtf8

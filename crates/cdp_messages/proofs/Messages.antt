@@ -27,11 +27,11 @@ use Rattle.cdp_messages.specs.declared.command.Why.TheVariants.{NotJson, NoId, B
 use Rattle.cdp_messages.specs.declared.command.Why.TheVariants.{UnknownNode, NotPushed, NoPath, BadQuery, Crossed, NoNode, NotElement}
 use Rattle.cdp_messages.specs.declared.command.Why.TheVariants.{NotText, IsDocument, NotChild, Inside, TooDeep, TooMany, BadName, NoAttr}
 use Rattle.cdp_messages.specs.declared.command.Why.TheVariants.{NotContainer, NoSheet, NotMutable, BadRange, BadText, BadSelector, BadPlace}
-use Rattle.cdp_messages.specs.declared.command.Why.TheVariants.{TooBig}
+use Rattle.cdp_messages.specs.declared.command.Why.TheVariants.{TooBig, NoSearch, BadSearchRange}
 use Rattle.cdp_messages.specs.declared.command.Refused.{Refused}
 use Rattle.cdp_messages.specs.declared.down.ReplyBody.{ReplyBody}
 use Rattle.cdp_messages.specs.declared.down.ReplyBody.TheVariants.{Nothing, Root, Node, NodeId, NodeIds, Attributes, ClassNames, SheetText}
-use Rattle.cdp_messages.specs.declared.down.ReplyBody.TheVariants.{Styles, Selectors, Rule, Media, Matched}
+use Rattle.cdp_messages.specs.declared.down.ReplyBody.TheVariants.{Styles, Selectors, Rule, Media, Matched, Search}
 use Rattle.cdp_messages.specs.declared.method.Method.{Method}
 use Rattle.cdp_messages.specs.declared.result_forms.ResultForm.{ResultForm}
 use Rattle.cdp_messages.specs.declared.result_forms.ResultForm.TheVariants as form
@@ -48,13 +48,14 @@ use Rattle.node_tree.specs.Keys.{first_of}
 use Rattle.cdp_messages.specs.Methods.{method_named}
 use Rattle.cdp_messages.specs.Results.{nothing_kind, root_kind, node_kind, id_kind, ids_kind, are_attributes, attributes_kind}
 use Rattle.cdp_messages.specs.Methods.{result_form}
-use Rattle.cdp_messages.specs.Results.{first_field, all_forms, is_form}
+use Rattle.cdp_messages.specs.Results.{first_field, all_forms, is_form, search_result_kind}
 use Rattle.dom_objects.specs.NodeObject.{flat}
 use Rattle.cdp_messages.specs.Laws.{RepliesAreRead, EventsAreRead, RefusalsAreRead, MessagesAreRead, FaultsAreRead, ObjectsAreEmpty}
 use Rattle.cdp_messages.specs.Laws.{has_result, answers, ResultsAreRead, MessagesAreSpelled, Spells, ResultsAreSpelled, OneMessage}
 use Rattle.cdp_messages.specs.Laws.{OneResult, ValuesAreRead, SpellingsAreRead}
 use Rattle.cdp_json.proofs.Options.{both, both_parts, map_some}
 use Rattle.cdp_messages.proofs.FrameBytes.{json_is}
+use Rattle.cdp_messages.proofs.SearchIds.{search_lawful}
 use Rattle.dom_objects.proofs.NodeObjects.{attributes_lawful, flat_fits}
 use Rattle.dom_objects.proofs.NodeTrees.{document_lawful, described_lawful, tree_plain}
 use Rattle.cdp_messages.proofs.NewsLaws.{news_again, news_take, news_plain}
@@ -87,6 +88,9 @@ node_lawful = object_lawful (and_need_lawful _ described_lawful ends_lawful refl
 
 attribute_result_lawful : LawfulKind attributes_kind
 attribute_result_lawful = object_lawful (and_need_lawful _ (refined_lawful are_attributes attributes_lawful) ends_lawful refl)
+
+search_result_lawful : LawfulKind search_result_kind
+search_result_lawful = object_lawful (and_need_lawful _ whole_lawful (and_need_lawful _ search_lawful ends_lawful refl) refl)
 
 pub ids_lawful : LawfulKind ids_kind
 ids_lawful = object_lawful (and_need_lawful _ (list_lawful whole_lawful) ends_lawful refl)
@@ -151,6 +155,7 @@ form_again form.Node = refl
 form_again form.NodeId = refl
 form_again form.NodeIds = refl
 form_again form.Attributes = refl
+form_again form.Search = refl
 form_again form.ClassNames = refl
 form_again form.SheetText = refl
 form_again form.Styles = refl
@@ -174,6 +179,7 @@ by_again (Node tree) f = ap (option_map (λ x. Node x.0)) (node_lawful.again (tr
 by_again (NodeId id) f = ap (option_map (λ x. NodeId x.0)) (id_lawful.again (id, tt) f)
 by_again (NodeIds ids) f = ap (option_map (λ x. NodeIds x.0)) (ids_lawful.again (ids, tt) f)
 by_again (Attributes pairs) f = ap (option_map (λ x. Attributes x.0)) (attribute_result_lawful.again (pairs, tt) (attributes_there pairs f))
+by_again (Search search count) f = ap (option_map (λ x. Search x.1.0 x.0)) (search_result_lawful.again (count, (search, tt)) f)
 by_again (ClassNames names) f = ap (option_map (λ x. ClassNames x)) (class_names_sound.lawful.again names f)
 by_again (SheetText text) f = ap (option_map (λ x. SheetText x)) (sheet_text_sound.lawful.again text f)
 by_again (Styles styles) f = ap (option_map (λ x. Styles x)) (styles_sound.lawful.again styles f)
@@ -236,6 +242,10 @@ by_takes form.Attributes d body e =
     let t = attribute_result_lawful.takes d p.0 p.1 in
     subst (IsRead form.Attributes d) p.2
     (record { spells = sym t.0; fits = (both_parts _ (are_attributes p.0.0) (both_parts _ true t.1).0).1; form = refl })
+by_takes form.Search d body e =
+    let p = map_some (λ x. Search x.1.0 x.0) (search_result_kind.reads d) body e in
+    let t = search_result_lawful.takes d p.0 p.1 in
+    subst (IsRead form.Search d) p.2 (record { spells = sym t.0; fits = t.1; form = refl })
 by_takes form.ClassNames d body e =
     let p = map_some (λ x. ClassNames x) (class_names_result.reads d) body e in
     let t = class_names_sound.lawful.takes d p.0 p.1 in
@@ -295,6 +305,7 @@ told_by_name (Node tree) = refl
 told_by_name (NodeId id) = refl
 told_by_name (NodeIds ids) = refl
 told_by_name (Attributes pairs) = refl
+told_by_name (Search search count) = refl
 told_by_name (ClassNames names) = refl
 told_by_name (SheetText text) = refl
 told_by_name (Styles styles) = refl
@@ -328,6 +339,7 @@ body_plain (Node tree) f = both (tree_plain Described true tree f) refl
 body_plain (NodeId id) f = id_lawful.plain (id, tt) f refl
 body_plain (NodeIds ids) f = ids_lawful.plain (ids, tt) f refl
 body_plain (Attributes pairs) f = attribute_result_lawful.plain (pairs, tt) (attributes_there pairs f) refl
+body_plain (Search search count) f = search_result_lawful.plain (count, (search, tt)) f refl
 body_plain (ClassNames names) f = sound_plain class_names_sound names f
 body_plain (SheetText text) f = sound_plain sheet_text_sound text f
 body_plain (Styles styles) f = sound_plain styles_sound styles f
@@ -343,6 +355,7 @@ body_object (Node tree) = refl
 body_object (NodeId id) = refl
 body_object (NodeIds ids) = refl
 body_object (Attributes pairs) = refl
+body_object (Search search count) = refl
 body_object (ClassNames names) = refl
 body_object (SheetText text) = refl
 body_object (Styles styles) = refl
@@ -382,6 +395,8 @@ code_fits UnknownNode = refl
 code_fits NotPushed = refl
 code_fits NoPath = refl
 code_fits BadQuery = refl
+code_fits NoSearch = refl
+code_fits BadSearchRange = refl
 code_fits Crossed = refl
 code_fits NoNode = refl
 code_fits NotElement = refl
@@ -407,6 +422,8 @@ param_utf8 param.BackendNodeId = IsUtf8-are_ascii (refusal_words (BadParam param
 param_utf8 param.BackendNodeIds = IsUtf8-are_ascii (refusal_words (BadParam param.BackendNodeIds)) refl
 param_utf8 param.Depth = IsUtf8-are_ascii (refusal_words (BadParam param.Depth)) refl
 param_utf8 param.Edits = IsUtf8-are_ascii (refusal_words (BadParam param.Edits)) refl
+param_utf8 param.FromIndex = IsUtf8-are_ascii (refusal_words (BadParam param.FromIndex)) refl
+param_utf8 param.IncludeUserAgentShadowDom = IsUtf8-are_ascii (refusal_words (BadParam param.IncludeUserAgentShadowDom)) refl
 param_utf8 param.InsertBeforeNodeId = IsUtf8-are_ascii (refusal_words (BadParam param.InsertBeforeNodeId)) refl
 param_utf8 param.Location = IsUtf8-are_ascii (refusal_words (BadParam param.Location)) refl
 param_utf8 param.Name = IsUtf8-are_ascii (refusal_words (BadParam param.Name)) refl
@@ -414,12 +431,15 @@ param_utf8 param.NodeId = IsUtf8-are_ascii (refusal_words (BadParam param.NodeId
 param_utf8 param.Params = IsUtf8-are_ascii (refusal_words (BadParam param.Params)) refl
 param_utf8 param.Path = IsUtf8-are_ascii (refusal_words (BadParam param.Path)) refl
 param_utf8 param.Pierce = IsUtf8-are_ascii (refusal_words (BadParam param.Pierce)) refl
+param_utf8 param.Query = IsUtf8-are_ascii (refusal_words (BadParam param.Query)) refl
 param_utf8 param.Range = IsUtf8-are_ascii (refusal_words (BadParam param.Range)) refl
 param_utf8 param.RuleText = IsUtf8-are_ascii (refusal_words (BadParam param.RuleText)) refl
+param_utf8 param.SearchId = IsUtf8-are_ascii (refusal_words (BadParam param.SearchId)) refl
 param_utf8 param.Selector = IsUtf8-are_ascii (refusal_words (BadParam param.Selector)) refl
 param_utf8 param.StyleSheetId = IsUtf8-are_ascii (refusal_words (BadParam param.StyleSheetId)) refl
 param_utf8 param.TargetNodeId = IsUtf8-are_ascii (refusal_words (BadParam param.TargetNodeId)) refl
 param_utf8 param.Text = IsUtf8-are_ascii (refusal_words (BadParam param.Text)) refl
+param_utf8 param.ToIndex = IsUtf8-are_ascii (refusal_words (BadParam param.ToIndex)) refl
 param_utf8 param.Type = IsUtf8-are_ascii (refusal_words (BadParam param.Type)) refl
 param_utf8 param.Value = IsUtf8-are_ascii (refusal_words (BadParam param.Value)) refl
 
@@ -436,6 +456,8 @@ why_utf8 UnknownNode = IsUtf8-are_ascii (refusal_words UnknownNode) refl
 why_utf8 NotPushed = IsUtf8-are_ascii (refusal_words NotPushed) refl
 why_utf8 NoPath = IsUtf8-are_ascii (refusal_words NoPath) refl
 why_utf8 BadQuery = IsUtf8-are_ascii (refusal_words BadQuery) refl
+why_utf8 NoSearch = IsUtf8-are_ascii (refusal_words NoSearch) refl
+why_utf8 BadSearchRange = IsUtf8-are_ascii (refusal_words BadSearchRange) refl
 why_utf8 Crossed = IsUtf8-are_ascii (refusal_words Crossed) refl
 why_utf8 NoNode = IsUtf8-are_ascii (refusal_words NoNode) refl
 why_utf8 NotElement = IsUtf8-are_ascii (refusal_words NotElement) refl

@@ -11,7 +11,7 @@ use Rattle.css_objects.proofs.Objects.{sheet_sound, header_sound, class_names_so
 use Rattle.css_objects.proofs.Objects.{new_rule_sound, new_media_sound, matched_sound}
 use Rattle.cdp_messages.specs.declared.down.ReplyBody.{ReplyBody}
 use Rattle.cdp_messages.specs.declared.down.ReplyBody.TheVariants.{Nothing, Root, Node, NodeId, NodeIds, Attributes, ClassNames, SheetText}
-use Rattle.cdp_messages.specs.declared.down.ReplyBody.TheVariants.{Styles, Selectors, Rule, Media, Matched}
+use Rattle.cdp_messages.specs.declared.down.ReplyBody.TheVariants.{Styles, Selectors, Rule, Media, Matched, Search}
 use Rattle.dom_objects.specs.declared.node_rules.Manner.TheVariants.{Pushed, Described}
 use Rattle.dom_objects.specs.NodeData.{fits_nodes, fits_tree}
 use Rattle.cdp_messages.specs.Events.{News, attribute_modified, attribute_removed, text_modified, count_updated, inserted, removed}
@@ -26,6 +26,7 @@ use Rattle.cdp_messages.specs.Replies.{reply, message_data, body_data, fits_body
 use Rattle.cdp_messages.specs.Laws.{BodyHasUtf8, NewsHaveUtf8, RepliesAreUtf8, EventsAreUtf8}
 use Rattle.cdp_json.proofs.Options.{both_parts}
 use Rattle.cdp_messages.proofs.Messages.{reply_plain}
+use Rattle.cdp_messages.proofs.SearchIds.{search_text-utf8}
 use Rattle.cdp_messages.proofs.NewsLaws.{news_plain}
 use Rattle.dom_objects.proofs.NodeUtf8.{pairs_utf8, trees_utf8, tree_utf8}
 
@@ -40,6 +41,9 @@ body_utf8 (Node b) f u = (IsUtf8-are_ascii (codes "node") refl, tree_utf8 Descri
 body_utf8 (NodeId n) f u = (IsUtf8-are_ascii (codes "nodeId") refl, tt, tt)
 body_utf8 (NodeIds ns) f u = (IsUtf8-are_ascii (codes "nodeIds") refl, numbers_utf8 ns, tt)
 body_utf8 (Attributes pairs) f u = (IsUtf8-are_ascii (codes "attributes") refl, pairs_utf8 pairs u, tt)
+body_utf8 (Search search count) f u =
+    let id = search_text-utf8 search (both_parts _ _ (both_parts _ _ f).1).0 in
+    (IsUtf8-are_ascii (codes "resultCount") refl, tt, (IsUtf8-are_ascii (codes "searchId") refl, id, tt))
 body_utf8 (ClassNames names) f u = class_names_sound.utf8 names f u
 body_utf8 (SheetText text) f u = sheet_text_sound.utf8 text f u
 body_utf8 (Styles styles) f u = styles_sound.utf8 styles f u

@@ -18,7 +18,7 @@ use Rattle.cdp_messages.specs.declared.command.Refused.{Refused}
 use Rattle.cdp_messages.specs.Methods.{is_own, method_named}
 use Rattle.cdp_messages.specs.declared.down.ReplyBody.{ReplyBody}
 use Rattle.cdp_messages.specs.declared.down.ReplyBody.TheVariants.{Nothing, Root, Node, NodeId, NodeIds, Attributes, ClassNames, SheetText}
-use Rattle.cdp_messages.specs.declared.down.ReplyBody.TheVariants.{Styles, Selectors, Rule, Media, Matched}
+use Rattle.cdp_messages.specs.declared.down.ReplyBody.TheVariants.{Styles, Selectors, Rule, Media, Matched, Search}
 use Rattle.cdp_messages.specs.Asked.{asked, asked_by, command_of, method_of, method_name, parameters, fits_command, command_value}
 use Rattle.cdp_messages.specs.Asked.{command_text, json_of}
 use Rattle.cdp_messages.specs.Events.{News, attribute_modified, attribute_removed, text_modified, count_updated, inserted, removed}
@@ -89,6 +89,7 @@ BodyHasUtf8 (Node b) = NodesHaveUtf8 (alone b)
 BodyHasUtf8 (NodeId id) = ⊤
 BodyHasUtf8 (NodeIds ids) = ⊤
 BodyHasUtf8 (Attributes pairs) = PairsHaveUtf8 pairs
+BodyHasUtf8 (Search search count) = ⊤
 BodyHasUtf8 (ClassNames names) = AllByRecursion IsUtf8 names
 BodyHasUtf8 (SheetText text) = IsUtf8 text
 BodyHasUtf8 (Styles styles) = AllByRecursion StyleHasUtf8 styles
@@ -135,6 +136,7 @@ body_height (Node b) = height (alone b)
 body_height (NodeId id) = 0
 body_height (NodeIds ids) = 0
 body_height (Attributes pairs) = 0
+body_height (Search search count) = 0
 body_height (ClassNames names) = 0
 body_height (SheetText text) = 0
 body_height (Styles styles) = 0
@@ -224,6 +226,7 @@ Spells (Node b) d = d ≡ body_data (Node b)
 Spells (NodeId id) d = d ≡ body_data (NodeId id)
 Spells (NodeIds ids) d = d ≡ body_data (NodeIds ids)
 Spells (Attributes pairs) d = d ≡ body_data (Attributes pairs)
+Spells (Search search count) d = d ≡ body_data (Search search count)
 Spells (ClassNames names) d = d ≡ body_data (ClassNames names)
 Spells (SheetText text) d = d ≡ body_data (SheetText text)
 Spells (Styles styles) d = d ≡ body_data (Styles styles)

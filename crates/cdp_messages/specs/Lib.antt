@@ -7,6 +7,7 @@ pub mod Events
 pub mod Parameters
 pub mod Asked
 pub mod DomAsks
+pub mod SearchIds
 pub mod Results
 pub mod Replies
 pub mod Answers

@@ -15,6 +15,7 @@ use Rattle.cdp_messages.specs.declared.method.Method.TheVariants.{DescribeNode, 
 use Rattle.cdp_messages.specs.declared.method.Method.TheVariants.{RemoveNode, MoveTo, CopyTo, MarkUndoableState, Undo, Redo, CssEnable}
 use Rattle.cdp_messages.specs.declared.method.Method.TheVariants.{CssDisable, GetMatchedStyles, GetStyleSheetText, CollectClassNames}
 use Rattle.cdp_messages.specs.declared.method.Method.TheVariants.{SetStyleTexts, SetRuleSelector, SetStyleSheetText, AddRule, SetMediaText}
+use Rattle.cdp_messages.specs.declared.method.Method.TheVariants.{PerformSearch, GetSearchResults, DiscardSearchResults}
 use Rattle.cdp_messages.specs.declared.method.Method.TheVariants.{SetBreakpoint, RemoveBreakpoint, ReplayLoad, ReplayAct}
 
 -- what is said of a method, once
@@ -63,6 +64,9 @@ row_of SetRuleSelector = said (codes "CSS.setRuleSelector") server.CssAgent doma
 row_of SetStyleSheetText = said (codes "CSS.setStyleSheetText") server.CssAgent domains.DomAndCss form.Nothing
 row_of AddRule = said (codes "CSS.addRule") server.CssAgent domains.DomAndCss form.Rule
 row_of SetMediaText = said (codes "CSS.setMediaText") server.CssAgent domains.DomAndCss form.Media
+row_of PerformSearch = said (codes "DOM.performSearch") server.Seat domains.Dom form.Search
+row_of GetSearchResults = said (codes "DOM.getSearchResults") server.Seat domains.Dom form.NodeIds
+row_of DiscardSearchResults = said (codes "DOM.discardSearchResults") server.Seat domains.Dom form.Nothing
 row_of SetBreakpoint = said (codes "DOMDebugger.setDOMBreakpoint") server.Seat domains.Dom form.Nothing
 row_of RemoveBreakpoint = said (codes "DOMDebugger.removeDOMBreakpoint") server.Seat domains.Dom form.Nothing
 row_of ReplayLoad = said (codes "Replay.load") server.Replay domains.Any form.Nothing
@@ -87,8 +91,8 @@ all_methods =
     ∷ QuerySelector ∷ QuerySelectorAll ∷ GetAttributes ∷ DescribeNode ∷ SetAttributeValue ∷ RemoveAttribute
     ∷ SetNodeValue ∷ RemoveNode ∷ MoveTo ∷ CopyTo ∷ MarkUndoableState ∷ Undo
     ∷ Redo ∷ CssEnable ∷ CssDisable ∷ GetMatchedStyles ∷ GetStyleSheetText ∷ CollectClassNames
-    ∷ SetStyleTexts ∷ SetRuleSelector ∷ SetStyleSheetText ∷ AddRule ∷ SetMediaText ∷ SetBreakpoint
-    ∷ RemoveBreakpoint ∷ ReplayLoad ∷ ReplayAct ∷ []
+    ∷ SetStyleTexts ∷ SetRuleSelector ∷ SetStyleSheetText ∷ AddRule ∷ SetMediaText ∷ PerformSearch
+    ∷ GetSearchResults ∷ DiscardSearchResults ∷ SetBreakpoint ∷ RemoveBreakpoint ∷ ReplayLoad ∷ ReplayAct ∷ []
 
 -- the method that has the name
 abbrev pub method_named : List ℕ → Option Method

@@ -8,7 +8,7 @@ use Rattle.cdp_json.specs.Lookups.{then_ok, optional, Lookups, no_lookups, look_
 use Rattle.cdp_messages.specs.declared.command.Command.{Command}
 use Rattle.cdp_messages.specs.declared.command.Command.TheVariants.{DomEnable, DomDisable, CssEnable, CssDisable, AskDom, EditDom, AskCss}
 use Rattle.cdp_messages.specs.declared.command.Command.TheVariants.{EditCss, MarkUndoableState, Undo, Redo, SetBreakpoint, RemoveBreakpoint}
-use Rattle.cdp_messages.specs.declared.command.Command.TheVariants.{ReplayLoad, ReplayAct}
+use Rattle.cdp_messages.specs.declared.command.Command.TheVariants.{ReplayLoad, ReplayAct, AskSearch}
 use Rattle.cdp_messages.specs.declared.dom_ask.DomAsk.{DomAsk}
 use Rattle.cdp_messages.specs.declared.dom_ask.DomAsk.TheVariants as ask
 use Rattle.cdp_messages.specs.declared.dom_edit.DomEdit.{DomEdit}
@@ -16,6 +16,8 @@ use Rattle.cdp_messages.specs.declared.dom_edit.DomEdit.TheVariants as tree
 use Rattle.cdp_messages.specs.declared.css_ask.CssAsk.{CssAsk}
 use Rattle.cdp_messages.specs.declared.css_ask.CssAsk.TheVariants as css
 use Rattle.cdp_messages.specs.declared.css_edit.CssEdit.{CssEdit}
+use Rattle.cdp_messages.specs.declared.search_ask.SearchAsk.{SearchAsk}
+use Rattle.cdp_messages.specs.declared.search_ask.SearchAsk.TheVariants as search
 use Rattle.cdp_messages.specs.declared.css_edit.CssEdit.TheVariants as style
 use Rattle.cdp_messages.specs.declared.command.Param.{Param}
 use Rattle.cdp_messages.specs.declared.command.Param.TheVariants as param
@@ -169,6 +171,18 @@ sheet_text_fields = needed param.StyleSheetId text (needed param.Text text no_lo
 abbrev pub add_rule_fields : Lookups Why (List ℕ × (List ℕ × (SourceRange × ⊤)))
 add_rule_fields = needed param.StyleSheetId text (needed param.RuleText text (needed param.Location range_parameter no_lookups))
 
+-- of `DOM.performSearch`: the query, and a flag without effect
+abbrev pub search_fields : Lookups Why (List ℕ × (Option Bool × ⊤))
+search_fields = needed param.Query text (allowed param.IncludeUserAgentShadowDom flag no_lookups)
+
+-- of `DOM.getSearchResults`
+abbrev pub results_fields : Lookups Why (List ℕ × (ℕ × (ℕ × ⊤)))
+results_fields = needed param.SearchId text (needed param.FromIndex whole (needed param.ToIndex whole no_lookups))
+
+-- a search alone: of `DOM.discardSearchResults`
+abbrev pub search_field : Lookups Why (List ℕ × ⊤)
+search_field = needed param.SearchId text no_lookups
+
 -- of `DOMDebugger.setDOMBreakpoint` and `DOMDebugger.removeDOMBreakpoint`
 abbrev pub watch_fields : Lookups Why (ℕ × (WatchKind × ⊤))
 watch_fields = needed param.NodeId whole (needed param.Type watch no_lookups)
@@ -210,6 +224,9 @@ command_by method.SetRuleSelector ms = reads_with set_selector_fields (λ x. Edi
 command_by method.SetStyleSheetText ms = reads_with sheet_text_fields (λ x. EditCss (style.SetStyleSheetText x.0 x.1.0)) ms
 command_by method.AddRule ms = reads_with add_rule_fields (λ x. EditCss (style.AddRule x.0 x.1.0 x.1.1.0)) ms
 command_by method.SetMediaText ms = reads_with set_media_fields (λ x. EditCss (style.SetMediaText x.0 x.1.0 x.1.1.0)) ms
+command_by method.PerformSearch ms = reads_with search_fields (λ x. AskSearch (search.PerformSearch x.0 x.1.0)) ms
+command_by method.GetSearchResults ms = reads_with results_fields (λ x. AskSearch (search.GetSearchResults x.0 x.1.0 x.1.1.0)) ms
+command_by method.DiscardSearchResults ms = reads_with search_field (λ x. AskSearch (search.DiscardSearchResults x.0)) ms
 command_by method.SetBreakpoint ms = reads_with watch_fields (λ x. SetBreakpoint x.0 x.1.0) ms
 command_by method.RemoveBreakpoint ms = reads_with watch_fields (λ x. RemoveBreakpoint x.0 x.1.0) ms
 command_by method.ReplayLoad ms = Ok (ReplayLoad (object ms))
@@ -262,12 +279,19 @@ css_edit_form (style.SetStyleSheetText sheet text) = form method.SetStyleSheetTe
 css_edit_form (style.AddRule sheet rule_text location) = form method.AddRule add_rule_fields (sheet, (rule_text, (location, tt)))
 css_edit_form (style.SetMediaText sheet range text) = form method.SetMediaText set_media_fields (sheet, (range, (text, tt)))
 
+-- what is asked of searches, as it is written
+abbrev pub search_ask_form : SearchAsk → Form
+search_ask_form (search.PerformSearch query shadow) = form method.PerformSearch search_fields (query, (shadow, tt))
+search_ask_form (search.GetSearchResults id from to) = form method.GetSearchResults results_fields (id, (from, (to, tt)))
+search_ask_form (search.DiscardSearchResults id) = form method.DiscardSearchResults search_field (id, tt)
+
 -- each command, as it is written
 abbrev pub parameters_form : Command → Form
 parameters_form DomEnable = form method.DomEnable no_lookups tt
 parameters_form DomDisable = form method.DomDisable no_lookups tt
 parameters_form (AskDom a) = dom_ask_form a
 parameters_form (EditDom e) = dom_edit_form e
+parameters_form (AskSearch a) = search_ask_form a
 parameters_form MarkUndoableState = form method.MarkUndoableState no_lookups tt
 parameters_form Undo = form method.Undo no_lookups tt
 parameters_form Redo = form method.Redo no_lookups tt

@@ -7,7 +7,7 @@ use Rattle.cdp_messages.specs.declared.command.Why.TheVariants.{NotJson, NoId, B
 use Rattle.cdp_messages.specs.declared.command.Why.TheVariants.{UnknownNode, NotPushed, NoPath, BadQuery, Crossed, NoNode, NotElement}
 use Rattle.cdp_messages.specs.declared.command.Why.TheVariants.{NotText, IsDocument, NotChild, Inside, TooDeep, TooMany, BadName, NoAttr}
 use Rattle.cdp_messages.specs.declared.command.Why.TheVariants.{NotContainer, NoSheet, NotMutable, BadRange, BadText, BadSelector, BadPlace}
-use Rattle.cdp_messages.specs.declared.command.Why.TheVariants.{TooBig}
+use Rattle.cdp_messages.specs.declared.command.Why.TheVariants.{TooBig, NoSearch, BadSearchRange}
 
 -- a parameter's name in a command
 abbrev pub param_name : Param → List ℕ
@@ -15,6 +15,8 @@ param_name param.BackendNodeId = codes "backendNodeId"
 param_name param.BackendNodeIds = codes "backendNodeIds"
 param_name param.Depth = codes "depth"
 param_name param.Edits = codes "edits"
+param_name param.FromIndex = codes "fromIndex"
+param_name param.IncludeUserAgentShadowDom = codes "includeUserAgentShadowDOM"
 param_name param.InsertBeforeNodeId = codes "insertBeforeNodeId"
 param_name param.Location = codes "location"
 param_name param.Name = codes "name"
@@ -22,12 +24,15 @@ param_name param.NodeId = codes "nodeId"
 param_name param.Params = codes "params"
 param_name param.Path = codes "path"
 param_name param.Pierce = codes "pierce"
+param_name param.Query = codes "query"
 param_name param.Range = codes "range"
 param_name param.RuleText = codes "ruleText"
+param_name param.SearchId = codes "searchId"
 param_name param.Selector = codes "selector"
 param_name param.StyleSheetId = codes "styleSheetId"
 param_name param.TargetNodeId = codes "targetNodeId"
 param_name param.Text = codes "text"
+param_name param.ToIndex = codes "toIndex"
 param_name param.Type = codes "type"
 param_name param.Value = codes "value"
 
@@ -45,6 +50,8 @@ code_of UnknownNode = negsuc 31999
 code_of NotPushed = negsuc 31999
 code_of NoPath = negsuc 31999
 code_of BadQuery = negsuc 31999
+code_of NoSearch = negsuc 31999
+code_of BadSearchRange = negsuc 31999
 code_of Crossed = negsuc 31999
 code_of NoNode = negsuc 31999
 code_of NotElement = negsuc 31999
@@ -79,6 +86,8 @@ said_first UnknownNode = codes "unknown node"
 said_first NotPushed = codes "document not pushed"
 said_first NoPath = codes "no such path"
 said_first BadQuery = codes "bad selector"
+said_first NoSearch = codes "no such search"
+said_first BadSearchRange = codes "bad search range"
 said_first Crossed = codes "Crossed"
 said_first NoNode = codes "NoNode"
 said_first NotElement = codes "NotElement"
@@ -113,6 +122,8 @@ said_of_param UnknownNode = []
 said_of_param NotPushed = []
 said_of_param NoPath = []
 said_of_param BadQuery = []
+said_of_param NoSearch = []
+said_of_param BadSearchRange = []
 said_of_param Crossed = []
 said_of_param NoNode = []
 said_of_param NotElement = []

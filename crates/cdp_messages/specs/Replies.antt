@@ -13,7 +13,7 @@ use Rattle.cdp_messages.specs.declared.down.Down.{Down}
 use Rattle.cdp_messages.specs.declared.down.Down.TheVariants.{Reply, Fault, Event}
 use Rattle.cdp_messages.specs.declared.down.ReplyBody.{ReplyBody}
 use Rattle.cdp_messages.specs.declared.down.ReplyBody.TheVariants.{Nothing, Root, Node, NodeId, NodeIds, Attributes, ClassNames, SheetText}
-use Rattle.cdp_messages.specs.declared.down.ReplyBody.TheVariants.{Styles, Selectors, Rule, Media, Matched}
+use Rattle.cdp_messages.specs.declared.down.ReplyBody.TheVariants.{Styles, Selectors, Rule, Media, Matched, Search}
 use Rattle.cdp_messages.specs.declared.method.Method.{Method}
 use Rattle.cdp_messages.specs.declared.result_forms.ResultForm.{ResultForm}
 use Rattle.cdp_messages.specs.declared.result_forms.ResultForm.TheVariants as form
@@ -23,6 +23,7 @@ use Rattle.cdp_messages.specs.Refusals.{code_of, refusal_words}
 use Rattle.cdp_messages.specs.Asked.{json_of}
 use Rattle.cdp_messages.specs.Events.{is_object, News, news_of, news_data, fits_news, news_in}
 use Rattle.cdp_messages.specs.Results.{nothing_kind, root_kind, node_kind, id_kind, ids_kind, are_attributes, attributes_kind}
+use Rattle.cdp_messages.specs.Results.{search_result_kind}
 use Rattle.cdp_messages.specs.Methods.{result_form}
 use Rattle.node_tree.specs.Keys.{first_of}
 
@@ -107,6 +108,7 @@ body_data (Node tree) = node_kind.spell (tree, tt)
 body_data (NodeId id) = id_kind.spell (id, tt)
 body_data (NodeIds ids) = ids_kind.spell (ids, tt)
 body_data (Attributes pairs) = attributes_kind.spell (pairs, tt)
+body_data (Search search count) = search_result_kind.spell (count, (search, tt))
 body_data (ClassNames names) = class_names_result.spell names
 body_data (SheetText said) = sheet_text_result.spell said
 body_data (Styles styles) = styles_result.spell styles
@@ -123,6 +125,7 @@ fits_body (Node tree) = fits_described_tree tree
 fits_body (NodeId id) = id_kind.fits (id, tt)
 fits_body (NodeIds ids) = ids_kind.fits (ids, tt)
 fits_body (Attributes pairs) = are_attributes pairs
+fits_body (Search search count) = search_result_kind.fits (count, (search, tt))
 fits_body (ClassNames names) = class_names_result.fits names
 fits_body (SheetText said) = sheet_text_result.fits said
 fits_body (Styles styles) = styles_result.fits styles
@@ -139,6 +142,7 @@ form_of_body (Node tree) = form.Node
 form_of_body (NodeId id) = form.NodeId
 form_of_body (NodeIds ids) = form.NodeIds
 form_of_body (Attributes pairs) = form.Attributes
+form_of_body (Search search count) = form.Search
 form_of_body (ClassNames names) = form.ClassNames
 form_of_body (SheetText said) = form.SheetText
 form_of_body (Styles styles) = form.Styles
@@ -155,6 +159,7 @@ result_by form.Node d = option_map (λ x. Node x.0) (node_kind.reads d)
 result_by form.NodeId d = option_map (λ x. NodeId x.0) (id_kind.reads d)
 result_by form.NodeIds d = option_map (λ x. NodeIds x.0) (ids_kind.reads d)
 result_by form.Attributes d = option_map (λ x. Attributes x.0) (attributes_kind.reads d)
+result_by form.Search d = option_map (λ x. Search x.1.0 x.0) (search_result_kind.reads d)
 result_by form.ClassNames d = option_map (λ x. ClassNames x) (class_names_result.reads d)
 result_by form.SheetText d = option_map (λ x. SheetText x) (sheet_text_result.reads d)
 result_by form.Styles d = option_map (λ x. Styles x) (styles_result.reads d)

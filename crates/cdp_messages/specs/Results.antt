@@ -12,6 +12,7 @@ use Rattle.cdp_messages.specs.declared.result_forms.ResultForm.TheVariants as fo
 use Rattle.dom_objects.specs.Told.{Told}
 use Rattle.dom_objects.specs.NodeObject.{attribute_list}
 use Rattle.cdp_messages.specs.Events.{is_object}
+use Rattle.cdp_messages.specs.SearchIds.{search_kind}
 use Rattle.dom_objects.specs.NodeKinds.{document_kind, described_kind}
 
 -- ---- kinds
@@ -44,6 +45,10 @@ are_attributes ps = is_ascending ps && list_all (λ p. is_attribute_name p.0) ps
 abbrev pub attributes_kind : Kind (List Pair × ⊤)
 attributes_kind = object_of (and_need (codes "attributes") (refined attribute_list are_attributes) ends)
 
+-- of `DOM.performSearch`: how many nodes were found, and the search
+abbrev pub search_result_kind : Kind (ℕ × (ℕ × ⊤))
+search_result_kind = object_of (and_need (codes "resultCount") whole (and_need (codes "searchId") search_kind ends))
+
 -- the first field of a result of that form; the empty result has none
 abbrev pub first_field : ResultForm → List ℕ
 first_field form.Nothing = []
@@ -52,6 +57,7 @@ first_field form.Node = codes "node"
 first_field form.NodeId = codes "nodeId"
 first_field form.NodeIds = codes "nodeIds"
 first_field form.Attributes = codes "attributes"
+first_field form.Search = codes "resultCount"
 first_field form.ClassNames = codes "classNames"
 first_field form.SheetText = codes "text"
 first_field form.Styles = codes "styles"
@@ -64,8 +70,8 @@ first_field form.Matched = codes "inherited"
 abbrev pub all_forms : List ResultForm
 all_forms =
     form.Nothing ∷ form.Root ∷ form.Node ∷ form.NodeId ∷ form.NodeIds ∷ form.Attributes
-    ∷ form.ClassNames ∷ form.SheetText ∷ form.Styles ∷ form.Selectors ∷ form.Rule ∷ form.Media
-    ∷ form.Matched ∷ []
+    ∷ form.Search ∷ form.ClassNames ∷ form.SheetText ∷ form.Styles ∷ form.Selectors ∷ form.Rule
+    ∷ form.Media ∷ form.Matched ∷ []
 
 -- the two forms are the same: no two have the same first field
 abbrev pub is_form : ResultForm → ResultForm → Bool

@@ -11,6 +11,7 @@ use crate::dom_ask::DomAsk;
 use crate::dom_edit::DomEdit;
 use crate::kept::Json;
 use crate::method::Method;
+use crate::search_ask::SearchAsk;
 use node_tree::WatchKind;
 use std::alloc::{AllocError, AllocFailed};
 
@@ -25,6 +26,8 @@ pub enum Command {
     AskDom(DomAsk),
     /// A client's edit of the tree.
     EditDom(DomEdit),
+    /// A command on searches.
+    AskSearch(SearchAsk),
     /// `DOM.markUndoableState`
     MarkUndoableState,
     /// `DOM.undo`
@@ -61,6 +64,7 @@ impl Command {
             Command::DomDisable => Method::DomDisable,
             Command::AskDom(ask) => ask.method(),
             Command::EditDom(edit) => edit.method(),
+            Command::AskSearch(ask) => ask.method(),
             Command::MarkUndoableState => Method::MarkUndoableState,
             Command::Undo => Method::Undo,
             Command::Redo => Method::Redo,
@@ -95,6 +99,8 @@ pub enum Param {
     BackendNodeIds,
     Depth,
     Edits,
+    FromIndex,
+    IncludeUserAgentShadowDom,
     InsertBeforeNodeId,
     Location,
     Name,
@@ -102,12 +108,15 @@ pub enum Param {
     Params,
     Path,
     Pierce,
+    Query,
     Range,
     RuleText,
+    SearchId,
     Selector,
     StyleSheetId,
     TargetNodeId,
     Text,
+    ToIndex,
     Type,
     Value,
 }
@@ -139,6 +148,10 @@ pub enum Why {
     NoPath,
     /// The text is no selector list.
     BadQuery,
+    /// No search with that id is kept.
+    NoSearch,
+    /// The range is empty or upside down, or ends behind what the search found.
+    BadSearchRange,
     /// Script changed the page since the edit that is to be taken back.
     Crossed,
     /// A serial is not that of a live node.

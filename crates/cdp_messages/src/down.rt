@@ -116,6 +116,8 @@ pub enum ReplyBody {
     NodeIds(Numbers),
     /// Of `DOM.getAttributes`: the names are distinct and ascend by bytes.
     Attributes(Attributes),
+    /// Of `DOM.performSearch`: the number of the search, and how many nodes it found.
+    Search { search: u64, count: u64 },
     /// Of `CSS.collectClassNames`
     ClassNames(Listed<Text>),
     /// Of `CSS.getStyleSheetText`

@@ -35,6 +35,8 @@ mod reply_write;
 mod result_forms;
 mod result_read;
 mod root_scan;
+mod search_ask;
+mod search_ids;
 mod tree_messages;
 mod write;
 
@@ -62,4 +64,6 @@ pub use receive::read_down;
 pub use reply_write::write_reply;
 pub use result_read::read_result;
 pub use root_scan::read_root;
+pub use search_ask::SearchAsk;
+pub use search_ids::search_in;
 pub use write::{write_command, write_refused};

@@ -68,6 +68,12 @@ pub enum Method {
     AddRule,
     /// `CSS.setMediaText`
     SetMediaText,
+    /// `DOM.performSearch`
+    PerformSearch,
+    /// `DOM.getSearchResults`
+    GetSearchResults,
+    /// `DOM.discardSearchResults`
+    DiscardSearchResults,
     /// `DOMDebugger.setDOMBreakpoint`
     SetBreakpoint,
     /// `DOMDebugger.removeDOMBreakpoint`
@@ -148,7 +154,7 @@ pub(crate) struct MethodRow {
 }
 
 // Each method once.
-const METHODS: [Method; 33] = [
+const METHODS: [Method; 36] = [
     Method::DomEnable,
     Method::DomDisable,
     Method::GetDocument,
@@ -178,6 +184,9 @@ const METHODS: [Method; 33] = [
     Method::SetStyleSheetText,
     Method::AddRule,
     Method::SetMediaText,
+    Method::PerformSearch,
+    Method::GetSearchResults,
+    Method::DiscardSearchResults,
     Method::SetBreakpoint,
     Method::RemoveBreakpoint,
     Method::ReplayLoad,
@@ -312,6 +321,13 @@ impl Method {
             Method::SetStyleSheetText => sheets("CSS.setStyleSheetText", Form::Nothing),
             Method::AddRule => sheets("CSS.addRule", Form::Rule),
             Method::SetMediaText => sheets("CSS.setMediaText", Form::Media),
+            Method::PerformSearch => seat("DOM.performSearch", Domains::Dom, Form::Search),
+            Method::GetSearchResults => seat("DOM.getSearchResults", Domains::Dom, Form::NodeIds),
+            Method::DiscardSearchResults => seat(
+                "DOM.discardSearchResults",
+                Domains::Dom,
+                Form::Nothing,
+            ),
             Method::SetBreakpoint => seat(
                 "DOMDebugger.setDOMBreakpoint",
                 Domains::Dom,

@@ -16,6 +16,7 @@ use crate::method::Method;
 use crate::parameters::{
     depth_or_none, edits, flag_or_none, place, text, watch, whole, whole_or_none, wholes,
 };
+use crate::search_ask::SearchAsk;
 use serde_json::{Map, Value};
 use std::alloc::Global;
 
@@ -224,6 +225,30 @@ fn set_media_text(alloc: Global, params: &Map<String, Value>) -> Result<Command,
     Ok(Command::EditCss(CssEdit::SetMediaText { sheet, range, text }))
 }
 
+fn perform_search(alloc: Global, params: &Map<String, Value>) -> Result<Command, CommandErr>
+    ensures { Commands result (command_by method.PerformSearch (members_view params.now.entries)) }
+{
+    let query = text(alloc, params, Param::Query)?;
+    let shadow = flag_or_none(params, Param::IncludeUserAgentShadowDom)?;
+    Ok(Command::AskSearch(SearchAsk::PerformSearch { query, shadow }))
+}
+
+fn get_search_results(alloc: Global, params: &Map<String, Value>) -> Result<Command, CommandErr>
+    ensures { Commands result (command_by method.GetSearchResults (members_view params.now.entries)) }
+{
+    let search = text(alloc, params, Param::SearchId)?;
+    let from = whole(params, Param::FromIndex)?;
+    let to = whole(params, Param::ToIndex)?;
+    Ok(Command::AskSearch(SearchAsk::GetSearchResults { search, from, to }))
+}
+
+fn discard_search_results(alloc: Global, params: &Map<String, Value>) -> Result<Command, CommandErr>
+    ensures { Commands result (command_by method.DiscardSearchResults (members_view params.now.entries)) }
+{
+    let search = text(alloc, params, Param::SearchId)?;
+    Ok(Command::AskSearch(SearchAsk::DiscardSearchResults { search }))
+}
+
 fn set_breakpoint(params: &Map<String, Value>) -> Result<Command, Why>
     ensures { result ≡ command_by method.SetBreakpoint (members_view params.now.entries) }
 {
@@ -290,6 +315,9 @@ pub(crate) fn command_by(
         Method::SetStyleSheetText => set_style_sheet_text(alloc, members),
         Method::AddRule => add_rule(alloc, members),
         Method::SetMediaText => set_media_text(alloc, members),
+        Method::PerformSearch => perform_search(alloc, members),
+        Method::GetSearchResults => get_search_results(alloc, members),
+        Method::DiscardSearchResults => discard_search_results(alloc, members),
         Method::SetBreakpoint => small(set_breakpoint(members)),
         Method::RemoveBreakpoint => small(remove_breakpoint(members)),
         Method::ReplayLoad => {

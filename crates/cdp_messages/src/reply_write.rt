@@ -4,7 +4,7 @@ ghost use Rattle.serde_json.specs.Data.{Data};
 ghost use Rattle.serde_json.specs.View.{view};
 ghost use Rattle.serde_json.specs.Written.{compact_text, has_float};
 ghost use Rattle.dom_objects.specs.NodeObject.{attribute_list};
-ghost use Rattle.cdp_messages.specs.Results.{id_kind, ids_kind, attributes_kind};
+ghost use Rattle.cdp_messages.specs.Results.{id_kind, ids_kind, attributes_kind, search_result_kind};
 ghost use Rattle.cdp_messages.specs.Replies.{reply, message_data, body_data, reply_text};
 ghost use Rattle.pipe_frames.specs.Frames.{framed};
 ghost use Rattle.cdp_messages.specs.Forms.{body_said};
@@ -12,6 +12,7 @@ ghost use Rattle.cdp_messages.specs.Forms.{body_said};
 use crate::down::ReplyBody;
 use crate::node_message::NodeMessage;
 use crate::numbers::Numbers;
+use crate::search_ids::search_value;
 use crate::tree_messages::append_tree;
 use crate::write::append;
 use cdp_json::{ObjectBuilder, whole_list};
@@ -53,6 +54,15 @@ fn attributes_body(alloc: Global, attributes: &Attributes) -> Result<Value, Allo
         .build()
 }
 
+fn search_body(alloc: Global, search: u64, count: u64) -> Result<Value, AllocError>
+    ensures { IfOk result (λ v. view v ≡ search_result_kind.spell (count, (search, tt))) }
+{
+    ObjectBuilder::new(alloc)
+        .with_value("resultCount", Value::from(count))?
+        .with_value("searchId", search_value(alloc, search)?)?
+        .build()
+}
+
 fn id_value(alloc: Global, id: u64) -> Result<Value, AllocError>
     ensures { IfOk result (λ v. view v ≡ id_kind.spell (id, tt)) }
 {
@@ -86,6 +96,7 @@ fn body_form(alloc: Global, body: &ReplyBody) -> Result<BodyForm<'_>, AllocError
         ReplyBody::NodeId(id) => plain_body(id_value(alloc, *id)),
         ReplyBody::NodeIds(ids) => plain_body(ids_value(alloc, ids)),
         ReplyBody::Attributes(attributes) => plain_body(attributes_body(alloc, attributes)),
+        ReplyBody::Search { search, count } => plain_body(search_body(alloc, *search, *count)),
         ReplyBody::ClassNames(names) => plain_body(class_names_value(alloc, names.as_slice())),
         ReplyBody::SheetText(text) => plain_body(sheet_text_value(alloc, text)),
         ReplyBody::Styles(styles) => plain_body(styles_value(alloc, styles.as_slice())),

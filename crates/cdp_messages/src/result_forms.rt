@@ -7,6 +7,7 @@ pub(crate) enum ResultForm {
     NodeId,
     NodeIds,
     Attributes,
+    Search,
     ClassNames,
     SheetText,
     Styles,

@@ -9,12 +9,14 @@ ghost use Rattle.dom_objects.specs.Answers.{GivesMessage};
 ghost use Rattle.cdp_messages.specs.declared.result_forms.ResultForm.TheVariants as form;
 ghost use Rattle.dom_objects.specs.NodeObject.{attribute_list};
 ghost use Rattle.cdp_messages.specs.Results.{are_attributes};
+ghost use Rattle.cdp_messages.specs.SearchIds.{search_kind};
 ghost use Rattle.cdp_messages.specs.Replies.{result_by, result_of};
 
 use crate::down::ReplyBody;
 use crate::method::Method;
 use crate::numbers::Numbers;
 use crate::result_forms::ResultForm;
+use crate::search_ids::search_of;
 use cdp_json::{Cursor, wholes_of};
 use css_objects::{
     class_names_of, matched_of, new_media_of, new_rule_of, new_selectors_of, sheet_text_of,
@@ -147,6 +149,29 @@ fn attributes_result(alloc: Global, value: &Value) -> Result<ReplyBody, DownErr>
     Ok(ReplyBody::Attributes(attributes))
 }
 
+fn search_field(fields: &mut Cursor<'_>) -> Result<u64, DownErr>
+    ensures { GivesMessage (left_with (left fields.new)) result
+        (need search_kind.reads (codes "searchId") (left fields.old)) }
+{
+    match fields.need("searchId") {
+        Some(value) => search_of(value).ok_or(DownErr::NotMessage),
+        None => Err(DownErr::NotMessage),
+    }
+}
+
+fn search_result(value: &Value) -> Result<ReplyBody, DownErr>
+    ensures { GivesMessage (λ body. body) result (result_by form.Search (view value.now)) }
+{
+    let object = value.as_object().ok_or(DownErr::NotMessage)?;
+    let mut fields = Cursor::new(object);
+    let count = fields.need_whole("resultCount").ok_or(DownErr::NotMessage)?;
+    let search = search_field(&mut fields)?;
+    if !fields.is_done() {
+        return Err(DownErr::NotMessage);
+    }
+    Ok(ReplyBody::Search { search, count })
+}
+
 fn class_names_result(alloc: Global, value: &Value) -> Result<ReplyBody, DownErr>
     ensures { GivesMessage (λ body. body) result (result_by form.ClassNames (view value.now)) }
 {
@@ -220,6 +245,7 @@ fn result_by(alloc: Global, form: ResultForm, value: &Value) -> Result<ReplyBody
         ResultForm::NodeId => id_of(value),
         ResultForm::NodeIds => ids_of(alloc, value),
         ResultForm::Attributes => attributes_result(alloc, value),
+        ResultForm::Search => search_result(value),
         ResultForm::ClassNames => class_names_result(alloc, value),
         ResultForm::SheetText => sheet_text_result(alloc, value),
         ResultForm::Styles => styles_result(alloc, value),

@@ -79,6 +79,8 @@ pub(crate) fn param_name(param: Param) -> &'static str
         Param::BackendNodeIds => "backendNodeIds",
         Param::Depth => "depth",
         Param::Edits => "edits",
+        Param::FromIndex => "fromIndex",
+        Param::IncludeUserAgentShadowDom => "includeUserAgentShadowDOM",
         Param::InsertBeforeNodeId => "insertBeforeNodeId",
         Param::Location => "location",
         Param::Name => "name",
@@ -86,12 +88,15 @@ pub(crate) fn param_name(param: Param) -> &'static str
         Param::Params => "params",
         Param::Path => "path",
         Param::Pierce => "pierce",
+        Param::Query => "query",
         Param::Range => "range",
         Param::RuleText => "ruleText",
+        Param::SearchId => "searchId",
         Param::Selector => "selector",
         Param::StyleSheetId => "styleSheetId",
         Param::TargetNodeId => "targetNodeId",
         Param::Text => "text",
+        Param::ToIndex => "toIndex",
         Param::Type => "type",
         Param::Value => "value",
     }
@@ -113,6 +118,8 @@ fn code_of(why: Why) -> i64
         | Why::NotPushed
         | Why::NoPath
         | Why::BadQuery
+        | Why::NoSearch
+        | Why::BadSearchRange
         | Why::Crossed
         | Why::NoNode
         | Why::NotElement
@@ -151,6 +158,8 @@ fn said_first(why: Why) -> &'static str
         Why::NotPushed => "document not pushed",
         Why::NoPath => "no such path",
         Why::BadQuery => "bad selector",
+        Why::NoSearch => "no such search",
+        Why::BadSearchRange => "bad search range",
         Why::Crossed => "Crossed",
         Why::NoNode => "NoNode",
         Why::NotElement => "NotElement",
@@ -189,6 +198,8 @@ fn said_of_param(why: Why) -> &'static str
         | Why::NotPushed
         | Why::NoPath
         | Why::BadQuery
+        | Why::NoSearch
+        | Why::BadSearchRange
         | Why::Crossed
         | Why::NoNode
         | Why::NotElement

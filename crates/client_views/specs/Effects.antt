@@ -18,6 +18,7 @@ effect_of method (body.Node tree) = NothingElse
 effect_of method (body.NodeId id) = NothingElse
 effect_of method (body.NodeIds ids) = NothingElse
 effect_of method (body.Attributes pairs) = NothingElse
+effect_of method (body.Search search count) = NothingElse
 effect_of method (body.ClassNames names) = NothingElse
 effect_of method (body.SheetText text) = SheetText text
 effect_of method (body.Styles styles) = NothingElse

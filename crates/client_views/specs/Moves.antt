@@ -14,7 +14,7 @@ use Rattle.node_tree.specs.Seen.{Seen, counted, opened, shows_count as is_shut, 
 use Rattle.cdp_messages.specs.declared.command.Refused.{Refused}
 use Rattle.cdp_messages.specs.declared.down.ReplyBody.{ReplyBody}
 use Rattle.cdp_messages.specs.declared.down.ReplyBody.TheVariants.{Nothing, Root, Node, NodeId, NodeIds, Attributes, ClassNames, SheetText}
-use Rattle.cdp_messages.specs.declared.down.ReplyBody.TheVariants.{Styles, Selectors, Rule, Media, Matched}
+use Rattle.cdp_messages.specs.declared.down.ReplyBody.TheVariants.{Styles, Selectors, Rule, Media, Matched, Search}
 use Rattle.cdp_messages.specs.declared.down.PauseData.{PauseData}
 use Rattle.cdp_messages.specs.declared.down.PauseData.TheVariants as pause
 use Rattle.cdp_messages.specs.Events.{News, attribute_modified, attribute_removed, text_modified, count_updated, inserted, removed}
@@ -216,6 +216,7 @@ tells_view (Node b) = false
 tells_view (NodeId id) = false
 tells_view (NodeIds ids) = false
 tells_view (Attributes pairs) = false
+tells_view (Search search count) = false
 tells_view (ClassNames names) = false
 tells_view (SheetText text) = true
 tells_view (Styles styles) = false

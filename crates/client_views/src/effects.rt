@@ -33,6 +33,7 @@ impl Effect {
             | ReplyBody::NodeId(_)
             | ReplyBody::NodeIds(_)
             | ReplyBody::Attributes(_)
+            | ReplyBody::Search { .. }
             | ReplyBody::ClassNames(_)
             | ReplyBody::Styles(_)
             | ReplyBody::Selectors(_)

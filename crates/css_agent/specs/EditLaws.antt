@@ -65,6 +65,7 @@ TellsStyles n (body.Node b) = ⊤
 TellsStyles n (body.NodeId id) = ⊤
 TellsStyles n (body.NodeIds ids) = ⊤
 TellsStyles n (body.Attributes pairs) = ⊤
+TellsStyles n (body.Search search count) = ⊤
 TellsStyles n (body.ClassNames names) = ⊤
 TellsStyles n (body.SheetText text) = ⊤
 TellsStyles n (body.Styles styles) = length styles ≡ n

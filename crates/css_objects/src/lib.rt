@@ -39,7 +39,8 @@ pub use selectors::{
     selectors_value,
 };
 pub use sheets::{
-    Header, SheetOrigin, header_of, header_value, sheet_in, sheet_of, sheet_text, sheet_value,
+    Header, SheetOrigin, header_of, header_value, number_in, sheet_in, sheet_of, sheet_text,
+    sheet_value,
 };
 pub use styles::{
     Style, StyleProperty, inline_style_of, property_of, property_value, rule_style_of, style_value,

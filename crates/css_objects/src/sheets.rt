@@ -1,5 +1,5 @@
 // Sheets in messages: their ids, their origins and their headers.
-ghost use Rattle.std.specs.Prelude.{◌≡◌, codes, option_map, string_bytes, IfOk};
+ghost use Rattle.std.specs.Prelude.{◌≡◌, ◌∷◌, codes, option_map, string_bytes, IfOk};
 ghost use Rattle.serde_json.specs.View.{view};
 ghost use Rattle.cdp_json.specs.Left.{left};
 ghost use Rattle.cdp_json.specs.Rows.{left_with, need, may};
@@ -38,12 +38,11 @@ pub struct Header {
     pub sheet: u64,
 }
 
-/// The sheet whose id has this text: `s`, and the sheet's number, from 1 to 2^53-1, in decimal digits without a leading
+/// The number that stands in an id behind its letter, as in that of a sheet: from 1 to 2^53-1, in decimal digits without a leading
 /// zero.
-pub fn sheet_in(text: &str) -> Option<u64>
-    ensures { result ≡ sheet_in text.now }
+pub fn number_in(digits: &str) -> Option<u64>
+    ensures { result ≡ sheet_in (115 ∷ digits.now) }
 {
-    let digits = text.strip_prefix('s')?;
     if digits.starts_with('0') {
         return None;
     }
@@ -54,6 +53,14 @@ pub fn sheet_in(text: &str) -> Option<u64>
         Ok(number) => if number < 1 << 53 { Some(number) } else { None },
         Err(_) => None,
     }
+}
+
+/// The sheet whose id has this text: `s`, and the sheet's number.
+pub fn sheet_in(text: &str) -> Option<u64>
+    ensures { result ≡ sheet_in text.now }
+{
+    let digits = text.strip_prefix('s')?;
+    number_in(digits)
 }
 
 /// The text of a sheet's id.

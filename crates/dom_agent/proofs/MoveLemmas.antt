@@ -13,14 +13,14 @@ use Rattle.cdp_messages.specs.declared.dom_ask.DomAsk.TheVariants.{GetDocument, 
 use Rattle.cdp_messages.specs.declared.dom_ask.DomAsk.TheVariants.{QuerySelectorAll, GetAttributes, DescribeNode}
 use Rattle.cdp_messages.specs.declared.down.ReplyBody.{ReplyBody}
 use Rattle.cdp_messages.specs.declared.down.ReplyBody.TheVariants.{Nothing, Root, Node, NodeId, NodeIds, Attributes, ClassNames, SheetText}
-use Rattle.cdp_messages.specs.declared.down.ReplyBody.TheVariants.{Styles, Selectors, Rule, Media, Matched}
-use Rattle.cdp_messages.specs.DomAsks.{ask_name, fits_ask}
+use Rattle.cdp_messages.specs.declared.down.ReplyBody.TheVariants.{Styles, Selectors, Rule, Media, Matched, Search}
+use Rattle.cdp_messages.specs.DomAsks.{ask_name}
 use Rattle.cdp_messages.specs.Laws.{answers}
 use Rattle.client_views.specs.Views.{ShownSheet, View}
 use Rattle.client_views.specs.Moves.{root, replied, failed, tells_view, IsPlainReply, CanBeTold, Course, ends, goes}
 use Rattle.dom_objects.specs.Told.{Told}
 use Rattle.dom_agent.specs.Requests.{Outcome, shows_root, served, refused, state_after, moves_of}
-use Rattle.dom_agent.specs.Laws.{session_outcome, CanTell, session_view, IsReplyTo, StepsAreMoves, RepliesAnswer}
+use Rattle.dom_agent.specs.Laws.{session_outcome, CanTell, has_depth, session_view, IsReplyTo, StepsAreMoves, RepliesAnswer}
 use Rattle.dom_agent.proofs.StepLemmas.{CanSay, CanSpell, course-join, goes-few}
 use Rattle.dom_agent.proofs.OutcomeLemmas.{IsOther, either_ask, OutcomeGoes, asks-go, stays_session}
 use Rattle.dom_agent.proofs.TellableLemmas.{can_say}
@@ -38,6 +38,7 @@ is_no_view c (Node b) other is = refl
 is_no_view c (NodeId node) other is = refl
 is_no_view c (NodeIds nodes) other is = refl
 is_no_view c (Attributes pairs) other is = refl
+is_no_view c (Search search count) other is = refl
 is_no_view c (ClassNames names) other is = refl
 is_no_view c (SheetText text) other is = let is_told : false ≡ true = sym (other.1 text) ∙ is in absurd cc
 is_no_view c (Styles styles) other is = refl
@@ -96,7 +97,7 @@ pub steps_are_moves : StepsAreMoves
 steps_are_moves page ask w id sheets valid fits session can small can_sheets =
     let n : Nodes PageRow = alone page.tree in
     let say = can_say page w sheets valid can can_sheets in
-    either_ask (λ c. fits_ask c ≡ true
+    either_ask (λ c. has_depth c ≡ true
     → (let o = session_outcome page c w in Course (moves_of id o) (session_view w page sheets)
     (session_view (state_after w o) page sheets)))
     (λ depth pierce h. (let d : Option ℕ = levels_of (unwrap_or depth (pos 1)) in

@@ -36,7 +36,7 @@ use Rattle.dom_agent.specs.Requests.{with_id, with_ids, all_pushed, pushed as pu
 use Rattle.dom_agent.specs.Described.{described}
 use Rattle.dom_agent.specs.Queries.{Query, query_of, first_matching, all_matching}
 use Rattle.cdp_messages.specs.declared.command.Why.{Why}
-use Rattle.dom_agent.specs.Laws.{session_outcome, CanTell, StaysSession, DrawsFew}
+use Rattle.dom_agent.specs.Laws.{session_outcome, CanTell, has_depth, StaysSession, DrawsFew}
 use Rattle.dom_agent.proofs.OpeningsLemmas.{AreContainers, requested-are}
 use Rattle.dom_agent.proofs.DescribedLemmas.{described-spells, attributes-spell}
 use Rattle.dom_agent.proofs.StepLemmas.{Goes, CanSpell, goes-none, goes-few, goes-openings, goes-pushed, goes-all_pushed, is_small}
@@ -316,6 +316,17 @@ module _ (page : PageValue) (valid : IsValid page) where
 
 -- ---- laws
 
+-- a parameter that is in its range is a depth that is
+pub depth-fits : (c : DomAsk) → fits_ask c ≡ true → has_depth c ≡ true
+depth-fits (GetDocument depth pierce) fits = fits
+depth-fits (RequestChildNodes id depth pierce) fits = refl
+depth-fits (PushByPath path) fits = refl
+depth-fits (PushBySerials serials) fits = refl
+depth-fits (QuerySelector id text) fits = refl
+depth-fits (QuerySelectorAll id text) fits = refl
+depth-fits (GetAttributes id) fits = refl
+depth-fits (DescribeNode id serial depth pierce) fits = refl
+
 goes_session : (page : PageValue) (c : DomAsk) (w : Session) (out : Outcome Session) → IsSession (alone page.tree) w
     → OutcomeGoes page c w out → IsSession (alone page.tree) (state_after w out)
 goes_session page c w (shows_root z b) session g = absurd g
@@ -330,7 +341,7 @@ goes_few page c w (refused why) g = omega arith
 
 pub stays_session : StaysSession
 stays_session page ask w valid fits session =
-    either_ask (λ c. fits_ask c ≡ true → IsSession (alone page.tree) (state_after w (session_outcome page c w)))
+    either_ask (λ c. has_depth c ≡ true → IsSession (alone page.tree) (state_after w (session_outcome page c w)))
     (λ depth pierce h. IsSession-document_opened (levels_of (unwrap_or depth (pos 1))) page.tree.row page.tree.children w
     (distinct-alone page valid) (root_holds page valid) (document-left depth pierce h))
     (λ c other h. goes_session page c w (session_outcome page c w) session (asks-go page valid c other w session))

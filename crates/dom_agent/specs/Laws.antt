@@ -1,5 +1,5 @@
 -- What serves a session by its binding is the step of the session.
-use Rattle.std.specs.Prelude.{◌≡◌, ℕ, ◌+◌, ◌≤◌, ◌<◌, ◌^◌, true, List, map, length, ⊤}
+use Rattle.std.specs.Prelude.{◌≡◌, ℕ, ◌+◌, ◌≤◌, ◌<◌, ◌^◌, Bool, true, List, map, length, ⊤}
 use Rattle.node_tree.specs.Numbers.{counted_limit}
 use Rattle.cdp_json.specs.Kinds.{is_counted}
 use Rattle.node_tree.specs.Nodes.{Nodes, none, node, alone, node_count}
@@ -7,6 +7,8 @@ use Rattle.page_tree.specs.Pages.{PageRow, PageValue, IsValid}
 use Rattle.node_binding.specs.Sessions.{Session, IsSession, view}
 use Rattle.node_binding.specs.Bindings.{BindingValue, Stands}
 use Rattle.cdp_messages.specs.declared.dom_ask.DomAsk.{DomAsk}
+use Rattle.cdp_messages.specs.declared.dom_ask.DomAsk.TheVariants.{GetDocument, RequestChildNodes, PushByPath, PushBySerials, QuerySelector}
+use Rattle.cdp_messages.specs.declared.dom_ask.DomAsk.TheVariants.{QuerySelectorAll, GetAttributes, DescribeNode}
 use Rattle.cdp_messages.specs.DomAsks.{fits_ask, ask_name}
 use Rattle.node_tree.specs.Labels.{LabelHasUtf8}
 use Rattle.cdp_messages.specs.Laws.{answers}
@@ -25,27 +27,38 @@ session_outcome page c w = outcome (session_keeper (alone page.tree)) page.tree 
 abbrev pub binding_outcome : PageValue → DomAsk → BindingValue → Outcome BindingValue
 binding_outcome page c b = outcome (binding_keeper (alone page.tree)) page.tree c b
 
+-- Where the document is asked for, the depth is in its range; of other asks no parameter matters.
+abbrev pub has_depth : DomAsk → Bool
+has_depth (GetDocument depth pierce) = fits_ask (GetDocument depth pierce)
+has_depth (RequestChildNodes id depth pierce) = true
+has_depth (PushByPath path) = true
+has_depth (PushBySerials serials) = true
+has_depth (QuerySelector id text) = true
+has_depth (QuerySelectorAll id text) = true
+has_depth (GetAttributes id) = true
+has_depth (DescribeNode id serial depth pierce) = true
+
 -- a session stays one
 abbrev pub StaysSession : Type 0
-StaysSession = (page : PageValue) (c : DomAsk) (w : Session) → IsValid page → fits_ask c ≡ true → IsSession (alone page.tree) w
+StaysSession = (page : PageValue) (c : DomAsk) (w : Session) → IsValid page → has_depth c ≡ true → IsSession (alone page.tree) w
     → IsSession (alone page.tree) (state_after w (session_outcome page c w))
 
 -- the binding stands for the session after the step
 abbrev pub StaysBound : Type 0
-StaysBound = (page : PageValue) (c : DomAsk) (w : Session) (b : BindingValue) → IsValid page → fits_ask c ≡ true
+StaysBound = (page : PageValue) (c : DomAsk) (w : Session) (b : BindingValue) → IsValid page → has_depth c ≡ true
     → IsSession (alone page.tree) w
     → Stands (alone page.tree) w b
     → Stands (alone page.tree) (state_after w (session_outcome page c w)) (state_after b (binding_outcome page c b))
 
 -- what is told of a command are the moves of the session's step
 abbrev pub SameMoves : Type 0
-SameMoves = (page : PageValue) (c : DomAsk) (w : Session) (b : BindingValue) (id : ℕ) → IsValid page → fits_ask c ≡ true
+SameMoves = (page : PageValue) (c : DomAsk) (w : Session) (b : BindingValue) (id : ℕ) → IsValid page → has_depth c ≡ true
     → IsSession (alone page.tree) w
     → Stands (alone page.tree) w b → moves_of id (binding_outcome page c b) ≡ moves_of id (session_outcome page c w)
 
 -- no command draws more ids than the page has nodes
 abbrev pub DrawsFew : Type 0
-DrawsFew = (page : PageValue) (c : DomAsk) (w : Session) → IsValid page → fits_ask c ≡ true → IsSession (alone page.tree) w
+DrawsFew = (page : PageValue) (c : DomAsk) (w : Session) → IsValid page → has_depth c ≡ true → IsSession (alone page.tree) w
     → length (state_after w (session_outcome page c w)).pushed ≤ length w.pushed + node_count (alone page.tree)
 
 -- ---- a step is a list of moves
@@ -73,7 +86,7 @@ pub record CanTellSheets (sheets : List ShownSheet) : Type 0 where
 -- by the moves that answer a command the view comes to what it is after the step, and messages can tell each view in between
 abbrev pub StepsAreMoves : Type 0
 StepsAreMoves =
-    (page : PageValue) (ask : DomAsk) (w : Session) (id : ℕ) (sheets : List ShownSheet) → IsValid page → fits_ask ask ≡ true
+    (page : PageValue) (ask : DomAsk) (w : Session) (id : ℕ) (sheets : List ShownSheet) → IsValid page → has_depth ask ≡ true
     → IsSession (alone page.tree) w → CanTell page w → is_counted id ≡ true → CanTellSheets sheets
     → let o = session_outcome page ask w in
     Course (moves_of id o) (session_view w page sheets) (session_view (state_after w o) page sheets)
@@ -89,5 +102,5 @@ IsReplyTo ask (refused why) = ⊤
 -- each command is refused, or its reply is one of its method
 abbrev pub RepliesAnswer : Type 0
 RepliesAnswer =
-    (page : PageValue) (ask : DomAsk) (w : Session) → IsValid page → fits_ask ask ≡ true → IsSession (alone page.tree) w
+    (page : PageValue) (ask : DomAsk) (w : Session) → IsValid page → has_depth ask ≡ true → IsSession (alone page.tree) w
     → IsReplyTo ask (session_outcome page ask w)

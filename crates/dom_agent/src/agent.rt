@@ -6,7 +6,7 @@ ghost use Rattle.page_tree.specs.Pages.{find_in};
 ghost use Rattle.page_tree.specs.Edits.{after, back_tree};
 ghost use Rattle.page_tree.specs.EditFaults.{first_fault, IsReady, RefusesEdit};
 ghost use Rattle.node_binding.specs.Openings.{IsDepth, levels_of};
-ghost use Rattle.node_binding.specs.Bindings.{empty_from, cleared, id_in};
+ghost use Rattle.node_binding.specs.Bindings.{empty_from, cleared, id_in, opened_in};
 ghost use Rattle.cdp_messages.specs.DomAsks.{fits_ask};
 ghost use Rattle.cdp_messages.specs.declared.dom_ask.DomAsk.TheVariants.{GetDocument, RequestChildNodes, PushByPath, PushBySerials};
 ghost use Rattle.cdp_messages.specs.declared.dom_ask.DomAsk.TheVariants.{QuerySelector, QuerySelectorAll, GetAttributes, DescribeNode};
@@ -208,7 +208,8 @@ impl DomAgent {
         Ok(())
     }
 
-    fn push_by_serials(
+    /// What `DOM.pushNodesByBackendIdsToFrontend` comes to, of a list that may be lent.
+    pub fn push_by_serials(
         &mut self,
         page: &Page,
         id: u64,
@@ -222,7 +223,7 @@ impl DomAgent {
             (out.new.items ≡ out.old.items
             ++ answer id (binding_outcome page.now (PushBySerials serials.now) self.old)) }
     {
-        if !self.binding.is_opened(page.document()) {
+        if !self.has_document(page) {
             return refuse(self.alloc, id, Why::NotPushed, out);
         }
         self.answer_all_pushed(page, id, serials, out)
@@ -459,6 +460,13 @@ impl DomAgent {
             ),
             TreeEdit::Detach { node } => detach(self.alloc, &mut self.binding, page, node, out),
         }
+    }
+
+    /// Whether the document is opened.
+    pub fn has_document(&self, page: &Page) -> bool
+        ensures { result ≡ opened_in self.now page.now.tree.row.serial }
+    {
+        self.binding.is_opened(page.document())
     }
 
     /// The known node that has the id.

@@ -447,7 +447,7 @@ run-first up down kinds page lines e up_within down_within can texts few new =
           (subst (λ frames. Follows start up down up down frames (first_ends kinds e.seat e.side)) (sym none)
           (follows-start up down kinds start e.seat e.side up_within down_within refl refl
           (stands-first page e.seat e.side can texts new.side) few drew (omega (arith, serials))
-          (omega (arith, numbers))));
+          (omega (arith, numbers)) (omega arith)));
       none_whole = none;
     }
 

@@ -753,6 +753,7 @@ stands-first page seat side can texts new =
         on_is = new.off;
         css_is = new.css;
         watches_are = new.watches_are;
+        searches_are = new.searches_are;
         stands = subst (λ b. Stands (page_nodes (loaded_state page)) begun b) (sym new.agent_is)
             (Stands-begun (page_nodes (loaded_state page)));
       };

@@ -36,6 +36,7 @@ record Drawn (state : State) (bytes : ℕ) : Type 0 where
   edits : edits_kept state ≤ bytes
   serials : state.side.page.next ≤ (frames + 1) * (max_nodes + 1)
   numbers : state.side.next_sheet ≤ (frames + 1) * max_sheets + 1
+  searches : state.client.searches.given ≤ frames
   long : commands * 9 ≤ bytes
   few : frames ≤ bytes
 
@@ -49,6 +50,7 @@ first-drawn = record {
   edits = omega arith;
   serials = omega arith;
   numbers = omega arith;
+  searches = omega arith;
   long = omega arith;
   few = omega arith;
 }
@@ -59,6 +61,9 @@ serials-few next frames bytes few small drawn = omega (arith, few, small, drawn)
 numbers-few : (next frames bytes : ℕ) → frames ≤ bytes → bytes ≤ 2 ^ 26 → next ≤ (frames + 1) * 1000 + 1 → next < 2 ^ 50
 numbers-few next frames bytes few small drawn = omega (arith, few, small, drawn)
 
+searches-few : (given frames bytes : ℕ) → frames ≤ bytes → bytes ≤ 2 ^ 26 → given ≤ frames → given + 1 < 2 ^ 50
+searches-few given frames bytes few small drawn = omega (arith, few, small, drawn)
+
 has-room : (state : State) (bytes : ℕ) → Drawn state bytes → bytes ≤ 2 ^ 26 → HasRoom state
 has-room state bytes d small =
     let less : bytes < 2 ^ 28 = omega (arith, small) in
@@ -67,6 +72,7 @@ has-room state bytes d small =
       serials = serials-few state.side.page.next d.frames bytes d.few small d.serials;
       sheets = numbers-few state.side.next_sheet d.frames bytes d.few small d.numbers;
       edits = few-edits (edits_kept state) bytes less d.edits;
+      searches = searches-few state.client.searches.given d.frames bytes d.few small d.searches;
     }
 
 more-serials : (before after n : ℕ) → before ≤ (n + 1) * 100001 → after ≤ before + 100001 → after ≤ (n + 1 + 1) * 100001
@@ -97,6 +103,7 @@ frame-drawn frame state bytes d room = at (asked frame true) refl where
         edits = omega (arith, keeps, few, d.edits);
         serials = more-serials state.side.page.next done.state.side.page.next d.frames d.serials well.serials;
         numbers = more-numbers state.side.next_sheet done.state.side.next_sheet d.frames d.numbers well.sheets;
+        searches = omega (arith, well.searches, d.searches);
         long = omega (arith, d.long, long);
         few = omega (arith, d.few);
       }
@@ -111,6 +118,7 @@ frame-drawn frame state bytes d room = at (asked frame true) refl where
         edits = omega (arith, d.edits);
         serials = d.serials;
         numbers = d.numbers;
+        searches = d.searches;
         long = omega (arith, d.long);
         few = omega (arith, d.few);
       })

@@ -3,6 +3,7 @@ use Rattle.std.specs.Prelude.{◌≡◌, ◌+◌, List, [], false, length}
 use Rattle.front_mirror.specs.declared.panels.Panel.{Ghosts}
 use Rattle.node_binding.specs.Bindings.{empty_from}
 use Rattle.dom_breakpoints.specs.Watched.{unwatched}
+use Rattle.dom_search.specs.Searches.{no_searches}
 use Rattle.undo_marks.specs.Marks.{no_marks}
 use Rattle.page_tree.specs.Pages.{loaded}
 use Rattle.page_forms.specs.Pages.{LoadedPage}
@@ -23,6 +24,7 @@ pub record IsNewSide (seat : Seat) (side : PageSide) (page : LoadedPage) : Type 
   pub css : seat.desk.css ≡ false
   pub agent_is : seat.desk.agent ≡ empty_from 1
   pub watches_are : seat.desk.watches ≡ unwatched
+  pub searches_are : seat.desk.searches ≡ no_searches
   pub history_is : seat.history ≡ no_marks
 
 -- the ends of it, with panels of these kinds: nothing was sent, given or told

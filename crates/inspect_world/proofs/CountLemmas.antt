@@ -143,12 +143,18 @@ ids-left pushed trees c m bytes long few few_made drawn =
     by : (s : ℕ) → s ≤ 29826161 * 29826161 → c ≤ 29826161 → pushed + trees ≤ (c + m) * 500000 + (s + c) → pushed + 1 < 2 ^ 50
     by s square most drawn = omega (arith, square, most, few_made, drawn)
 
--- fewer than 2^29 steps leave serials and numbers of sheets
+pub more_searches : (before after n m : ℕ) → m ≡ n + 1 → before ≤ n → after ≤ before + 1 → after ≤ m
+more_searches before after n m one few more = omega (arith, one, few, more)
+
+-- fewer than 2^29 steps leave serials and numbers of sheets and searches
 pub serials-left : (next events : ℕ) → events < 2 ^ 29 → next ≤ (events + 1) * 100001 → next < 2 ^ 50
 serials-left next events few drawn = omega (arith, few, drawn)
 
 pub numbers-left : (next events : ℕ) → events < 2 ^ 29 → next ≤ (events + 1) * 1000 + 1 → next < 2 ^ 50
 numbers-left next events few drawn = omega (arith, few, drawn)
+
+pub searches-left : (given events : ℕ) → events < 2 ^ 29 → given ≤ events → given + 1 < 2 ^ 50
+searches-left given events few drawn = omega (arith, few, drawn)
 
 -- what cannot be with fewer than 2^28 bytes
 pub is-full : (sent : ℕ) → (sent < 2 ^ 28 → ⊥) → 2 ^ 28 ≤ sent

@@ -24,7 +24,8 @@ use Rattle.cdp_json.specs.Lookups.{then_ok}
 use Rattle.inspect_world.specs.Fold.{folded, Laws, Leads}
 use Rattle.inspect_world.specs.Fits.{join, ask_of_frame, ask_with, sheet_fetched, IsPlainFrame, edits_of_frame, drawing, asking, with_ask}
 use Rattle.inspect_world.specs.Fits.{Sendable, is_ask, is_bare, AreSendable, asks_among, most_bytes, most_frames, most_trees, IsNext}
-use Rattle.inspect_world.specs.Fits.{next_ask, next_fetch, next_raw, IsNextTurn, most_drawn, most_serials, most_numbers, kept_styles, IsFit}
+use Rattle.inspect_world.specs.Fits.{next_ask, next_fetch, next_raw, IsNextTurn, most_drawn, most_serials, most_numbers, most_searches}
+use Rattle.inspect_world.specs.Fits.{kept_styles, IsFit}
 use Rattle.inspect_world.specs.Fits.{replay}
 use Rattle.front_mirror.proofs.FoldLemmas.{take_frame-more}
 use Rattle.inspect_world.proofs.AskLemmas.{asks_among-append, sendable-last, draws-one, draws-none, drawing-last, drawing-fetch, asks-edits}
@@ -84,6 +85,10 @@ one_more_numbers : (all before after steps steps1 : ℕ) → after ≤ before + 
     → all + after * 1000 ≤ steps1 * 1000 + 1
 one_more_numbers all before after steps steps1 more step h = omega (arith, more, step, h)
 
+one_more_searches : (all before after steps steps1 : ℕ) → after ≤ before + 1 → steps1 ≡ steps + 1 → all + before ≤ steps
+    → all + after ≤ steps1
+one_more_searches all before after steps steps1 more step h = omega (arith, more, step, h)
+
 -- an answer draws no more than was kept for it
 answered_ids : (before after trees trees1 frames others sent all : ℕ) → frames ≡ 1 + others → after ≤ before + (500000 + trees)
     → trees1 ≤ trees + 2
@@ -105,6 +110,10 @@ answered_serials before after frames others all one few h = omega (arith, one, f
 answered_numbers : (before after frames others all : ℕ) → frames ≡ 1 + others → after ≤ before + 1000 → before + frames * 1000 ≤ all
     → after + others * 1000 ≤ all
 answered_numbers before after frames others all one few h = omega (arith, one, few, h)
+
+answered_searches : (before after frames others all : ℕ) → frames ≡ 1 + others → after ≤ before + 1 → before + frames ≤ all
+    → after + others ≤ all
+answered_searches before after frames others all one few h = omega (arith, one, few, h)
 
 -- and that to a fetch draws nothing
 fetched_ids : (before after frames others all : ℕ) → frames ≡ 0 + others → after ≡ before → before + frames * 34054432 ≤ all
@@ -144,7 +153,11 @@ turned_numbers : (before after others asks raws turns : ℕ) → after ≤ befor
     → after + others * 1000 ≤ (asks + raws + (turns + 1) + 1) * 1000 + 1
 turned_numbers before after others asks raws turns few h = omega (arith, few, h)
 
--- a run is too short to use all ids, all serials, all numbers of sheets and all places in the history
+turned_searches : (before after others asks raws turns : ℕ) → after ≤ before + 1 → before + others ≤ asks + raws + turns
+    → after + others ≤ asks + raws + (turns + 1)
+turned_searches before after others asks raws turns few h = omega (arith, few, h)
+
+-- a run is too short to use all ids, all serials, all numbers of sheets and searches and all places in the history
 ids_left : (pushed trees others sent turns : ℕ) → sent ≤ 2 ^ 24 → turns ≤ 2 ^ 26
     → pushed + trees + others * 34054432 ≤ sent * 34054432 + turns * 500000 → pushed + 1 < 2 ^ 50
 ids_left pushed trees others sent turns few few_turns h = omega (arith, few, few_turns, h)
@@ -157,6 +170,9 @@ numbers_left : (next others sent turns : ℕ) → sent ≤ 2 ^ 24 → turns ≤ 
     → next < 2 ^ 50
 numbers_left next others sent turns few few_turns h = omega (arith, few, few_turns, h)
 
+searches_left : (given others sent turns : ℕ) → sent ≤ 2 ^ 24 → turns ≤ 2 ^ 26 → given + others ≤ sent + turns → given + 1 < 2 ^ 50
+searches_left given others sent turns few few_turns h = omega (arith, few, few_turns, h)
+
 edits_left : (kept others edits : ℕ) → edits ≤ 2 ^ 26 → kept + others ≤ edits → kept < 2 ^ 30
 edits_left kept others edits few h = omega (arith, few, h)
 
@@ -167,6 +183,7 @@ fit-room n front s frames fit = record {
   serials = serials_left s.back.side.page.next (drawing frames) (n.asks + n.raws) n.turns fit.few fit.few_turns fit.serials;
   sheets = numbers_left s.back.side.next_sheet (drawing frames) (n.asks + n.raws) n.turns fit.few fit.few_turns fit.numbers;
   edits = edits_left (edits_kept s.back) (asking frames) n.edits fit.few_edits fit.edits;
+  searches = searches_left s.back.client.searches.given (drawing frames) (n.asks + n.raws) n.turns fit.few fit.few_turns fit.searches;
 }
 
 -- ---- a frame is sent
@@ -207,6 +224,8 @@ fit-asked n _ text front s frames (next_ask method edits is asks few few_edits) 
           (n.asks + 1 + n.raws + n.turns + 1) (drawing-last frames text) (omega arith) fit.serials;
       numbers = one_more_numbers s.back.side.next_sheet (drawing frames) (drawing (frames ++ text ∷ [])) (n.asks + n.raws + n.turns + 1)
           (n.asks + 1 + n.raws + n.turns + 1) (drawing-last frames text) (omega arith) fit.numbers;
+      searches = one_more_searches s.back.client.searches.given (drawing frames) (drawing (frames ++ text ∷ [])) (n.asks + n.raws + n.turns)
+          (n.asks + 1 + n.raws + n.turns) (drawing-last frames text) (omega arith) fit.searches;
     }
 fit-asked n _ text front s frames (next_fetch sheet is few) fit =
     let joins : join front text ≡ with_ask front (Some (fetch_ask n.fetches sheet)) = ap (with_ask front) is in
@@ -231,6 +250,7 @@ fit-asked n _ text front s frames (next_fetch sheet is few) fit =
       edits = subst (λ k. edits_kept s.back + k ≤ n.edits) (sym (asking-fetch frames text sheet fetches)) fit.edits;
       serials = subst (λ k. s.back.side.page.next + k * (max_nodes + 1) ≤ most_serials n) (sym drawn) fit.serials;
       numbers = subst (λ k. s.back.side.next_sheet + k * max_sheets ≤ most_numbers n) (sym drawn) fit.numbers;
+      searches = subst (λ k. s.back.client.searches.given + k ≤ most_searches n) (sym drawn) fit.searches;
     }
 fit-asked n _ text front s frames (next_raw bare few) fit =
     let joins : join front text ≡ front = ap (with_ask front) bare.no_ask in
@@ -258,6 +278,8 @@ fit-asked n _ text front s frames (next_raw bare few) fit =
           (n.asks + (n.raws + 1) + n.turns + 1) (drawing-last frames text) (omega arith) fit.serials;
       numbers = one_more_numbers s.back.side.next_sheet (drawing frames) (drawing (frames ++ text ∷ [])) (n.asks + n.raws + n.turns + 1)
           (n.asks + (n.raws + 1) + n.turns + 1) (drawing-last frames text) (omega arith) fit.numbers;
+      searches = one_more_searches s.back.client.searches.given (drawing frames) (drawing (frames ++ text ∷ [])) (n.asks + n.raws + n.turns)
+          (n.asks + (n.raws + 1) + n.turns) (drawing-last frames text) (omega arith) fit.searches;
     }
 
 -- ---- a step is made
@@ -272,6 +294,7 @@ record Enough (m : Spent) (state : State) (frames : List (List ℕ)) : Type 0 wh
   edits : edits_kept state + asking frames ≤ m.edits
   serials : state.side.page.next + drawing frames * (max_nodes + 1) ≤ most_serials m
   numbers : state.side.next_sheet + drawing frames * max_sheets ≤ most_numbers m
+  searches : state.client.searches.given + drawing frames ≤ most_searches m
 
 -- what is told of matched styles is kept
 kept-more : (v w : FrontValue) (styles told : List ToldStyles) (more : List MatchedReply) → map kept_styles v.matched ≡ styles
@@ -307,6 +330,7 @@ leads-on n m s done told after front frames more fit well in_turn sendable enoug
         edits = enough.edits;
         serials = enough.serials;
         numbers = enough.numbers;
+        searches = enough.searches;
       };
       whole = ap (λ (fs : Frames). fs.rest) t.frames_are;
     }
@@ -325,6 +349,7 @@ record Answer (n : Spent) (state : State) (asks : List Ask) (frames : List (List
   edits : edits_kept done.state + asking frames ≤ n.edits
   serials : done.state.side.page.next + drawing frames * (max_nodes + 1) ≤ most_serials n
   numbers : done.state.side.next_sheet + drawing frames * max_sheets ≤ most_numbers n
+  searches : done.state.client.searches.given + drawing frames ≤ most_searches n
 
 -- the step on a frame that is no fetch
 answer-plain : (n : Spent) (frame : List ℕ) (front : FrontValue) (s : RunState) (frames : List (List ℕ)) (done : Step)
@@ -347,6 +372,8 @@ answer-plain n frame front s frames done fit well keeps plain in_turn =
           (most_serials n) one well.serials fit.serials;
       numbers = answered_numbers s.back.side.next_sheet done.state.side.next_sheet (drawing (frame ∷ frames)) (drawing frames)
           (most_numbers n) one well.sheets fit.numbers;
+      searches = answered_searches s.back.client.searches.given done.state.client.searches.given (drawing (frame ∷ frames))
+          (drawing frames) (most_searches n) one well.searches fit.searches;
     }
 
 -- the reply to a fetch answers the ask that it is
@@ -389,6 +416,9 @@ answer-fetch n frame front s frames ask sheet fit is fetches =
       numbers = fetched_numbers state.side.next_sheet done.state.side.next_sheet (drawing (frame ∷ frames)) (drawing frames)
           (most_numbers n) none
           (ap (λ (s : State). s.side.next_sheet) same) fit.numbers;
+      searches = fetched_edits state.client.searches.given done.state.client.searches.given (drawing (frame ∷ frames)) (drawing frames)
+          (most_searches n) none
+          (ap (λ (s : State). s.client.searches.given) same) fit.searches;
     }
 
 -- what a step on a frame sends takes the front along
@@ -410,6 +440,7 @@ fit-answered n frame front s frames fit =
       edits = answer.edits;
       serials = answer.serials;
       numbers = answer.numbers;
+      searches = answer.searches;
     }) (styles-told frame state well.1) refl
   where
     by-sheet : (ask : Ask) (o : Option ℕ) → StepsWell s.back (frame_step false frame s.back)
@@ -459,6 +490,8 @@ fit-turned n x front s frames next fit =
           (drawing frames) n.asks n.raws n.turns well.serials fit.serials;
       numbers = turned_numbers state.side.next_sheet done.state.side.next_sheet
           (drawing frames) n.asks n.raws n.turns well.sheets fit.numbers;
+      searches = turned_searches state.client.searches.given done.state.client.searches.given
+          (drawing frames) n.asks n.raws n.turns well.searches fit.searches;
     }) (ap (map kept_styles) (quiet-styles done.moves (turn-answers x state))) (append-nil s.styles)
 
 pub world_laws : Laws replay IsNext IsNextTurn IsFit

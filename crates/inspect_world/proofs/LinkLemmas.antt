@@ -46,7 +46,8 @@ use Rattle.inspect_world.proofs.AskLemmas.{asks_among-append}
 use Rattle.inspect_world.proofs.Worlds.{whole-after, rest-after}
 use Rattle.inspect_world.proofs.CountLemmas.{events-counted, frames-few, frames-within, bytes-append, commands-long, commands-last}
 use Rattle.inspect_world.proofs.CountLemmas.{made-last}
-use Rattle.inspect_world.proofs.CountLemmas.{more_serials, more_numbers, is-full, ids-left, serials-left, numbers-left, few-edits}
+use Rattle.inspect_world.proofs.CountLemmas.{more_serials, more_numbers, more_searches, is-full, ids-left, serials-left, numbers-left}
+use Rattle.inspect_world.proofs.CountLemmas.{searches-left, few-edits}
 use Rattle.inspect_world.proofs.SeatRoom.{has-room-left, seated-state}
 use Rattle.inspect_world.proofs.StepSends.{Sends, same-drew, frame-sends, turn-sends, happened-state, happened-sent, frames-last}
 use Rattle.inspect_world.proofs.StepSends.{goes-start, goes-put, goes-get, goes-waits, sent_since-is, given_since-is, Folds, folds-sent}
@@ -58,11 +59,11 @@ pub follows-start : (up0 down0 : Pipe) (kinds : List PanelKind) (state0 : Starte
     → length up0.given ≤ length up0.sent → length down0.given ≤ length down0.sent → state0.shown ≡ []
     → state0.panels ≡ map Some kinds → StandsFor seat side state0.state
     → state0.lines ≤ most_bytes → Drew state0.state 0 0 0 → state0.state.side.page.next ≤ (0 + 1) * (max_nodes + 1)
-    → state0.state.side.next_sheet ≤ (0 + 1) * max_sheets + 1
+    → state0.state.side.next_sheet ≤ (0 + 1) * max_sheets + 1 → state0.state.client.searches.given ≤ 0
     → Follows state0 up0 down0 up0 down0 []
     (record { seat = seat; side = side; back_rest = []; front = first_state kinds; up_there = 0; down_there = 0; told = nothing_told })
 unfolding frames_of
-follows-start up0 down0 kinds state0 seat side up_within down_within none panels stands few drew serials numbers = record {
+follows-start up0 down0 kinds state0 seat side up_within down_within none panels stands few drew serials numbers searches = record {
   sent_up = [];
   given_up = [];
   sent_down = [];
@@ -91,6 +92,7 @@ follows-start up0 down0 kinds state0 seat side up_within down_within none panels
   drew = drew;
   few_serials = serials;
   few_numbers = numbers;
+  few_searches = searches;
 }
 
 -- a line that makes no step of the script
@@ -124,6 +126,7 @@ follows-fewer state0 up0 down0 up down waiting e f = record {
   drew = f.drew;
   few_serials = f.few_serials;
   few_numbers = f.few_numbers;
+  few_searches = f.few_searches;
 }
 
 -- more matched styles were shown, which are there
@@ -158,6 +161,7 @@ follows-showing state0 shown up0 down0 up down waiting e f all = record {
   drew = f.drew;
   few_serials = f.few_serials;
   few_numbers = f.few_numbers;
+  few_searches = f.few_searches;
 }
 
 -- matched styles that came are there for good
@@ -224,6 +228,7 @@ module _ (state0 : Started) (up0 down0 : Pipe) where
         drew = f.drew;
         few_serials = f.few_serials;
         few_numbers = f.few_numbers;
+        few_searches = f.few_searches;
       }
 
   -- an ask is sent
@@ -322,6 +327,7 @@ module _ (state0 : Started) (up0 down0 : Pipe) where
     drew = f.drew;
     few_serials = f.few_serials;
     few_numbers = f.few_numbers;
+    few_searches = f.few_searches;
   }
 
   -- ---- a step is made
@@ -399,6 +405,8 @@ module _ (state0 : Started) (up0 down0 : Pipe) where
             (length (f.events ++ h ∷ [])) events f.few_serials s.serials;
         few_numbers = more_numbers f.state.side.next_sheet (happening_step h f.state).state.side.next_sheet (length f.events)
             (length (f.events ++ h ∷ [])) events f.few_numbers s.numbers;
+        few_searches = more_searches f.state.client.searches.given (happening_step h f.state).state.client.searches.given
+            (length f.events) (length (f.events ++ h ∷ [])) events f.few_searches s.searches;
       }
 
   -- a frame is answered
@@ -508,6 +516,7 @@ module _ (state0 : Started) (up0 down0 : Pipe) where
         drew = f.drew;
         few_serials = f.few_serials;
         few_numbers = f.few_numbers;
+        few_searches = f.few_searches;
       }
 
   -- or the front refuses one, and the fold is this fault
@@ -617,6 +626,7 @@ module _ (state0 : Started) (up0 down0 : Pipe) where
         serials = serials-left f.state.side.page.next (length f.events) events f.few_serials;
         sheets = numbers-left f.state.side.next_sheet (length f.events) events f.few_numbers;
         edits = few-edits (edits_kept f.state) (bytes_among (frames_among f.events)) given f.drew.edits;
+        searches = searches-left f.state.client.searches.given (length f.events) events f.few_searches;
       })) in absurd cc)
 
   -- ---- what was told says nothing of the link
@@ -651,6 +661,7 @@ module _ (state0 : Started) (up0 down0 : Pipe) where
     drew = f.drew;
     few_serials = f.few_serials;
     few_numbers = f.few_numbers;
+    few_searches = f.few_searches;
   }
 
   -- ---- the panels
@@ -687,4 +698,5 @@ module _ (state0 : Started) (up0 down0 : Pipe) where
     drew = f.drew;
     few_serials = f.few_serials;
     few_numbers = f.few_numbers;
+    few_searches = f.few_searches;
   }

@@ -122,6 +122,7 @@ fit-first page can texts = record {
   edits = omega arith;
   serials = let room : suc (node_count page.nodes) ≤ 100000 = can.nodes.room in omega (arith, room);
   numbers = let few : length page.sheets ≤ 1000 = few-sheets page.sheets can.sheets in omega (arith, few);
+  searches = omega arith;
 }
 
 pub fits-loaded : (kinds : List PanelKind) (page : LoadedPage) → CanLoadPage page → PageHasTexts page → Fits (loaded_world kinds page)

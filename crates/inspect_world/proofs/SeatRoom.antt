@@ -7,6 +7,7 @@ use Rattle.undo_marks.specs.Changes.{HistoryEntry as Entry, backs_of, again_of}
 use Rattle.undo_marks.specs.Saved.{Saved}
 use Rattle.undo_marks.specs.SavedEdits.{way_back}
 use Rattle.undo_marks.specs.declared.inverse_lists.Inverse.{Inverse}
+use Rattle.dom_search.specs.Searches.{Kept as Searched, next_search}
 use Rattle.back_end.specs.declared.seat.Seat.{Seat}
 use Rattle.back_end.specs.declared.side.PageSide.{PageSide}
 use Rattle.back_end.specs.States.{State, IsState, Keeps}
@@ -45,6 +46,7 @@ has-room-left seat side state stands room =
         ids = omega (arith, next, ids);
         serials = subst (λ (page : PageValue). page.next < 2 ^ 50) (sym stands.stands.page_is) room.serials;
         sheets = subst (λ n. n < 2 ^ 50) (sym stands.stands.next_is) room.sheets;
+        searches = subst (λ (k : Searched). next_search k < 2 ^ 50) (sym stands.stands.searches_are) room.searches;
       };
       edits = subst (λ n. n < 2 ^ 30) (sym (kept-count seat.history state stands.kept)) room.edits;
     }
@@ -59,6 +61,7 @@ room-of seat side state stands left =
       serials = subst (λ (page : PageValue). page.next < 2 ^ 50) stands.stands.page_is left.numbers.serials;
       sheets = subst (λ n. n < 2 ^ 50) stands.stands.next_is left.numbers.sheets;
       edits = subst (λ n. n < 2 ^ 30) (kept-count seat.history state stands.kept) left.edits;
+      searches = subst (λ (k : Searched). next_search k < 2 ^ 50) stands.stands.searches_are left.numbers.searches;
     }
 
 -- the state that a seat stands for is one that can be

@@ -51,6 +51,7 @@ pub record Sends (state : State) (h : Happening) : Type 0 where
       (b + bytes_among (frames_among (h ∷ [])))
   pub serials : (happening_step h state).state.side.page.next ≤ state.side.page.next + (max_nodes + 1)
   pub numbers : (happening_step h state).state.side.next_sheet ≤ state.side.next_sheet + max_sheets
+  pub searches : (happening_step h state).state.client.searches.given ≤ state.client.searches.given + 1
 
 -- sheets whose texts are not known
 abbrev unread : List ShownSheet → List KnownSheet
@@ -92,6 +93,7 @@ sends-moves state h done asks rest well is_step plain in_turn ids drew =
           (b + bytes_among (frames_among (h ∷ [])))) (sym is_step) (drew c m b before);
       serials = subst (λ (d : Stepped State). d.state.side.page.next ≤ state.side.page.next + (max_nodes + 1)) (sym is_step) well.serials;
       numbers = subst (λ (d : Stepped State). d.state.side.next_sheet ≤ state.side.next_sheet + max_sheets) (sym is_step) well.sheets;
+      searches = subst (λ (d : Stepped State). d.state.client.searches.given ≤ state.client.searches.given + 1) (sym is_step) well.searches;
     }
 
 count-one : (c n : ℕ) → n ≡ 1 → c + (0 + n) ≡ c + 1

@@ -106,6 +106,7 @@ quiet-effect method (body.Node tree) plain e = refl
 quiet-effect method (body.NodeId id) plain e = refl
 quiet-effect method (body.NodeIds ids) plain e = refl
 quiet-effect method (body.Attributes pairs) plain e = refl
+quiet-effect method (body.Search search count) plain e = refl
 quiet-effect method (body.ClassNames names) plain e = refl
 quiet-effect method (body.SheetText text) plain e = absurd cc
 quiet-effect method (body.Styles styles) plain e = refl

@@ -12,9 +12,11 @@ use Rattle.cdp_messages.specs.declared.command.Command.{Command}
 use Rattle.cdp_messages.specs.declared.dom_ask.DomAsk.{DomAsk}
 use Rattle.cdp_messages.specs.declared.dom_edit.DomEdit.{DomEdit}
 use Rattle.cdp_messages.specs.declared.css_edit.CssEdit.{CssEdit}
+use Rattle.cdp_messages.specs.declared.search_ask.SearchAsk.{SearchAsk}
+use Rattle.cdp_messages.specs.declared.search_ask.SearchAsk.TheVariants as search
 use Rattle.cdp_messages.specs.declared.command.Command.TheVariants.{DomEnable, DomDisable, CssEnable, CssDisable, AskDom, EditDom, AskCss}
 use Rattle.cdp_messages.specs.declared.command.Command.TheVariants.{EditCss, MarkUndoableState, Undo, Redo, SetBreakpoint, RemoveBreakpoint}
-use Rattle.cdp_messages.specs.declared.command.Command.TheVariants.{ReplayLoad, ReplayAct}
+use Rattle.cdp_messages.specs.declared.command.Command.TheVariants.{ReplayLoad, ReplayAct, AskSearch}
 use Rattle.cdp_messages.specs.declared.dom_ask.DomAsk.TheVariants as ask
 use Rattle.cdp_messages.specs.declared.dom_edit.DomEdit.TheVariants as tree
 use Rattle.cdp_messages.specs.declared.css_edit.CssEdit.TheVariants as style
@@ -46,6 +48,7 @@ no-matched method id (body.Node tree) never e = refl
 no-matched method id (body.NodeId node) never e = refl
 no-matched method id (body.NodeIds nodes) never e = refl
 no-matched method id (body.Attributes pairs) never e = refl
+no-matched method id (body.Search search count) never e = refl
 no-matched method id (body.ClassNames names) never e = refl
 no-matched method id (body.SheetText text) never e = refl
 no-matched method id (body.Styles styles) never e = refl
@@ -135,6 +138,11 @@ edit-never (tree.RemoveNode node) m e = absurd cc
 edit-never (tree.MoveTo node target before) m e = absurd cc
 edit-never (tree.CopyTo node target before) m e = absurd cc
 
+search-never : (a : SearchAsk) → Never (method_name (AskSearch a))
+search-never (search.PerformSearch query shadow) m e = absurd cc
+search-never (search.GetSearchResults id from to) m e = absurd cc
+search-never (search.DiscardSearchResults id) m e = absurd cc
+
 sheet-edit-never : (e : CssEdit) → Never (method_name (EditCss e))
 sheet-edit-never (style.SetStyleTexts edits) m e = absurd cc
 sheet-edit-never (style.SetRuleSelector sheet range selector) m e = absurd cc
@@ -149,6 +157,7 @@ styles-command id DomEnable state ms is may = other DomEnable ms (λ m e. absurd
 styles-command id DomDisable state ms is may = other DomDisable ms (λ m e. absurd cc) may
 styles-command id (AskDom a) state ms is may = other (AskDom a) ms (ask-never a) may
 styles-command id (EditDom e) state ms is may = other (EditDom e) ms (edit-never e) may
+styles-command id (AskSearch a) state ms is may = other (AskSearch a) ms (search-never a) may
 styles-command id MarkUndoableState state ms is may = other MarkUndoableState ms (λ m e. absurd cc) may
 styles-command id Undo state ms is may = other Undo ms (λ m e. absurd cc) may
 styles-command id Redo state ms is may = other Redo ms (λ m e. absurd cc) may

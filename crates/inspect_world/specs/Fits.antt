@@ -171,13 +171,17 @@ most_serials n = (n.asks + n.raws + n.turns + 1) * (max_nodes + 1)
 abbrev pub most_numbers : Spent → ℕ
 most_numbers n = (n.asks + n.raws + n.turns + 1) * max_sheets + 1
 
+-- how many searches there may have been: a frame that is no fetch makes one at most
+abbrev pub most_searches : Spent → ℕ
+most_searches n = n.asks + n.raws + n.turns
+
 -- matched styles that a front end has kept
 abbrev pub kept_styles : MatchedReply → ToldStyles
 kept_styles r = told_styles r.ask r.matched
 
 -- After n was spent the front shows exactly what the state's client sees, has kept just the matched styles that it was told, and
--- waits for the asks among these frames alone. Enough ids, serials, numbers of sheets and places in the history are left for these
--- answers.
+-- waits for the asks among these frames alone. Enough ids, serials, numbers of sheets and searches and places in the history are left
+-- for these answers.
 pub record IsFit (n : Spent) (v : FrontValue) (s : RunState) (frames : List (List ℕ)) : Type 0 where
   pub has : Has v (view_of s.back)
   pub styles : map kept_styles v.matched ≡ s.styles
@@ -192,6 +196,7 @@ pub record IsFit (n : Spent) (v : FrontValue) (s : RunState) (frames : List (Lis
   pub edits : edits_kept s.back + asking frames ≤ n.edits
   pub serials : s.back.side.page.next + drawing frames * (max_nodes + 1) ≤ most_serials n
   pub numbers : s.back.side.next_sheet + drawing frames * max_sheets ≤ most_numbers n
+  pub searches : s.back.client.searches.given + drawing frames ≤ most_searches n
 
 -- how the run of a replay goes on
 abbrev pub replay : Machine RunState FrontValue FrontKind Turn

@@ -127,8 +127,8 @@ pub record PipeGoesOn (start now : Pipe) (sent given : List ℕ) : Type 0 where
 -- Since the pipes were as `up0` and `down0`, and the run began as `state0` says: the front end is the fold of what it sent and was
 -- given; the back end has carried out the frames that were given up, but for those that `waiting` holds whole, and between them
 -- the script's own steps, and has sent just what these steps send. What the ends count as sent and not given is just that.
--- Matched styles that were shown are there for good. Ids, serials and numbers of sheets were drawn for what was sent up and for the
--- script's steps alone, and edits kept for what was sent up.
+-- Matched styles that were shown are there for good. Ids, serials and numbers of sheets and searches were drawn for what was sent up
+-- and for the script's steps alone, and edits kept for what was sent up.
 pub record Follows (state0 : Started) (up0 down0 up down : Pipe) (waiting : List (List ℕ)) (e : Ends) : Type 0 where
   pub sent_up : List ℕ
   pub given_up : List ℕ
@@ -157,3 +157,4 @@ pub record Follows (state0 : Started) (up0 down0 up down : Pipe) (waiting : List
   pub drew : Drew state (commands_among events) (made_among events) (bytes_among (frames_among events))
   pub few_serials : state.side.page.next ≤ (length events + 1) * (max_nodes + 1)
   pub few_numbers : state.side.next_sheet ≤ (length events + 1) * max_sheets + 1
+  pub few_searches : state.client.searches.given ≤ length events

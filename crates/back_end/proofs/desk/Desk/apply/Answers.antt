@@ -8,9 +8,9 @@ returns-in-Ok-clause-few c = edit-few c.args.side.now.page c.args.edit c.args.se
 
 pub returns-in-Ok-clause-stands : goal.returns-in-Ok-clause-stands
 returns-in-Ok-clause-stands c = λ state stands texts.
-    edit-stands c.args.self.now (record { alloc = _; is_on = _; css = _; agent = _; watches = _ }) c.args.side.now
+    edit-stands c.args.self.now (record { alloc = _; is_on = _; css = _; agent = _; watches = _; searches = _ }) c.args.side.now
     (record { page = _; sheets = _ }) state c.args.edit stands
-    c.requires.can texts c.requires.ids c.requires.serials c.requires.sheets c.in-Ok.ensures.page refl refl refl c.forget_gone.ensures
+    c.requires.can texts c.requires.ids c.requires.serials c.requires.sheets c.in-Ok.ensures.page refl refl refl c.forget_gone.ensures refl
     c.in-Ok.ensures.agent
 
 pub returns-in-Ok-clause-sent : goal.returns-in-Ok-clause-sent

@@ -12,7 +12,8 @@ returns-clause-stands c = λ state both.
       css = _;
       agent = _;
       watches = _;
-    }) c.clear-2.new.self c.args.side.now c.args.side.now state c.args.id both.stands c.requires.on c.clear-2.ensures
+      searches = _;
+    }) c.clear-3.new.self c.args.side.now c.args.side.now state c.args.id both.stands c.requires.on c.clear-3.ensures
     (disabled-stands c.args.self.now
-    (record { alloc = _; is_on = _; css = _; agent = _; watches = _ }) c.args.side.now c.args.side.now state c.args.id both.stands
-    c.requires.on refl refl refl (c.in_ok-switch.ensures {u = tt}).on c.clear.ensures c.reset.ensures)
+    (record { alloc = _; is_on = _; css = _; agent = _; watches = _; searches = _ }) c.args.side.now c.args.side.now state c.args.id both.stands
+    c.requires.on refl refl refl (c.in_ok-switch.ensures {u = tt}).on c.clear.ensures c.clear-2.ensures c.reset.ensures)

@@ -23,7 +23,8 @@ returns-clause-stands c = λ state stands.
     (c.in_ok-loaded.ensures.sheets ∙ ap (λ n. as_book (numbered_sheets n (loaded_page c.args.form).sheets)) c.next_number.ensures.value)
     (c.in_ok-loaded.ensures.next ∙ ap (λ n. n + length (loaded_page c.args.form).sheets) c.next_number.ensures.value)
     c.in_ok-loaded.ensures.medium
-    c.tell_come.ensures.rest.0 css (c.tell_come.ensures.watches ∙ c.clear.ensures) (c.tell_come.ensures.rest.1 ∙ c.reset.ensures))
+    c.tell_come.ensures.rest.0 css (c.tell_come.ensures.watches ∙ c.clear.ensures)
+    (c.tell_come.ensures.searches ∙ c.clear-2.ensures) (c.tell_come.ensures.rest.1 ∙ c.reset.ensures))
 
 pub returns-clause-sent : goal.returns-clause-sent
 returns-clause-sent c = λ state stands.

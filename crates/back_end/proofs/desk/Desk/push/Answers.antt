@@ -18,7 +18,8 @@ returns-clause-stands c = λ state stands can.
       css = _;
       agent = _;
       watches = _;
-    }) c.args.side.now state c.args.node c.page.result.now stands can c.page.ensures refl refl refl)
+      searches = _;
+    }) c.args.side.now state c.args.node c.page.result.now stands can c.page.ensures refl refl refl refl)
 
 pub returns-clause-sent : goal.returns-clause-sent
 returns-clause-sent c = λ state stands can.

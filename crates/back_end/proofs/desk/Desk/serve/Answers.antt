@@ -7,9 +7,10 @@ use Rattle.cdp_messages.specs.declared.command.Command.{Command}
 use Rattle.cdp_messages.specs.declared.command.Command.TheVariants as commands
 use Rattle.cdp_messages.specs.Methods.{needs_dom, needs_both}
 use Rattle.cdp_messages.proofs.MethodRows.{edits-need-dom, styles-need-both, style_edits-need-both}
+use Rattle.back_end.proofs.SearchSeats.{searches-need-dom}
 use Rattle.back_end.proofs.DomainLemmas.{met-on, met-css, met-ask}
 use Rattle.back_end.proofs.KeepSeats.{enables-alone, css-enables-alone, css-disables-alone, styles-alone, watches-alone, unwatches-alone}
-use Rattle.back_end.proofs.KeepSeats.{agent-alone, plain-both, part-both, part-sent}
+use Rattle.back_end.proofs.KeepSeats.{searches-alone, agent-alone, plain-both, part-both, part-sent}
 use Rattle.back_end.proofs.desk.Desk.serve.Goals as goal
 
 pub ask_agent-requires-clause-ask : goal.ask_agent-requires-clause-ask
@@ -64,6 +65,27 @@ returns-in-AskCss-clause-sent c = λ state both.
     part-sent c.answer_styles.result state c.args.id (commands.AskCss c.in-AskCss.ask)
     c.args.command c.args.out.now.items c.answer_styles.new.out.items (sym c.in-AskCss.is)
     (c.answer_styles.ensures.sent state both.stands)
+
+pub answer_search-requires-clause-on : goal.answer_search-requires-clause-on
+answer_search-requires-clause-on c =
+    met-on c.args.self.now.is_on c.args.self.now.css (commands.AskSearch c.in-AskSearch.ask)
+    c.args.command c.in-AskSearch.is (searches-need-dom c.in-AskSearch.ask) c.requires.met
+
+pub answer_search-requires-clause-standing : goal.answer_search-requires-clause-standing
+answer_search-requires-clause-standing c = ∥∥₁_map c.requires.standing (λ p. (p.0, p.1.stands))
+
+pub returns-in-AskSearch-clause-stands : goal.returns-in-AskSearch-clause-stands
+returns-in-AskSearch-clause-stands c = λ state both.
+    plain-both c.answer_search.result c.args.self.now c.answer_search.new.self c.args.side.now c.answer_search.new.side c.args.history.now
+    state c.args.id (commands.AskSearch c.in-AskSearch.ask) c.args.command (sym c.in-AskSearch.is)
+    (searches-alone c.in-AskSearch.ask) both
+    (c.answer_search.ensures.stands state both.stands)
+
+pub returns-in-AskSearch-clause-sent : goal.returns-in-AskSearch-clause-sent
+returns-in-AskSearch-clause-sent c = λ state both.
+    part-sent c.answer_search.result state c.args.id (commands.AskSearch c.in-AskSearch.ask)
+    c.args.command c.args.out.now.items c.answer_search.new.out.items (sym c.in-AskSearch.is)
+    (c.answer_search.ensures.sent state both.stands)
 
 pub returns-in-SetBreakpoint-clause-stands : goal.returns-in-SetBreakpoint-clause-stands
 returns-in-SetBreakpoint-clause-stands c = λ state both.

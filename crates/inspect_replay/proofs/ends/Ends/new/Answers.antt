@@ -15,6 +15,7 @@ invariant_of-result g c = record {
     css = c.new-2.ensures.css;
     agent_is = c.new-2.ensures.agent;
     watches_are = c.new-2.ensures.watches;
+    searches_are = c.new-2.ensures.searches;
     history_is = c.new-2.ensures.history;
   });
 }
@@ -30,6 +31,7 @@ returns g c = record {
     css = c.new-2.ensures.css;
     agent_is = c.new-2.ensures.agent;
     watches_are = c.new-2.ensures.watches;
+    searches_are = c.new-2.ensures.searches;
     history_is = c.new-2.ensures.history;
   };
   splitter = search rules;

@@ -16,6 +16,7 @@ invariant_of-result c = record {
     css = c.new-2.ensures.css;
     agent_is = c.new-2.ensures.agent;
     watches_are = c.new-2.ensures.watches;
+    searches_are = c.new-2.ensures.searches;
     history_is = c.new-2.ensures.history;
   });
 }
@@ -32,6 +33,7 @@ returns c = record {
         css = c.new-2.ensures.css;
         agent_is = c.new-2.ensures.agent;
         watches_are = c.new-2.ensures.watches;
+        searches_are = c.new-2.ensures.searches;
         history_is = c.new-2.ensures.history;
       }) c.new-3.ensures;
 }
