@@ -1,5 +1,6 @@
 -- The lines of a script up to the first that is refused.
-use Rattle.std.specs.Prelude.{◌≡◌, ℕ, zero, suc, ◌+◌, ◌-◌, ◌≤◌, map, take, MatchOption, List, [], ◌∷◌, ◌++◌, Bool, false, cond, Option, Some, None}
+use Rattle.std.specs.Prelude.{◌≡◌, ℕ, zero, suc, ◌+◌, ◌-◌, ◌≤◌, map, take, MatchOption, List, [], ◌∷◌, ◌++◌, Bool, false, cond}
+use Rattle.std.specs.Prelude.{Option, Some, None}
 use Rattle.std.specs.Prelude.{is_some, option_and_then}
 use Rattle.std.specs.Option.{option_map_or, option_to_list}
 use Rattle.replay_script.specs.Lines.{lines_of}
