@@ -192,6 +192,12 @@ served-pushed ask (shows_root w b) state = refl
 served-pushed ask (served p body) state = refl
 served-pushed ask (refused why) state = refl
 
+served-given : (ask : DomAsk) (o : Outcome Session) (state : State)
+    → (client_served ask o state.client).searches.given ≡ state.client.searches.given
+served-given ask (shows_root w b) state = refl
+served-given ask (served p body) state = refl
+served-given ask (refused why) state = refl
+
 pub agent-well : (id : ℕ) (ask : DomAsk) (state : State) → HoldsNow state → HasRoom state → is_counted id ≡ true → has_depth ask ≡ true
     → (ask_needs_on ask && not state.client.dom_on) ≡ false → Well state (agent_step id ask state) 100000 0 0
 agent-well id ask state is room small fits on =
@@ -211,7 +217,7 @@ agent-well id ask state is room small fits on =
       few_ids = omega (arith, few, count, served-pushed ask o state);
       few_serials = omega arith;
       few_sheets = omega arith;
-      given = refl;
+      given = served-given ask o state;
     }
 
 agent-recalls : (ask : DomAsk) (o : Outcome Session) (state : State) → HasHistory state

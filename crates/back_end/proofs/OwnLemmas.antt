@@ -121,6 +121,7 @@ answering-well id x state is room small can =
         serials = done.serials;
         sheets = done.sheets;
         trees = done.trees;
+        searches = done.searches;
       },
       turn.1,
     )

@@ -6,7 +6,7 @@ use Rattle.back_end.proofs.SearchSeats.{performed-stands, performed-sent}
 use Rattle.back_end.proofs.desk.Desk.perform_search.Goals as goal
 
 pub keep-requires : goal.keep-requires
-keep-requires c = omega (arith, c.requires.searches)
+keep-requires c = omega (arith, c.requires.room.searches)
 
 pub returns-clause-stands : goal.returns-clause-stands
 returns-clause-stands c = λ state stands.
@@ -19,5 +19,5 @@ pub returns-clause-sent : goal.returns-clause-sent
 returns-clause-sent c = λ state stands.
     on_ok c.write_reply.result _ _ c.write_reply.ensures.ok
     (performed-sent c.args.self.now c.args.side.now state c.args.id c.args.query.now c.page.result.now c.in_ok-serials.serials.items
-    stands c.page.ensures c.in_ok-serials.ensures c.in_ok-search.search c.len.result c.args.out.now.items c.write_reply.new.out.items
-    c.in_ok-search.ensures.number c.len.ensures)
+    stands c.page.ensures c.in_ok-serials.ensures c.in_ok-search.search c.len-count.result c.args.out.now.items c.write_reply.new.out.items
+    c.in_ok-search.ensures.number (omega (arith, c.len-count.ensures, c.in_ok-serials.serials.ok)))
