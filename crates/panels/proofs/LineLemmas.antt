@@ -1,26 +1,23 @@
 -- Lines: what ends with a line feed and has none before; a text is cut into its lines in one way.
-use Rattle.std.proofs.Common.{◌≡◌, ◌≢◌, ℕ, zero, suc, ◌+◌, ◌/◌, ◌%◌, ◌<◌, ◌≤◌, ◌==◌, ◌||◌, ◌&&◌, not, nat_le, nat_lt, Bool, true, false, cond, Option, Some, None}
-use Rattle.std.proofs.Common.{if◌then◌else◌, List, [], ◌∷◌, ◌++◌, take, drop, refl, sym, ap, ◌∙◌, subst, arith, append_assoc, decimal, length}
+use Rattle.std.proofs.Common.{◌≡◌, ℕ, zero, suc, ◌+◌, ◌/◌, ◌%◌, ◌≤◌, ◌==◌, ◌&&◌, nat_le, nat_lt, Bool, true, false, cond}
+use Rattle.std.proofs.Common.{if◌then◌else◌, List, [], ◌∷◌, ◌++◌, take, drop, refl, arith, decimal, length}
 use Rattle.std.specs.Prelude.{codes}
-use Rattle.std.specs.List.{list_all, concat, flat_map}
+use Rattle.std.specs.List.{list_all, flat_map}
 use Rattle.std.specs.Char.{digit_char}
 use Rattle.std.specs.Fmt.{digit_glyph, digits_onto, digits}
-use Rattle.std.proofs.lemmas.Bool.{eq-eqb, eqb-true, ne_eqb}
 use Rattle.std.proofs.lemmas.Bool.Decides.{nat_tests}
 use Rattle.json.specs.Print.{escape_letter, escape_byte, escape}
 use Rattle.node_tree.specs.declared.Kind.{Kind}
 use Rattle.node_tree.specs.declared.Kind.TheVariants.{Document, Element, Text, Comment, Doctype}
-use Rattle.node_tree.specs.Nodes.{Nodes, none, node, Branch}
+use Rattle.node_tree.specs.Nodes.{Nodes, none, node}
 use Rattle.node_tree.specs.Names.{is_letter, is_name_byte, is_element_name, is_attribute_byte, is_attribute_name}
 use Rattle.node_tree.specs.Labels.{Pair, Label, is_named_label, has_name}
-use Rattle.node_tree.specs.Keys.{At, here, within, past, find}
-use Rattle.node_tree.specs.Seen.{Seen, seen_id}
-use Rattle.node_tree.proofs.KeyLemmas.{stands-find}
+use Rattle.node_tree.specs.Seen.{Seen}
 use Rattle.front_mirror.specs.Outline.{indent, quoted, attribute_text, label_text_of, label_text, unshown_text, unshown_of, seen_line}
-use Rattle.front_mirror.specs.Walks.{walk, walk_in, spliced}
+use Rattle.front_mirror.specs.Walks.{walk, spliced}
 use Rattle.client_views.specs.Views.{has_formed_labels}
 use Rattle.node_tree.specs.Labels.{is_formed_label}
-use Rattle.panels.specs.Lines.{is_line, outline_line, outline_lines, shown_lines}
+use Rattle.panels.specs.Lines.{is_line, outline_line, shown_lines}
 
 pub and_true : (a b : Bool) → (a && b) ≡ true → (a ≡ true) × (b ≡ true)
 and_true true true e = (refl, refl)
@@ -76,7 +73,7 @@ onto_printed : (k base n : ℕ) (acc : List ℕ) → is_printed acc ≡ true →
 onto_printed zero base n acc e = e
 onto_printed (suc k) base n acc e =
     let more : is_printed (digit_glyph false (n % base) ∷ acc) ≡ true =
-        both_true (nat_le 32 (digit_glyph false (n % base))) (is_printed acc) (glyph_printed (n % base)) e
+    both_true (nat_le 32 (digit_glyph false (n % base))) (is_printed acc) (glyph_printed (n % base)) e
     in
     at (n / base == 0) (digit_glyph false (n % base) ∷ acc) (digits_onto k base false (n / base) (digit_glyph false (n % base) ∷ acc)) more
     (onto_printed k base (n / base) (digit_glyph false (n % base) ∷ acc) more)
@@ -102,7 +99,8 @@ escape_printed : (x : ℕ) → is_printed (escape_byte x) ≡ true
 unfolding escape_byte
 escape_printed x = at (nat_lt 0 (escape_letter x)) (nat_lt x 32) refl refl where
   at : (b c : Bool) → nat_lt 0 (escape_letter x) ≡ b → nat_lt x 32 ≡ c
-      → is_printed (cond b (92 ∷ escape_letter x ∷ []) (cond c (92 ∷ 117 ∷ 48 ∷ 48 ∷ digit_char (x / 16) ∷ digit_char (x % 16) ∷ []) (x ∷ []))) ≡ true
+      → is_printed (cond b (92 ∷ escape_letter x ∷ []) (cond c (92 ∷ 117 ∷ 48 ∷ 48 ∷ digit_char (x / 16) ∷ digit_char (x % 16) ∷ [])
+      (x ∷ []))) ≡ true
   at true c e f = both_true (nat_le 32 (escape_letter x)) true (letter_printed x e) refl
   at false true e f = both_true (nat_le 32 (digit_char (x / 16))) (nat_le 32 (digit_char (x % 16)) && true) (hex_printed (x / 16))
       (both_true (nat_le 32 (digit_char (x % 16))) true (hex_printed (x % 16)) refl)
@@ -174,7 +172,8 @@ label_printed Element l e =
     (printed-append (codes "<") l.name refl (element_printed l.name s.0)) (pairs_printed l.attributes s.1)) refl
 label_printed Text l e = quoted_printed l.value
 label_printed Comment l e =
-    printed-append (codes "<!--" ++ quoted l.value) (codes "-->") (printed-append (codes "<!--") (quoted l.value) refl (quoted_printed l.value)) refl
+    printed-append (codes "<!--" ++ quoted l.value) (codes "-->") (printed-append (codes "<!--") (quoted l.value) refl
+    (quoted_printed l.value)) refl
 label_printed Doctype l e =
     let s = and_true (is_element_name l.name) _ e in
     printed-append (codes "<!" ++ l.name) (codes ">") (printed-append (codes "<!") l.name refl (element_printed l.name s.0)) refl

@@ -1,16 +1,13 @@
 -- Walks over the children of known nodes.
-use Rattle.std.proofs.Common.{◌≡◌, ℕ, zero, suc, ◌+◌, ◌*◌, ◌-◌, ◌<◌, ◌≤◌, ◌^◌, Option, Some, None, IsSome, List, [], ◌∷◌, ◌++◌, length}
+use Rattle.std.proofs.Common.{◌≡◌, ℕ, zero, suc, ◌+◌, ◌*◌, ◌-◌, ◌<◌, ◌≤◌, ◌^◌, Some, List, [], ◌∷◌, ◌++◌, length}
 use Rattle.std.proofs.Common.{get_or, drop}
-use Rattle.std.proofs.Common.{refl, sym, ap, ◌∙◌, subst, arith, append_assoc, append-nil, option_map, unwrap_or}
+use Rattle.std.proofs.Common.{refl, sym, ap, ◌∙◌, arith, append_assoc, append-nil}
 use Rattle.std.specs.List.{concat}
 use Rattle.std.proofs.lemmas.List.{drop_more, drop_all}
-use Rattle.node_tree.specs.Nodes.{Nodes, none, node, Branch, node_count, branch_count, tree_at, width, height, from}
-use Rattle.node_tree.specs.Keys.{find}
-use Rattle.node_tree.specs.Seen.{Seen, seen_id}
-use Rattle.node_tree.proofs.KeyLemmas.{find-child}
+use Rattle.node_tree.specs.Nodes.{Nodes, none, node, Branch, branch_count, tree_at, width, height, from}
+use Rattle.node_tree.specs.Seen.{Seen}
 use Rattle.front_mirror.specs.Walks.{walk, walk_in}
-use Rattle.client_views.specs.Views.{IsMirror}
-use Rattle.front_mirror.specs.Shown.{known_at, no_node}
+use Rattle.front_mirror.specs.Shown.{known_at}
 use Rattle.front_mirror.specs.Outline.{indent}
 use Rattle.front_mirror.proofs.ChildLemmas.{ChildFound, child_is, tree-count}
 
@@ -61,7 +58,8 @@ module _ (id child i : ℕ) (n : Nodes Seen) (f : ChildFound id child i n) where
   pub child_low : (level : ℕ) → level + height (known_at id n).children < 2 ^ 60 → (level + 1) + height (known_at child n).children < 2 ^ 60
   child_low level low =
       let h = tree-height i (known_at id n).children f.tree f.there in
-      let k : height (known_at child n).children ≡ height f.tree.children = ap (λ (b : Branch Seen). height b.children) (child_is id child i n f) in
+      let k : height (known_at child n).children ≡ height f.tree.children = ap (λ (b : Branch Seen). height b.children)
+      (child_is id child i n f) in
       omega arith
 
   pub child_smaller : 2 * branch_count (known_at child n) < 2 * branch_count (known_at id n) - 1

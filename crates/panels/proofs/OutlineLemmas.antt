@@ -1,10 +1,10 @@
 -- The text of an outline after each change.
-use Rattle.std.proofs.Common.{◌≡◌, ◌≢◌, ℕ, suc, ◌+◌, ◌-◌, ◌^◌, ◌<◌, ◌≤◌, Bool, true, Option, Some, None, IsSome, Result, Ok, Err, List, [], ◌∷◌, ◌++◌}
+use Rattle.std.proofs.Common.{◌≡◌, ℕ, ◌+◌, ◌^◌, ◌<◌, ◌≤◌, Bool, true, Option, Some, None, IsSome, Result, Ok, Err, List, ◌++◌}
 use Rattle.std.proofs.Common.{length, take, drop, refl, sym, ap, ◌∙◌, subst, arith, is_some}
 use Rattle.std.specs.Prelude.{IfOk, IfSome}
 use Rattle.std.specs.Option.{SomeIff}
 use Rattle.std.specs.List.{list_all, concat}
-use Rattle.node_tree.specs.Nodes.{Nodes, none, node, Branch, height}
+use Rattle.node_tree.specs.Nodes.{Nodes, Branch, height}
 use Rattle.node_tree.specs.Keys.{At, here, within, past, find, level_of}
 use Rattle.node_tree.specs.Seen.{Seen, seen_id}
 use Rattle.node_tree.proofs.KeyLemmas.{stands-find, found_key, height_above-at}
@@ -12,9 +12,8 @@ use Rattle.node_tree.proofs.ChangeLemmas.{at-back, level-at}
 use Rattle.client_views.specs.Views.{IsMirror}
 use Rattle.front_mirror.specs.Shown.{known_at}
 use Rattle.front_mirror.specs.Outline.{seen_line, outline_text}
-use Rattle.front_mirror.specs.Walks.{spliced}
 use Rattle.front_mirror.proofs.ChildLemmas.{known-found}
-use Rattle.panels.specs.Lines.{is_line, outline_line, outline_lines, shown_lines}
+use Rattle.panels.specs.Lines.{is_line, outline_lines, shown_lines}
 use Rattle.panels.proofs.RootLemmas.{concat-append, face-lines}
 use Rattle.panels.proofs.LineLemmas.{lines_of}
 use Rattle.panels.proofs.SpliceLemmas.{LinesTurn}
@@ -64,7 +63,7 @@ known_low id level n mirror known at =
     let s = stands-find seen_id id n (known_at id n) found in
     let key = found_key seen_id id n (known_at id n) found in
     let l : level_of seen_id id 0 n ≡ Some (0 + s.0) =
-        subst (λ x. level_of seen_id x 0 n ≡ Some (0 + s.0)) key (level-at seen_id 0 s.2 (mirror.view.ids (known_at id n).row.id))
+    subst (λ x. level_of seen_id x 0 n ≡ Some (0 + s.0)) key (level-at seen_id 0 s.2 (mirror.view.ids (known_at id n).row.id))
     in
     let same : level ≡ 0 + s.0 = let both : ◌≡◌ {A = Option ℕ} (Some level) (Some (0 + s.0)) = sym at ∙ l in cc in
     let h = height_above-at (at-back s.2) in

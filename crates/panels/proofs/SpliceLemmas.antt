@@ -1,5 +1,5 @@
 -- What each change does to the lines of the outline.
-use Rattle.std.proofs.Common.{◌≡◌, ◌≢◌, ℕ, zero, suc, ◌+◌, ◌-◌, ◌<◌, ◌≤◌, Option, Some, None, IsSome, List, [], ◌∷◌, ◌++◌}
+use Rattle.std.proofs.Common.{◌≡◌, ℕ, zero, suc, ◌+◌, ◌-◌, ◌<◌, ◌≤◌, Option, Some, IsSome, List, [], ◌∷◌, ◌++◌}
 use Rattle.std.proofs.Common.{length, refl, sym, ap, ◌∙◌, subst, arith, length-append, option_map}
 use Rattle.node_tree.specs.Nodes.{Nodes, none, node, Branch, node_count, branch_count, tree_at, width}
 use Rattle.node_tree.specs.Keys.{find, level_of, At}
@@ -67,14 +67,14 @@ module _ (id : ℕ) (before after : Nodes Seen) (was : IsMirror before) (is : Is
       let same : t.new.row.id ≡ id = t.turns.id ∙ t.named in
       let known : known_at id after ≡ t.new = subst (λ x. known_at x after ≡ t.new) same (known-new t.at is) in
       let low : level_of seen_id id 0 after ≡ Some (0 + t.depth) =
-          subst (λ x. level_of seen_id x 0 after ≡ Some (0 + t.depth)) same (level-new t.at is)
+      subst (λ x. level_of seen_id x 0 after ≡ Some (0 + t.depth)) same (level-new t.at is)
       in
       let deep : level ≡ 0 + t.depth = let both : ◌≡◌ {A = Option ℕ} (Some level) (Some (0 + t.depth)) = sym at ∙ low in cc in
       let rank : rank_of seen_id id after ≡ length s.front =
-          subst (λ x. rank_of seen_id x after ≡ length s.front) same (s.ranks seen_id (is.view.ids t.new.row.id))
+      subst (λ x. rank_of seen_id x after ≡ length s.front) same (s.ranks seen_id (is.view.ids t.new.row.id))
       in
       let kids : walk outline_line (suc (0 + t.depth)) t.new.children ≡ walk outline_line (suc (0 + t.depth)) t.old.children =
-          ap (walk outline_line (suc (0 + t.depth))) t.turns.children
+      ap (walk outline_line (suc (0 + t.depth))) t.turns.children
       in
       let row : (known_at id after).row ≡ t.new.row = ap (λ (b : Branch Seen). b.row) known in
       rw (row, deep)
@@ -91,14 +91,14 @@ module _ (id : ℕ) (before after : Nodes Seen) (was : IsMirror before) (is : Is
       let same : t.new.row.id ≡ id = ap (λ (r : Seen). r.id) t.turns.row ∙ t.named in
       let known : known_at id after ≡ t.new = subst (λ x. known_at x after ≡ t.new) same (known-new t.at is) in
       let low : level_of seen_id id 0 after ≡ Some (0 + t.depth) =
-          subst (λ x. level_of seen_id x 0 after ≡ Some (0 + t.depth)) same (level-new t.at is)
+      subst (λ x. level_of seen_id x 0 after ≡ Some (0 + t.depth)) same (level-new t.at is)
       in
       let deep : level ≡ 0 + t.depth = let both : ◌≡◌ {A = Option ℕ} (Some level) (Some (0 + t.depth)) = sym at ∙ low in cc in
       let rank : rank_of seen_id id after ≡ length s.front =
-          subst (λ x. rank_of seen_id x after ≡ length s.front) same (s.ranks seen_id (is.view.ids t.new.row.id))
+      subst (λ x. rank_of seen_id x after ≡ length s.front) same (s.ranks seen_id (is.view.ids t.new.row.id))
       in
       let empty : t.old.children ≡ none =
-          unopened_none t.old.row.hold t.old.children (shut_unopened t.old.row.hold t.turns.shut) (bare-at t.at was.view.bare)
+      unopened_none t.old.row.hold t.old.children (shut_unopened t.old.row.hold t.turns.shut) (bare-at t.at was.view.bare)
       in
       rw (known, deep)
       (lines_turn (rank_of seen_id id after) 1 s.front (walk_in outline_line (0 + t.depth) t.old)
@@ -125,7 +125,7 @@ module _ (child parent : ℕ) (before after : Nodes Seen) (was : IsMirror before
   lines_inserted t level at =
       let w = t.turns.gained in
       let put : Grown w 0 t.old.children t.new.children =
-          subst (λ (o : Nodes Seen). Grown w 0 o t.new.children) t.turns.others (grown_place t.turns.place w t.new.children t.turns.there)
+      subst (λ (o : Nodes Seen). Grown w 0 o t.new.children) t.turns.others (grown_place t.turns.place w t.new.children t.turns.there)
       in
       let g : Grown w (suc t.depth) before after = grown-at w t.at t.turns.row put in
       let s = grows outline_line 0 g in
@@ -133,11 +133,11 @@ module _ (child parent : ℕ) (before after : Nodes Seen) (was : IsMirror before
       let same : w.row.id ≡ child = t.turns.named in
       let known : known_at child after ≡ w = subst (λ x. known_at x after ≡ w) same (known-new e is) in
       let low : level_of seen_id child 0 after ≡ Some (0 + suc t.depth) =
-          subst (λ x. level_of seen_id x 0 after ≡ Some (0 + suc t.depth)) same (level-new e is)
+      subst (λ x. level_of seen_id x 0 after ≡ Some (0 + suc t.depth)) same (level-new e is)
       in
       let deep : level ≡ 0 + suc t.depth = let both : ◌≡◌ {A = Option ℕ} (Some level) (Some (0 + suc t.depth)) = sym at ∙ low in cc in
       let rank : rank_of seen_id child after ≡ length s.front =
-          subst (λ x. rank_of seen_id x after ≡ length s.front) same (s.ranked seen_id (is.view.ids w.row.id))
+      subst (λ x. rank_of seen_id x after ≡ length s.front) same (s.ranked seen_id (is.view.ids w.row.id))
       in
       let row : (known_at child after).row ≡ w.row = ap (λ (b : Branch Seen). b.row) known in
       let empty : w.children ≡ none = unopened_none w.row.hold w.children t.turns.unopened (bare-at e is.view.bare) in
@@ -152,7 +152,7 @@ module _ (child parent : ℕ) (before after : Nodes Seen) (was : IsMirror before
   lines_removed place known t =
       let w = t.turns.lost in
       let put : Grown w 0 t.new.children t.old.children =
-          subst (λ (o : Nodes Seen). Grown w 0 o t.old.children) t.turns.others (grown_place place w t.old.children t.turns.there)
+      subst (λ (o : Nodes Seen). Grown w 0 o t.old.children) t.turns.others (grown_place place w t.old.children t.turns.there)
       in
       let g : Grown w (suc t.depth) after before = grown-at w (at-back t.at) (sym t.turns.row) put in
       let s = grows outline_line 0 g in
@@ -163,11 +163,11 @@ module _ (child parent : ℕ) (before after : Nodes Seen) (was : IsMirror before
       let child_rank = rank-child seen_id place w t.turns.there t.at was.view.ids in
       let old_rank = p.ranked seen_id (was.view.ids t.old.row.id) in
       let new_rank : rank_of seen_id parent after ≡ length p.front =
-          subst (λ x. rank_of seen_id x after ≡ length p.front) same (p.ranks seen_id (is.view.ids t.new.row.id))
+      subst (λ x. rank_of seen_id x after ≡ length p.front) same (p.ranks seen_id (is.view.ids t.new.row.id))
       in
       let kids : count_first place (known_at parent after).children ≡ count_first place t.old.children =
-          ap (λ (b : Branch Seen). count_first place b.children) known_is ∙ ap (count_first place) (sym t.turns.others)
-          ∙ count-without place t.old.children
+      ap (λ (b : Branch Seen). count_first place b.children) known_is ∙ ap (count_first place) (sym t.turns.others)
+      ∙ count-without place t.old.children
       in
       lines_turn (place_left parent place after) known s.front (walk_in outline_line (0 + suc t.depth) w) [] s.rest before after
       (omega arith) (sym (walk_in-count outline_line (0 + suc t.depth) w ∙ t.turns.known_were)) s.is s.was
@@ -198,7 +198,7 @@ child_start parent place n is known sibling some e =
     let size : branch_count (known_at sibling n) ≡ branch_count f.tree = ap branch_count (child_is parent sibling (place - 1) n f) in
     let s : suc (place - 1) ≡ place = omega arith in
     let c : count_first (suc (place - 1)) (known_at parent n).children ≡ count_first place (known_at parent n).children =
-        ap (λ k. count_first k (known_at parent n).children) s
+    ap (λ k. count_first k (known_at parent n).children) s
     in
     omega arith
 
@@ -207,6 +207,6 @@ pub first_start : (parent place : ℕ) (n : Nodes Seen) → place ≡ 0 → rank
 first_start parent place n e =
     let c = count_first-zero (known_at parent n).children in
     let k : count_first place (known_at parent n).children ≡ count_first 0 (known_at parent n).children =
-        ap (λ i. count_first i (known_at parent n).children) e
+    ap (λ i. count_first i (known_at parent n).children) e
     in
     omega arith

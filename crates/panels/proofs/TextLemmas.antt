@@ -1,9 +1,8 @@
 -- Where lines end in a text.
-use Rattle.std.proofs.Common.{◌≡◌, ◌≢◌, ℕ, zero, suc, ◌+◌, ◌-◌, ◌<◌, ◌≤◌, ◌==◌, ◌&&◌, nat_le, Bool, true, false, List, [], ◌∷◌, ◌++◌, length, take, drop}
-use Rattle.std.proofs.Common.{get_or, refl, sym, ap, ◌∙◌, subst, arith, append_assoc, length-append, length-drop, Option, Some, None}
-use Rattle.std.specs.Prelude.{IfSome}
+use Rattle.std.proofs.Common.{◌≡◌, ℕ, zero, suc, ◌+◌, ◌-◌, ◌<◌, ◌≤◌, ◌==◌, ◌&&◌}
+use Rattle.std.proofs.Common.{nat_le, Bool, true, false, List, [], ◌∷◌, ◌++◌, length, take, drop}
+use Rattle.std.proofs.Common.{get_or, refl, sym, ap, ◌∙◌, arith, append_assoc, length-append, length-drop}
 use Rattle.std.specs.List.{list_all, concat, replace_range}
-use Rattle.std.proofs.lemmas.Bool.{eqb-true}
 use Rattle.std.proofs.lemmas.Bool.Decides.{nat_tests}
 use Rattle.panels.specs.Lines.{is_line}
 
@@ -116,10 +115,10 @@ pub end_turn : (bytes : List ℕ) (start end len k : ℕ) (lines : List (List �
 end_turn bytes start end len k lines rest all is less at here none_before =
     let n = next_line k lines rest (drop start bytes) all is (omega arith) in
     let hay : take (length bytes - end) (drop end bytes) ≡ n.line ++ n.tail =
-        rest_is bytes end ∙ ap (λ j. drop j bytes) at ∙ drop_add start (length (concat (take k lines))) bytes ∙ n.there
+    rest_is bytes end ∙ ap (λ j. drop j bytes) at ∙ drop_add start (length (concat (take k lines))) bytes ∙ n.there
     in
     let h = first_feed n.line n.tail len n.is (ap (λ t. get_or t len 0 == 10) (sym hay) ∙ here)
-        (λ j less yes. none_before j (omega arith) less (ap (λ t. get_or t j 0 == 10) hay ∙ yes))
+    (λ j less yes. none_before j (omega arith) less (ap (λ t. get_or t j 0 == 10) hay ∙ yes))
     in
     let s : k + 1 ≡ suc k = omega arith in
     let l = n.longer in
@@ -181,17 +180,17 @@ module _ (text : List ℕ) (lines : List (List ℕ)) (place count : ℕ) (is : t
       let lead = first (take place lines) (concat mid ++ rest) (all_take place lines all) (take_length place lines (omega arith)) parts in
       let from_is : from ≡ length front = omega (arith, lead) in
       let behind : drop from text ≡ concat mid ++ rest =
-          (λ i. drop (from_is i) (parts i)) ∙ drop_front front (concat mid ++ rest)
+      (λ i. drop (from_is i) (parts i)) ∙ drop_front front (concat mid ++ rest)
       in
       let inside : count ≤ length (drop place lines) = let l = length-drop place lines in omega arith in
       let second_is = second mid rest (all_take count (drop place lines) (all_drop place lines all))
-          (take_length count (drop place lines) inside) behind
+      (take_length count (drop place lines) inside) behind
       in
       let to_is : to ≡ length front + length (concat mid) = omega (arith, second_is) in
       let tail : drop to text ≡ rest =
-          ap (λ j. drop j text) to_is ∙ drop_add (length front) (length (concat mid)) text
-          ∙ ap (drop (length (concat mid))) (ap (drop (length front)) parts ∙ drop_front front (concat mid ++ rest))
-          ∙ drop_front (concat mid) rest
+      ap (λ j. drop j text) to_is ∙ drop_add (length front) (length (concat mid)) text
+      ∙ ap (drop (length (concat mid))) (ap (drop (length front)) parts ∙ drop_front front (concat mid ++ rest))
+      ∙ drop_front (concat mid) rest
       in
       let head : take from text ≡ front = (λ i. take (from_is i) (parts i)) ∙ take_front front (concat mid ++ rest) in
       (λ i. (head i ++ more) ++ tail i) ∙ append_assoc front more rest

@@ -4,7 +4,7 @@ use Rattle.std.proofs.Common.{refl, sym, ap, ◌∙◌, subst, option_map, decim
 use Rattle.std.specs.Prelude.{codes}
 use Rattle.std.specs.Option.{option_map_or}
 use Rattle.std.proofs.lemmas.Bool.{ne_eqb}
-use Rattle.node_tree.specs.Nodes.{Nodes, none, node, Branch}
+use Rattle.node_tree.specs.Nodes.{Nodes, none, Branch}
 use Rattle.node_tree.specs.Keys.{first_of, find, At}
 use Rattle.node_tree.specs.Seen.{Seen, seen_id, seen_serial}
 use Rattle.node_tree.proofs.KeyLemmas.{find-stands, stands-find}

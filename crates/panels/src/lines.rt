@@ -25,7 +25,12 @@ fn push_indent(level: usize, out: &mut String) -> Result<(), AllocError>
 }
 
 /// The line of a known node on that level, with its indent and its end.
-pub(crate) fn line_on(alloc: Global, mirror: &Mirror, id: u64, level: usize) -> Result<Text, AllocError>
+pub(crate) fn line_on(
+    alloc: Global,
+    mirror: &Mirror,
+    id: u64,
+    level: usize,
+) -> Result<Text, AllocError>
     requires known { IsSome (find seen_id id mirror.now) }
     ensures { IfOk result (λ line. line ≡ outline_line level (known_at id mirror.now).row) }
 {

@@ -42,12 +42,7 @@ fn lines_of(alloc: Global, mirror: &Mirror, id: u64) -> Result<String, AllocErro
 }
 
 /// The node of that id was opened: its line gives way to those of all below it too. Tells whether the text is the one after.
-fn open(
-    alloc: Global,
-    text: &mut String,
-    node: u64,
-    mirror: &Mirror,
-) -> Result<bool, AllocError>
+fn open(alloc: Global, text: &mut String, node: u64, mirror: &Mirror) -> Result<bool, AllocError>
     ensures { TextTurned (change.Opened node) (string_bytes text.old) (string_bytes text.new) mirror.now result }
 {
     if !mirror.known(node) {
@@ -76,12 +71,7 @@ fn insert(
 }
 
 /// The node of that id has another line.
-fn replace(
-    alloc: Global,
-    text: &mut String,
-    node: u64,
-    mirror: &Mirror,
-) -> Result<bool, AllocError>
+fn replace(alloc: Global, text: &mut String, node: u64, mirror: &Mirror) -> Result<bool, AllocError>
     ensures { TextTurned (change.Changed node) (string_bytes text.old) (string_bytes text.new) mirror.now result }
 {
     if !mirror.known(node) {

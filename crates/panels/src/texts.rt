@@ -26,7 +26,12 @@ fn lines_end(bytes: &[u8], start: usize, count: usize) -> Option<usize>
 }
 
 /// Puts a text in place of so many lines behind the first ones, and tells whether the lines were there.
-pub(crate) fn splice(text: &mut String, place: usize, count: usize, more: &str) -> Result<bool, AllocError>
+pub(crate) fn splice(
+    text: &mut String,
+    place: usize,
+    count: usize,
+    more: &str,
+) -> Result<bool, AllocError>
     ensures { (lines : List (List ℕ)) → string_bytes text.old ≡ concat lines → list_all is_line lines ≡ true → place + count ≤ length lines
         → IfOk result (λ done. done ≡ true
         → string_bytes text.new ≡ concat (take place lines) ++ (more.now ++ concat (drop (place + count) lines))) }

@@ -1,5 +1,5 @@
 -- The lines of one child more.
-use Rattle.std.proofs.Common.{◌+◌, ◌*◌, ◌-◌, ◌<◌, ◌++◌, ap, subst, ◌∙◌, arith}
+use Rattle.std.proofs.Common.{◌+◌, ◌*◌, ◌<◌, ◌++◌, ap, subst, ◌∙◌, arith}
 use Rattle.node_tree.specs.Nodes.{branch_count}
 use Rattle.front_mirror.specs.Shown.{known_at}
 use Rattle.front_mirror.specs.Walks.{walk}

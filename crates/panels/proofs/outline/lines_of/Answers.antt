@@ -18,6 +18,7 @@ returns c = λ level at.
     let node = known_at c.args.id c.args.mirror.now in
     c.in_ok-push_lines.ensures {u = tt} ∙ (λ i. c.new-text.ensures.bytes i ++ concat (c.as_slice.ensures.value i))
     ∙ ap (λ (l : List (List ℕ)). concat l)
-    (c.in_ok-push_node.ensures {u = tt} ∙ ap (λ (l : List (List ℕ)). l ++ walk_in outline_line c.level.result node) c.new-lines.ensures.items)
+    (c.in_ok-push_node.ensures {u = tt} ∙ ap (λ (l : List (List ℕ)). l ++ walk_in outline_line c.level.result node)
+    c.new-lines.ensures.items)
     ∙ ap (λ (l : ℕ). concat (walk_in outline_line l node))
     (same_level (level_of seen_id c.args.id 0 c.args.mirror.now) c.level.result level c.level.ensures.level at)

@@ -1,6 +1,5 @@
-use Rattle.std.proofs.Common.{◌≡◌, ◌+◌, ◌-◌, ◌<◌, ◌++◌, [], ◌∷◌, true, ap, sym, ◌∙◌, arith, refl, is_some, subst, string_bytes}
-use Rattle.std.specs.List.{list_all}
-use Rattle.front_mirror.proofs.ChildLemmas.{known-found, child_found, child_known}
+use Rattle.std.proofs.Common.{◌+◌, ◌-◌, ap, ◌∙◌, arith}
+use Rattle.front_mirror.proofs.ChildLemmas.{child_found, child_known}
 use Rattle.panels.proofs.SpliceLemmas.{child_start, first_start}
 use Rattle.panels.proofs.OutlineLemmas.{sum_is}
 use Rattle.panels.proofs.outline.place_of_child.Goals as goal
@@ -13,17 +12,19 @@ returns-then-place-eq0 c =
 pub rank-requires-2 : goal.rank-requires-2
 rank-requires-2 c = record {
   known = child_known c.args.parent c.child_at-sibling.result (c.args.place - 1) c.args.mirror.now
-      (child_found c.args.parent c.child_at-sibling.result (c.args.place - 1) c.args.mirror.now c.valid.ensures c.requires.known c.child_at-sibling.ensures);
+      (child_found c.args.parent c.child_at-sibling.result (c.args.place - 1) c.args.mirror.now c.valid.ensures c.requires.known
+      c.child_at-sibling.ensures);
 }
 
 pub size-requires : goal.size-requires
 size-requires c = record {
   known = child_known c.args.parent c.child_at-sibling.result (c.args.place - 1) c.args.mirror.now
-      (child_found c.args.parent c.child_at-sibling.result (c.args.place - 1) c.args.mirror.now c.valid.ensures c.requires.known c.child_at-sibling.ensures);
+      (child_found c.args.parent c.child_at-sibling.result (c.args.place - 1) c.args.mirror.now c.valid.ensures c.requires.known
+      c.child_at-sibling.ensures);
 }
 
 pub returns : goal.returns
 returns c =
     let e = child_start c.args.parent c.args.place c.args.mirror.now c.valid.ensures c.requires.known c.child_at-sibling.result
-        (omega (arith, c.if-place-eq0.false)) c.child_at-sibling.ensures in
+    (omega (arith, c.if-place-eq0.false)) c.child_at-sibling.ensures in
     sum_is c.checked_add-2.result _ _ _ c.checked_add-2.ensures ((λ i. c.rank-2.ensures i + c.size.ensures i) ∙ e)

@@ -1,6 +1,6 @@
 -- One line more ends at the next line feed.
 use Rattle.std.proofs.Common.{arith}
-use Rattle.panels.proofs.TextLemmas.{end_turn, end_within, end_all}
+use Rattle.panels.proofs.TextLemmas.{end_turn, end_within}
 use Rattle.panels.proofs.texts.lines_end.Goals as goal
 
 pub loop-preserved : goal.loop-preserved
