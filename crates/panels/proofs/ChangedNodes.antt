@@ -4,7 +4,7 @@ use Rattle.node_tree.specs.Nodes.{Nodes, none, node, Branch, is_no_node}
 use Rattle.node_tree.specs.Keys.{At, here, within, past}
 use Rattle.node_tree.specs.Seen.{Hold, leaf, counted, opened, Seen, is_opened, shows_count}
 use Rattle.client_views.specs.Views.{is_bare}
-use Rattle.panels.proofs.GrowLemmas.{Grown, first, deeper, further}
+use Rattle.front_mirror.proofs.GrowLemmas.{Grown, first, deeper, further}
 
 and_all : (a b c : Bool) → (a && b && c) ≡ true → (a ≡ true) × (b ≡ true) × (c ≡ true)
 and_all true true true e = (refl, refl, refl)

@@ -1,8 +1,10 @@
-pub mod WalkLemmas
-pub mod GrowLemmas
 pub mod ListLemmas
 pub mod ChangedNodes
 pub mod RowLemmas
 pub mod WatchLemmas
 pub mod RootLemmas
 pub mod NumberLemmas
+pub mod TextLemmas
+pub mod LineLemmas
+pub mod SpliceLemmas
+pub mod OutlineLemmas

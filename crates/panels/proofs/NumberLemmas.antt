@@ -9,7 +9,8 @@ use Rattle.client_views.specs.Views.{IsMirror}
 use Rattle.front_mirror.specs.Shown.{known_at, root_id}
 use Rattle.front_mirror.specs.Panels.{Numbers, numbers_of, is_text, is_comment}
 use Rattle.panels.specs.Numbers.{no_numbers, one_where, row_numbers, plus}
-use Rattle.panels.proofs.ListLemmas.{ChildFound, child_is, from-tree}
+use Rattle.front_mirror.proofs.ChildLemmas.{ChildFound, child_is}
+use Rattle.panels.proofs.ListLemmas.{from-tree}
 use Rattle.panels.proofs.RootLemmas.{root_alone}
 
 same_numbers : (n m : Numbers) → n.elements ≡ m.elements → n.texts ≡ m.texts → n.comments ≡ m.comments → n.doctypes ≡ m.doctypes

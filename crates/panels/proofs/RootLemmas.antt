@@ -11,7 +11,7 @@ use Rattle.client_views.specs.Views.{IsMirror, is_document_tree}
 use Rattle.front_mirror.specs.Shown.{known_at, root_id}
 use Rattle.front_mirror.specs.Outline.{seen_line, lines_at, outline_text}
 use Rattle.front_mirror.specs.Panels.{numbers_of, numbers_text, counts_text}
-use Rattle.panels.specs.Walks.{walk, walk_in}
+use Rattle.front_mirror.specs.Walks.{walk, walk_in}
 use Rattle.panels.specs.Lines.{outline_line, shown_lines}
 
 and_last : (a b : Bool) → (a && b) ≡ true → b ≡ true
@@ -56,7 +56,7 @@ counts_there (node r c t) there = refl
 
 -- ---- an outline is its lines one after the other
 
-concat-append : (xs ys : List (List ℕ)) → concat (xs ++ ys) ≡ concat xs ++ concat ys
+pub concat-append : (xs ys : List (List ℕ)) → concat (xs ++ ys) ≡ concat xs ++ concat ys
 concat-append [] ys = refl
 concat-append (x ∷ xs) ys = ap (λ l. x ++ l) (concat-append xs ys) ∙ sym (append_assoc x (concat xs) (concat ys))
 

@@ -1,10 +1,10 @@
 -- What changes of a tree do to one row.
-use Rattle.std.proofs.Common.{◌≡◌, ◌≢◌, ℕ, suc, ◌+◌, ◌==◌, Bool, true, false, cond, Option, Some, None, List, [], ◌∷◌, ◌++◌}
+use Rattle.std.proofs.Common.{◌≡◌, ◌≢◌, ℕ, suc, ◌==◌, Bool, true, false, cond, Option, Some, None, List, [], ◌∷◌, ◌++◌}
 use Rattle.std.proofs.Common.{refl, sym, ap, ◌∙◌, option_map}
 use Rattle.std.proofs.lemmas.Bool.{ne_eqb}
 use Rattle.node_tree.specs.Nodes.{Nodes, none, node, Branch}
 use Rattle.node_tree.specs.Keys.{first_of, find}
-use Rattle.panels.specs.Walks.{walk}
+use Rattle.front_mirror.specs.Walks.{walk}
 use Rattle.panels.specs.Rows.{rows, row_with}
 
 module _ {R : Type 0} (key : R → ℕ) (x : ℕ) where

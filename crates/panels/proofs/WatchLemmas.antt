@@ -4,19 +4,19 @@ use Rattle.std.proofs.Common.{refl, sym, ap, ◌∙◌, subst, option_map, decim
 use Rattle.std.specs.Prelude.{codes}
 use Rattle.std.specs.Option.{option_map_or}
 use Rattle.std.proofs.lemmas.Bool.{ne_eqb}
-use Rattle.node_tree.specs.Nodes.{Nodes, none, node, Branch}
+use Rattle.node_tree.specs.Nodes.{Nodes, none, Branch}
 use Rattle.node_tree.specs.Keys.{first_of, find, At}
 use Rattle.node_tree.specs.Seen.{Seen, seen_id, seen_serial}
 use Rattle.node_tree.proofs.KeyLemmas.{find-stands, stands-find}
 use Rattle.node_tree.proofs.ChangeLemmas.{at-new}
-use Rattle.panels.specs.Walks.{walk}
+use Rattle.front_mirror.specs.Walks.{walk}
 use Rattle.panels.specs.Rows.{rows, row_with}
 use Rattle.front_mirror.specs.Outline.{seen_line}
 use Rattle.client_views.specs.Views.{IsMirror}
 use Rattle.front_mirror.specs.Shown.{known_at, no_node}
 use Rattle.front_mirror.specs.Panels.{NodeTurns, Gains, Differs, watch_text}
-use Rattle.panels.proofs.WalkLemmas.{splits}
-use Rattle.panels.proofs.GrowLemmas.{Grown, grown_place, grown-at, grows}
+use Rattle.front_mirror.proofs.OrderLemmas.{splits}
+use Rattle.front_mirror.proofs.GrowLemmas.{Grown, grown_place, grown-at, grows}
 use Rattle.panels.proofs.ChangedNodes.{unopened_none, bare-at, grown-stands}
 use Rattle.panels.proofs.RowLemmas.{found_row, row_other, row_with-append}
 

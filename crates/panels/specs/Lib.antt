@@ -1,4 +1,3 @@
-pub mod Walks
 pub mod Rows
 pub mod Lines
 pub mod Numbers

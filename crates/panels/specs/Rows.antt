@@ -1,7 +1,7 @@
 -- The rows of a tree in document order, for what is said of one node.
 use Rattle.std.specs.Prelude.{ℕ, ◌==◌, cond, List, [], ◌∷◌, Option, Some, None}
 use Rattle.node_tree.specs.Nodes.{Nodes}
-use Rattle.panels.specs.Walks.{walk}
+use Rattle.front_mirror.specs.Walks.{walk}
 
 -- the rows
 abbrev pub rows : {R : Type 0} → Nodes R → List R

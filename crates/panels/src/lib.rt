@@ -10,6 +10,7 @@ mod counts;
 mod lines;
 mod numbers;
 mod outline;
+mod texts;
 mod watch;
 
 pub use counts::CountsPanel;

@@ -6,7 +6,7 @@ ghost use Rattle.node_tree.specs.Keys.{find};
 ghost use Rattle.node_tree.specs.Seen.{seen_id};
 ghost use Rattle.front_mirror.specs.Shown.{known_at};
 ghost use Rattle.front_mirror.specs.Outline.{indent};
-ghost use Rattle.panels.specs.Walks.{walk, walk_in};
+ghost use Rattle.front_mirror.specs.Walks.{walk, walk_in};
 ghost use Rattle.panels.specs.Lines.{outline_line, shown_lines};
 
 use front_mirror::{Mirror, mirror_line};
@@ -25,7 +25,12 @@ fn push_indent(level: usize, out: &mut String) -> Result<(), AllocError>
 }
 
 /// The line of a known node on that level, with its indent and its end.
-fn line_on(alloc: Global, mirror: &Mirror, id: u64, level: usize) -> Result<Text, AllocError>
+pub(crate) fn line_on(
+    alloc: Global,
+    mirror: &Mirror,
+    id: u64,
+    level: usize,
+) -> Result<Text, AllocError>
     requires known { IsSome (find seen_id id mirror.now) }
     ensures { IfOk result (λ line. line ≡ outline_line level (known_at id mirror.now).row) }
 {
@@ -39,7 +44,7 @@ fn line_on(alloc: Global, mirror: &Mirror, id: u64, level: usize) -> Result<Text
 
 /// Appends the lines of a known node on that level and of all below it.
 #[cycle(listing)]
-fn push_node(
+pub(crate) fn push_node(
     alloc: Global,
     mirror: &Mirror,
     id: u64,

@@ -1,10 +1,11 @@
 -- The lines of one child more.
-use Rattle.std.proofs.Common.{◌+◌, ◌*◌, ◌-◌, ◌<◌, ◌++◌, ap, subst, ◌∙◌, arith}
+use Rattle.std.proofs.Common.{◌+◌, ◌*◌, ◌<◌, ◌++◌, ap, subst, ◌∙◌, arith}
 use Rattle.node_tree.specs.Nodes.{branch_count}
 use Rattle.front_mirror.specs.Shown.{known_at}
-use Rattle.panels.specs.Walks.{walk}
+use Rattle.front_mirror.specs.Walks.{walk}
 use Rattle.panels.specs.Lines.{outline_line}
-use Rattle.panels.proofs.ListLemmas.{from-zero, from-end, child_found, child_known, child_low, child_smaller, child_turn}
+use Rattle.front_mirror.proofs.ChildLemmas.{child_found, child_known}
+use Rattle.panels.proofs.ListLemmas.{from-zero, from-end, child_low, child_smaller, child_turn}
 use Rattle.std.proofs.Common.{append-nil, sym}
 use Rattle.panels.proofs.lines.+listing.Goals as goal
 

@@ -2,7 +2,7 @@
 use Rattle.std.proofs.Common.{◌≡◌, ◌+◌, ◌-◌, ◌*◌, ◌++◌}
 use Rattle.node_tree.specs.Nodes.{branch_count, from}
 use Rattle.front_mirror.specs.Shown.{known_at}
-use Rattle.panels.specs.Walks.{walk}
+use Rattle.front_mirror.specs.Walks.{walk}
 use Rattle.panels.specs.Lines.{outline_line}
 use Rattle.panels.proofs.lines.+listing.Given as goal
 

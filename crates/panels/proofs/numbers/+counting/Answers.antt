@@ -4,7 +4,8 @@ use Rattle.node_tree.specs.Nodes.{branch_count}
 use Rattle.front_mirror.specs.Shown.{known_at}
 use Rattle.front_mirror.specs.Panels.{numbers_of}
 use Rattle.panels.specs.Numbers.{numbers_in, plus}
-use Rattle.panels.proofs.ListLemmas.{from-zero, from-end, child_found, child_known, child_smaller}
+use Rattle.front_mirror.proofs.ChildLemmas.{child_found, child_known}
+use Rattle.panels.proofs.ListLemmas.{from-zero, from-end, child_smaller}
 use Rattle.panels.proofs.NumberLemmas.{on_ok, node_counted, child_counted, plus-none}
 use Rattle.panels.proofs.numbers.+counting.Goals as goal
 
