@@ -263,7 +263,8 @@ carried-all begun up0 down0 new initial number lines none c = record {
   shown = c.shown;
   panels = c.panels;
   run = subst
-      (λ (ls : List (List ℕ)). FollowsRun (run_started begun.state (length ls) c.shown c.panels) up0 down0 new.up new.down new.ends) none c.run;
+      (λ (ls : List (List ℕ)). FollowsRun (run_started begun.state (length ls) c.shown c.panels) up0 down0 new.up new.down new.ends)
+      none c.run;
   none = λ there all. c.goes there all ∙ ap (first_refused there c.panels number) none;
 }
 

@@ -118,7 +118,17 @@ fn append(example: &mut Example<'_>, line: &[u8]) -> io::Result<()> {
     Ok(())
 }
 
-/// Runs the example over an honest link, with the panels of the program, and prints what was written and how the run ended.
+/// The panels that an example names, or those of the program where it names none.
+fn or_usual(mut kinds: Vec<PanelKind>) -> io::Result<Vec<PanelKind>> {
+    if kinds.is_empty() {
+        kinds.push(PanelKind::Outline)?;
+        kinds.push(PanelKind::Counts)?;
+        kinds.push(PanelKind::Watch(WATCHED))?;
+    }
+    Ok(kinds)
+}
+
+/// Runs the example over an honest link, with the panels that it names, and prints what was written and how the run ended.
 fn tell<W: Write>(alloc: Global, out: &mut W, example: Example<'_>) -> io::Result<()> {
     if example.word.is_empty() {
         return Ok(());
@@ -128,19 +138,10 @@ fn tell<W: Write>(alloc: Global, out: &mut W, example: Example<'_>) -> io::Resul
     let mut source = MemSource::new(example.input, PIECE, example.source);
     let mut sink = MemSink::new(alloc, example.sink);
     let mut link = MemLink::new(alloc, example.link);
+    let kinds = or_usual(example.panels)?;
     let mut panels: Vec<Box<dyn Panel>> = Vec::new(alloc);
-    let usual = [
-        PanelKind::Outline,
-        PanelKind::Counts,
-        PanelKind::Watch(WATCHED),
-    ];
-    let kinds = if example.panels.is_empty() {
-        &usual[..]
-    } else {
-        example.panels.as_slice()
-    };
     for kind in kinds {
-        match *kind {
+        match kind {
             PanelKind::Outline => panels.push(Box::new(alloc, OutlinePanel::new(alloc))?)?,
             PanelKind::Counts => panels.push(Box::new(alloc, CountsPanel::new(alloc))?)?,
             PanelKind::Watch(serial) => {
