@@ -5,12 +5,16 @@
 // item is a message, or a list of a number and a message, which comes in two pieces that are cut at that byte.
 use crate::row_parts::{Answer, number_or_zero, values_from};
 use front_mirror::{Front, FrontErr, FrontKind, write_outline};
+use panels::OutlinePanel;
 use serde_json::Value;
 use std::alloc::{AllocError, Global};
 
+/// A front end without panels.
+type Alone = Front<OutlinePanel>;
+
 /// The frame of the first ask with this method.
 pub(crate) fn told_ask(alloc: Global, method: &str, answer: &mut Answer) -> Result<(), AllocError> {
-    let mut front = Front::new(alloc)?;
+    let mut front = Alone::new(alloc, Vec::new(alloc))?;
     let frame = front.ask(method, None, None)?;
     answer.push_bytes(frame.as_slice());
     answer.drop_zero();
@@ -28,8 +32,8 @@ pub(crate) fn told(alloc: Global, messages: &Value, answer: &mut Answer) -> Resu
 }
 
 /// A front that asked for the document and for the children of a node.
-fn asking(alloc: Global) -> Result<Front, AllocError> {
-    let mut front = Front::new(alloc)?;
+fn asking(alloc: Global) -> Result<Alone, AllocError> {
+    let mut front = Alone::new(alloc, Vec::new(alloc))?;
     let _first = front.ask("DOM.getDocument", None, None)?;
     let _second = front.ask("DOM.requestChildNodes", None, None)?;
     Ok(front)
@@ -38,7 +42,7 @@ fn asking(alloc: Global) -> Result<Front, AllocError> {
 /// Takes the messages.
 fn take_all(
     alloc: Global,
-    front: &mut Front,
+    front: &mut Alone,
     messages: &[Value],
     answer: &mut Answer,
 ) -> Result<(), AllocError> {
@@ -51,7 +55,7 @@ fn take_all(
 /// Takes a message, or a message in two pieces.
 fn take_message(
     alloc: Global,
-    front: &mut Front,
+    front: &mut Alone,
     message: &Value,
     answer: &mut Answer,
 ) -> Result<(), AllocError> {
@@ -73,7 +77,7 @@ fn frame_of(alloc: Global, message: &Value) -> Result<Vec<u8>, AllocError> {
 
 /// Takes a frame in two pieces, which is cut at this place.
 fn take_cut(
-    front: &mut Front,
+    front: &mut Alone,
     frame: &[u8],
     place: usize,
     answer: &mut Answer,
@@ -88,7 +92,7 @@ fn take_cut(
 }
 
 /// Takes a piece, and appends the fault, if there is one.
-fn take(front: &mut Front, piece: &[u8], answer: &mut Answer) -> Result<(), AllocError> {
+fn take(front: &mut Alone, piece: &[u8], answer: &mut Answer) -> Result<(), AllocError> {
     match front.take(piece) {
         Ok(()) => Ok(()),
         Err(FrontErr::Fault(fault)) => {

@@ -103,7 +103,7 @@ fn push_replay<L: Link>(
 ) -> Result<(), AllocError> {
     let mut source = source_of(alloc, input, faults[0])?;
     let mut sink = MemSink::new(alloc, Vec::from_slice(alloc, &[faults[1]])?);
-    let status = inspect(alloc, words, &mut source, &mut sink, link);
+    let status = inspect(alloc, words, &mut source, &mut sink, link, Vec::new(alloc));
     answer.push_shown(&exit_code(&status));
     answer.push(" ");
     answer.push(status_line(alloc, &status)?.as_str());

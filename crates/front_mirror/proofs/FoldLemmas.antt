@@ -29,6 +29,7 @@ use Rattle.front_mirror.specs.Front.{unless_fetch, sheets_fetched, asks_without,
 use Rattle.front_mirror.specs.Front.{told, halted, told_sheets, is_shown, ToldChange, told_change, change_fault, with_root, with_effect}
 use Rattle.front_mirror.specs.Front.{with_body, with_reply, with_fault, with_tree, at_spot, with_change, with_news, with_message}
 use Rattle.front_mirror.specs.Front.{take_frame, Folded, after_message, front_folded, fold_result, fold_frames, fold, FrontState}
+use Rattle.front_mirror.specs.declared.panels.PanelKind.{PanelKind}
 use Rattle.front_mirror.specs.Front.{first_state}
 use Rattle.front_mirror.specs.Front.{after_bytes, unless_refused, after_take, after_ask, after_fetch}
 use Rattle.front_mirror.specs.declared.sheets.KnownSheet.{KnownSheet}
@@ -300,9 +301,9 @@ fold-more waiting ask down v e = fold_frames-more (frames_from [] down) ask (fir
 
 -- ---- a front that runs
 
-pub fold_begins : IsFold [] [] first_state
+pub fold_begins : (kinds : List PanelKind) → IsFold [] [] (first_state kinds)
 unfolding frames_of
-fold_begins = record { value = refl; rest = refl; well = refl }
+fold_begins kinds = record { value = refl; rest = refl; well = refl }
 
 taken_on : (s : FrontState) (piece : List ℕ) → s.fault ≡ None → after_take s piece ≡ after_bytes s piece
 taken_on s piece well = ap (λ (f : Option FrontFault). unless_refused f s (after_bytes s piece)) well

@@ -23,3 +23,16 @@ pub mod TurnLemmas
 pub mod MirrorLemmas
 pub mod ReadLemmas
 pub mod EditTableLemmas
+mod PanelTurns
+mod EditTurns
+mod PanelsTold
+mod PlaceLemmas
+pub mod OrderLemmas
+pub mod GrowLemmas
+pub mod ChildLemmas
+pub mod RankLemmas
+mod SizeLemmas
+mod PathLemmas
+mod CountedLemmas
+mod RecountLemmas
+mod EditCounts

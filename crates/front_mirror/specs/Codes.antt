@@ -4,6 +4,8 @@ use Rattle.std.specs.Coded.{Coded, code_by, coded×, coded_list, coded_option, c
 use Rattle.node_tree.specs.Nodes.{Nodes, coded_nodes}
 use Rattle.node_tree.specs.Seen.{Seen, coded_seen}
 use Rattle.front_mirror.specs.contracts.faults.FrontKind as kind
+use Rattle.front_mirror.specs.contracts.panels.PanelKind as panel
+use Rattle.front_mirror.specs.declared.panels.PanelKind.{PanelKind}
 use Rattle.css_objects.specs.declared.sheets.SheetOrigin.{SheetOrigin}
 use Rattle.css_objects.specs.contracts.sheets.SheetOrigin as origin
 use Rattle.css_objects.specs.declared.rules.Matched.{Matched}
@@ -85,8 +87,17 @@ coded_value =
 -- a front by its parts
 abbrev pub coded_front : Coded FrontState
 coded_front =
-    code_by ((FrontValue × List ℕ) × (Option FrontFault × (ℕ × (ℕ × Bool))))
-    (coded× (coded× coded_value (coded_list coded_ℕ)) (coded× (coded_option coded_fault) (coded× coded_ℕ (coded× coded_ℕ coded_bool))))
-    (λ s. ((s.value, s.rest), (s.fault, (s.next, (s.fetches, s.dead)))))
-    (λ p. record { value = p.0.0; rest = p.0.1; fault = p.1.0; next = p.1.1.0; fetches = p.1.1.1.0; dead = p.1.1.1.1 })
+    code_by ((FrontValue × (List ℕ × List (Option PanelKind))) × (Option FrontFault × (ℕ × (ℕ × Bool))))
+    (coded× (coded× coded_value (coded× (coded_list coded_ℕ) (coded_list (coded_option panel.the_row.coded))))
+    (coded× (coded_option coded_fault) (coded× coded_ℕ (coded× coded_ℕ coded_bool))))
+    (λ s. ((s.value, (s.rest, s.panels)), (s.fault, (s.next, (s.fetches, s.dead)))))
+    (λ p. record {
+      value = p.0.0;
+      rest = p.0.1.0;
+      fault = p.1.0;
+      next = p.1.1.0;
+      fetches = p.1.1.1.0;
+      dead = p.1.1.1.1;
+      panels = p.0.1.1;
+    })
     (λ _. refl)

@@ -1,6 +1,6 @@
 -- The front end as a value, and the fold of the frames that come down.
-use Rattle.std.specs.Prelude.{ℕ, ◌+◌, ◌-◌, ◌^◌, ◌==◌, Bool, true, false, not, ◌&&◌, ◌||◌, cond, nat_le, List, [], ◌∷◌, ◌++◌, codes, Option}
-use Rattle.std.specs.Prelude.{Some, None, option_map, option_and_then, Result, Ok, Err}
+use Rattle.std.specs.Prelude.{ℕ, ◌+◌, ◌-◌, ◌==◌, Bool, true, false, not, ◌&&◌, ◌||◌, cond, nat_le, List, [], ◌∷◌, ◌++◌, codes, Option}
+use Rattle.std.specs.Prelude.{Some, None, map, option_map, option_and_then, Result, Ok, Err}
 use Rattle.node_tree.specs.Numbers.{first_fetch}
 use Rattle.serde_json.specs.Data.{Data}
 use Rattle.cdp_json.specs.Rows.{ends, and_need, object_of}
@@ -28,6 +28,7 @@ use Rattle.front_mirror.specs.declared.replies.Ask.{Ask}
 use Rattle.front_mirror.specs.declared.replies.Kept.{Kept}
 use Rattle.front_mirror.specs.declared.replies.MatchedReply.{MatchedReply}
 use Rattle.front_mirror.specs.declared.pauses.SeenPause.{SeenPause}
+use Rattle.front_mirror.specs.declared.panels.PanelKind.{PanelKind}
 use Rattle.front_mirror.specs.declared.faults.FrontKind.{FrontKind}
 use Rattle.front_mirror.specs.declared.faults.FrontKind.TheVariants.{NotMessage, UnknownNode, NotChild, IdTaken, UnknownSheet, TooDeep}
 use Rattle.front_mirror.specs.declared.faults.FrontFault.{FrontFault}
@@ -379,10 +380,12 @@ pub record FrontState : Type 0 where
   pub next : ℕ
   pub fetches : ℕ
   pub dead : Bool
+  pub panels : List (Option PanelKind)
 
--- a front that has sent and taken nothing
-abbrev pub first_state : FrontState
-first_state = record { value = first_value []; rest = []; fault = None; next = 1; fetches = 0; dead = false }
+-- a front that has sent and taken nothing, with these panels
+abbrev pub first_state : List PanelKind → FrontState
+first_state kinds =
+    record { value = first_value []; rest = []; fault = None; next = 1; fetches = 0; dead = false; panels = map Some kinds }
 
 -- the state after more bytes, where no fault was met before
 abbrev pub after_bytes : FrontState → List ℕ → FrontState

@@ -13,6 +13,7 @@ use Rattle.client_views.specs.Views.{ShownSheet, View}
 use Rattle.front_mirror.specs.declared.replies.Ask.{Ask}
 use Rattle.front_mirror.specs.declared.replies.Kept.{Kept}
 use Rattle.front_mirror.specs.declared.replies.MatchedReply.{MatchedReply}
+use Rattle.front_mirror.specs.declared.panels.PanelKind.{PanelKind}
 use Rattle.front_mirror.specs.declared.pauses.SeenPause.{SeenPause}
 use Rattle.front_mirror.specs.declared.sheets.KnownSheet.{KnownSheet}
 use Rattle.front_mirror.specs.Front.{FrontValue, plain_ask, fetch_ask, method_waiting, fetched_sheet, asks_without, reply_kept, kept_reply}
@@ -46,7 +47,7 @@ pub record IsFold (waiting : List Ask) (down : List ℕ) (s : FrontState) : Type
 
 -- a new front is the fold of nothing
 abbrev pub FrontBegins : Type 0
-FrontBegins = IsFold [] [] first_state
+FrontBegins = (kinds : List PanelKind) → IsFold [] [] (first_state kinds)
 
 -- after more bytes it has the value of the fold of them all, or the fault that this fold meets
 abbrev pub TakesFold : Type 0

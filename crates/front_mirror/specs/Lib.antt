@@ -9,3 +9,8 @@ pub mod Laws
 pub mod IdLists
 pub mod Tables
 pub mod TableEdits
+pub mod Panels
+pub mod Places
+pub mod PanelTold
+pub mod Walks
+pub mod Sizes

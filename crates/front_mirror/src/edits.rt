@@ -1,7 +1,10 @@
 // Changes of one node of the mirror: whether they fit it.
-ghost use Rattle.std.specs.Prelude.{◌≡◌, ◌&&◌, ◌==◌, ◌<◌, IfOk};
+ghost use Rattle.std.specs.Prelude.{◌≡◌, ◌&&◌, ◌==◌, ◌<◌, IfOk, IsSome, true};
 ghost use Rattle.node_tree.specs.Nodes.{nodes_of, Branch};
-ghost use Rattle.node_tree.specs.Keys.{spot};
+ghost use Rattle.node_tree.specs.Keys.{spot, find};
+ghost use Rattle.client_views.specs.Moves.{suits_change};
+ghost use Rattle.front_mirror.specs.Shown.{known_at};
+ghost use Rattle.front_mirror.specs.PanelTold.{panel_change};
 ghost use Rattle.node_tree.specs.Seen.{Seen, seen_id};
 ghost use Rattle.node_tree.specs.Levels.{most_levels};
 ghost use Rattle.front_mirror.specs.Tables.{mirror_row, IsFace};
@@ -12,6 +15,7 @@ ghost use Rattle.front_mirror.specs.Edits.{edit_nodes, edit_change, edit_told, s
 use crate::checks::{MOST_LEVELS, are_kin, are_new, are_within};
 use crate::faults::FrontKind;
 use crate::mirror::Mirror;
+use crate::panels::Change;
 use crate::slots::Slot;
 use crate::told::{children_of, is_opened};
 use dom_objects::NodeTree;
@@ -37,7 +41,7 @@ pub(crate) enum NodeChange {
 
 impl NodeChange {
     /// The nodes that come with it.
-    fn nodes(&self) -> &[NodeTree]
+    pub(crate) fn nodes(&self) -> &[NodeTree]
         ensures { nodes_of result.now ≡ edit_nodes self.now }
     {
         match self {
@@ -75,6 +79,26 @@ impl NodeChange {
             | NodeChange::SetAttribute { .. }
             | NodeChange::DropAttribute(_)
             | NodeChange::SetValue(_) => true,
+        }
+    }
+
+    /// What panels are told of it, at the node of that id.
+    pub(crate) fn told(&self, id: u64, mirror: &Mirror) -> Change
+        requires known { IsSome (find seen_id id mirror.now) }
+        requires suits { suits_change (edit_change self.now) (known_at id mirror.now) ≡ true }
+        ensures { result ≡ panel_change id (edit_change self.now) (known_at id mirror.now) }
+    {
+        match self {
+            NodeChange::Show(_) => Change::Opened { node: id },
+            NodeChange::Insert { node, .. } => Change::Inserted {
+                parent: id,
+                node: node.id,
+            },
+            NodeChange::Remove(child) => mirror.removal(id, *child),
+            NodeChange::Count(_)
+            | NodeChange::SetAttribute { .. }
+            | NodeChange::DropAttribute(_)
+            | NodeChange::SetValue(_) => Change::Changed { node: id },
         }
     }
 

@@ -1,5 +1,7 @@
 ghost use Rattle.std.specs.Prelude.{◌≡◌, ◌<◌, ◌^◌, ◌+◌, ◌↔◌, [], length, slice_get, codes, IsTrue, IsErr, Some, None, Ok, Err, true};
-ghost use Rattle.std.specs.Prelude.{option_map, option_copied, IfOk, OnOk, OnErr};
+ghost use Rattle.std.specs.Prelude.{option_map, option_copied, map, is_some, false, IfOk, OnOk, OnErr};
+ghost use Rattle.front_mirror.specs.Panels.{face};
+ghost use Rattle.front_mirror.specs.Places.{open_at, closed_at};
 ghost use Rattle.node_tree.specs.Numbers.{first_fetch, fetch_limit};
 ghost use Rattle.serde_json.specs.View.{view};
 ghost use Rattle.pipe_frames.specs.Frames.{framed};
@@ -12,7 +14,9 @@ use crate::faults::{FrontErr, FrontFault};
 use crate::folding::fold_whole;
 use crate::known::Known;
 use crate::mirror::Mirror;
+use crate::panels::{Change, Panel, PanelKind};
 use crate::pauses::SeenPause;
+use crate::places::{close_at, open_all, open_at, tell_slots};
 use crate::replies::{Ask, Kept, matched_in};
 use cdp_json::ObjectBuilder;
 use cdp_messages::write_command;
@@ -36,18 +40,21 @@ const FETCH: &str = "CSS.getStyleSheetText";
 /// come from 1. The first message that it refuses is its fault, which every later `take` answers; the mirror then stands as
 /// before that message. After want of memory it is dead: each later call that can answer want of memory does.
 #[derive(Drop)]
-pub struct Front {
+pub struct Front<P: Panel> {
     alloc: Global,
     known: Known,
     splitter: Splitter,
+    panels: Vec<Option<P>>,
     fault: Option<FrontFault>,
     next: u64,
     fetches: u64,
     is_dead: bool,
 }
 
-impl Model for Front {
-    ghost use Rattle.std.specs.Prelude.{◌≡◌, [], None, false};
+impl<P: Panel> Model for Front<P> {
+    ghost use Rattle.std.specs.Prelude.{◌≡◌, [], None, false, All, map, option_map};
+    ghost use Rattle.std.specs.Option.{ForSome};
+    ghost use Rattle.front_mirror.specs.Panels.{face};
     ghost use Rattle.front_mirror.specs.Front.{FrontState};
     ghost use Rattle.front_mirror.specs.Codes.{coded_front};
     ghost use Rattle.front_mirror.specs.Known.{known_value};
@@ -63,9 +70,11 @@ impl Model for Front {
       next = f.next;
       fetches = f.fetches;
       dead = f.is_dead;
+      panels = map (option_map P.kind_of) f.panels.items;
     } };
 
-    ghost invariant = { λ f. f.is_dead ≡ false → f.fault ≡ None → f.splitter.whole ≡ [] };
+    ghost invariant = { λ f. (f.is_dead ≡ false → f.fault ≡ None → f.splitter.whole ≡ [])
+        × (f.is_dead ≡ false → All (λ o. ForSome o (λ p. P.shown p ≡ face (P.kind_of p) (known_value f.known).tree)) f.panels.items) };
 }
 
 /// The frame that fetches the text of a sheet under that id, with its zero byte.
@@ -81,15 +90,20 @@ fn fetch_frame(alloc: Global, id: u64, sheet: u64) -> Result<Vec<u8>, AllocError
     Ok(frame)
 }
 
-impl Front {
-    /// A front end that has sent nothing and shows nothing.
-    pub fn new(alloc: Global) -> Result<Front, AllocError>
-        ensures { IfOk result (λ front. front ≡ first_state) }
+impl<P: Panel> Front<P> {
+    /// A front end that has sent nothing and shows nothing, and has told the panels so.
+    pub fn new(alloc: Global, panels: Vec<P>) -> Result<Front<P>, AllocError>
+        ensures { IfOk result (λ front. front ≡ first_state (map P.kind_of panels.items)) }
     {
+        let mut places = open_all(alloc, panels)?;
+        let known = Known::new(alloc);
+        known.mirror.valid();
+        tell_slots(places.as_mut_slice(), &Change::Cleared, &known.mirror)?;
         Ok(Front {
             alloc,
-            known: Known::new(alloc),
+            known,
             splitter: Splitter::new(alloc),
+            panels: places,
             fault: None,
             next: 1,
             fetches: 0,
@@ -130,7 +144,7 @@ impl Front {
         write_command(self.alloc, self.next, method, params, session, &mut frame)?;
         let method = Text::copied(self.alloc, method)?;
         let id = self.next;
-        self.known.asks.push(Ask {
+        self.known.asks.push_back(Ask {
             id,
             method,
             sheet: None,
@@ -169,7 +183,7 @@ impl Front {
         let id = ASK_LIMIT + self.fetches;
         let frame = fetch_frame(self.alloc, id, sheet)?;
         let method = Text::copied(self.alloc, FETCH)?;
-        self.known.asks.push(Ask {
+        self.known.asks.push_back(Ask {
             id,
             method,
             sheet: Some(sheet),
@@ -196,7 +210,11 @@ impl Front {
         }
         self.is_dead = true;
         self.splitter.take(piece)?;
-        match fold_whole(&mut self.known, &mut self.splitter) {
+        match fold_whole(
+            &mut self.known,
+            &mut self.splitter,
+            self.panels.as_mut_slice(),
+        ) {
             Ok(()) => {
                 self.is_dead = false;
                 Ok(())
@@ -227,7 +245,11 @@ impl Front {
         }
         self.is_dead = true;
         self.splitter.take_owned(piece)?;
-        match fold_whole(&mut self.known, &mut self.splitter) {
+        match fold_whole(
+            &mut self.known,
+            &mut self.splitter,
+            self.panels.as_mut_slice(),
+        ) {
             Ok(()) => {
                 self.is_dead = false;
                 Ok(())
@@ -298,5 +320,41 @@ impl Front {
         ensures { option_copied result ≡ matched_in ask self.now.value.matched }
     {
         matched_in(&self.known.matched, ask)
+    }
+
+    /// How many panels were handed in, those that were closed included.
+    pub fn panel_places(&self) -> usize
+        ensures { result ≡ length self.now.panels }
+    {
+        self.panels.len()
+    }
+
+    /// The kind of the open panel at a place of those handed in, counted from 1.
+    pub fn panel_kind(&self, place: usize) -> Option<PanelKind>
+        ensures { result ≡ open_at place self.now.panels }
+    {
+        match open_at(self.panels.as_slice(), place) {
+            Some(panel) => Some(panel.kind()),
+            None => None,
+        }
+    }
+
+    /// What the open panel at a place of those handed in shows, counted from 1.
+    pub fn panel_text(&self, place: usize) -> Option<&str>
+        ensures { self.now.dead ≡ false → option_map (λ t. t.now) result
+            ≡ option_map (λ k. face k self.now.value.tree) (open_at place self.now.panels) }
+    {
+        match open_at(self.panels.as_slice(), place) {
+            Some(panel) => Some(panel.text()),
+            None => None,
+        }
+    }
+
+    /// Drops the open panel at a place of those handed in, counted from 1; false where none stands open there.
+    pub fn close(&mut self, place: usize) -> bool
+        ensures closed { result ≡ is_some (open_at place self.old.panels) }
+        ensures panels { self.new ≡ record self.old { panels = closed_at place self.old.panels } }
+    {
+        close_at(self.panels.as_mut_slice(), place)
     }
 }

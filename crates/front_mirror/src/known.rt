@@ -18,6 +18,7 @@ use crate::asks::{fetched_sheet, method_of, take_ask};
 use crate::edits::{NodeChange, edit_fault};
 use crate::faults::FrontKind;
 use crate::mirror::Mirror;
+use crate::panels::Change;
 use crate::pauses::{SeenPause, seen_pause};
 use crate::replies::{Ask, Kept, MatchedReply};
 use crate::roots::root_fault;
@@ -31,6 +32,7 @@ use dom_objects::NodeTree;
 use node_tree::Text;
 use serde_json::Value;
 use std::alloc::{AllocError, Global};
+use std::collections::VecDeque;
 
 /// What became of one frame that changed nothing. After `Memory` nothing is said of what is known.
 #[derive(Drop)]
@@ -65,7 +67,7 @@ pub(crate) struct Known {
     alloc: Global,
     pub(crate) mirror: Mirror,
     pub(crate) sheets: KnownSheets,
-    pub(crate) asks: Vec<Ask>,
+    pub(crate) asks: VecDeque<Ask>,
     pub(crate) replies: Vec<Kept>,
     pub(crate) pauses: Vec<SeenPause>,
     pub(crate) matched: Vec<MatchedReply>,
@@ -80,7 +82,7 @@ impl Known {
             alloc,
             mirror: Mirror::new(alloc),
             sheets: KnownSheets::new(alloc),
-            asks: Vec::new(alloc),
+            asks: VecDeque::new(alloc),
             replies: Vec::new(alloc),
             pauses: Vec::new(alloc),
             matched: Vec::new(alloc),
@@ -89,7 +91,7 @@ impl Known {
     }
 
     /// Takes one frame, without its zero byte.
-    pub(crate) fn take_frame(&mut self, frame: Vec<u8>) -> Result<(), FrameErr>
+    pub(crate) fn take_frame(&mut self, frame: Vec<u8>) -> Result<Option<Change>, FrameErr>
         ensures { Takes (known_value self.old) (known_value self.new) result (take_frame (known_value self.old) frame.items) }
     {
         let Ok(text) = String::from_utf8(frame) else {
@@ -99,7 +101,7 @@ impl Known {
     }
 
     /// A document is read without values in between, where its text is as it is written; all else is read as a value.
-    fn take_text(&mut self, frame: Text) -> Result<(), FrameErr>
+    fn take_text(&mut self, frame: Text) -> Result<Option<Change>, FrameErr>
         ensures { Takes (known_value self.old) (known_value self.new) result (take_frame (known_value self.old) frame) }
     {
         match self.document_in(frame.as_str()) {
@@ -126,7 +128,7 @@ impl Known {
         }
     }
 
-    fn take_value(&mut self, frame: Text) -> Result<(), FrameErr>
+    fn take_value(&mut self, frame: Text) -> Result<Option<Change>, FrameErr>
         ensures { Takes (known_value self.old) (known_value self.new) result (take_frame (known_value self.old) frame) }
     {
         match read_down(self.alloc, frame.as_str().as_bytes()) {
@@ -139,7 +141,12 @@ impl Known {
         }
     }
 
-    fn take_reply(&mut self, id: u64, value: &Value, frame: Text) -> Result<(), FrameErr>
+    fn take_reply(
+        &mut self,
+        id: u64,
+        value: &Value,
+        frame: Text,
+    ) -> Result<Option<Change>, FrameErr>
         ensures { Takes (known_value self.old) (known_value self.new) result
             (with_reply (known_value self.old) (reply_frame id frame) (view value.now) (method_waiting id (known_value self.old).asks)) }
     {
@@ -150,7 +157,7 @@ impl Known {
             Ok(body) => match body {
                 ReplyBody::Matched(matched) => {
                     self.keep_matched(id, matched, frame)?;
-                    Ok(())
+                    Ok(None)
                 }
                 body => {
                     let effect = Effect::of_reply(method, body);
@@ -172,7 +179,12 @@ impl Known {
         self.keep_reply(id, frame, true)
     }
 
-    fn take_effect(&mut self, id: u64, effect: Effect, frame: Text) -> Result<(), FrameErr>
+    fn take_effect(
+        &mut self,
+        id: u64,
+        effect: Effect,
+        frame: Text,
+    ) -> Result<Option<Change>, FrameErr>
         requires { fits_effect effect ≡ true }
         ensures { Takes (known_value self.old) (known_value self.new) result
             (with_effect (known_value self.old) (reply_frame id frame) effect) }
@@ -184,13 +196,18 @@ impl Known {
             Effect::SheetText(text) => self.take_sheet_text(id, text, frame),
             Effect::NothingElse => {
                 self.keep_reply(id, frame, true)?;
-                Ok(())
+                Ok(None)
             }
         }
     }
 
     /// The text of a sheet, which stays known where it was fetched.
-    fn take_sheet_text(&mut self, id: u64, text: Text, frame: Text) -> Result<(), FrameErr>
+    fn take_sheet_text(
+        &mut self,
+        id: u64,
+        text: Text,
+        frame: Text,
+    ) -> Result<Option<Change>, FrameErr>
         ensures { Takes (known_value self.old) (known_value self.new) result
             (Ok (record (replied (known_value self.old) (reply_frame id frame) true (known_value self.old).tree) {
               sheets = sheets_fetched (fetched_sheet id (known_value self.old).asks) text (known_value self.old).sheets;
@@ -201,38 +218,38 @@ impl Known {
         if let Some(number) = fetched {
             self.sheets.keep_text(number, text);
         }
-        Ok(())
+        Ok(None)
     }
 
     /// Neither nodes nor sheets are told any more.
-    fn take_end(&mut self, id: u64, frame: Text) -> Result<(), FrameErr>
+    fn take_end(&mut self, id: u64, frame: Text) -> Result<Option<Change>, FrameErr>
         ensures { Takes (known_value self.old) (known_value self.new) result
             (Ok (record (replied (known_value self.old) (reply_frame id frame) true none) { sheets = [] })) }
     {
         self.keep_reply(id, frame, true)?;
         self.mirror = Mirror::new(self.alloc);
         self.sheets = KnownSheets::new(self.alloc);
-        Ok(())
+        Ok(Some(Change::Cleared))
     }
 
     /// No sheets are told any more.
-    fn take_sheets_end(&mut self, id: u64, frame: Text) -> Result<(), FrameErr>
+    fn take_sheets_end(&mut self, id: u64, frame: Text) -> Result<Option<Change>, FrameErr>
         ensures { Takes (known_value self.old) (known_value self.new) result
             (Ok (record (replied (known_value self.old) (reply_frame id frame) true (known_value self.old).tree) { sheets = [] })) }
     {
         self.keep_reply(id, frame, true)?;
         self.sheets = KnownSheets::new(self.alloc);
-        Ok(())
+        Ok(None)
     }
 
-    fn take_sheet(&mut self, header: Header) -> Result<(), FrameErr>
+    fn take_sheet(&mut self, header: Header) -> Result<Option<Change>, FrameErr>
         ensures { Takes (known_value self.old) (known_value self.new) result (with_added (known_value self.old) header) }
     {
         if self.sheets.has(header.sheet) {
             return Err(FrameErr::Refused(FrontKind::IdTaken));
         }
         self.keep_sheet(header)?;
-        Ok(())
+        Ok(None)
     }
 
     /// Keeps a new sheet, and counts the message.
@@ -247,7 +264,7 @@ impl Known {
         Ok(())
     }
 
-    fn take_rewrite(&mut self, number: u64) -> Result<(), FrameErr>
+    fn take_rewrite(&mut self, number: u64) -> Result<Option<Change>, FrameErr>
         ensures { Takes (known_value self.old) (known_value self.new) result
             (with_sheet (known_value self.old) number (marked_old number (known_value self.old).sheets)) }
     {
@@ -256,10 +273,10 @@ impl Known {
         }
         self.taken = self.next_place()?;
         self.sheets.mark_old(number);
-        Ok(())
+        Ok(None)
     }
 
-    fn take_removal(&mut self, number: u64) -> Result<(), FrameErr>
+    fn take_removal(&mut self, number: u64) -> Result<Option<Change>, FrameErr>
         ensures { Takes (known_value self.old) (known_value self.new) result
             (with_sheet (known_value self.old) number (without_sheet number (known_value self.old).sheets)) }
     {
@@ -268,10 +285,15 @@ impl Known {
         }
         self.taken = self.next_place()?;
         self.sheets.remove(number);
-        Ok(())
+        Ok(None)
     }
 
-    fn take_root(&mut self, id: u64, root: NodeTree, frame: Text) -> Result<(), FrameErr>
+    fn take_root(
+        &mut self,
+        id: u64,
+        root: NodeTree,
+        frame: Text,
+    ) -> Result<Option<Change>, FrameErr>
         requires { fits_tree true root ≡ true }
         ensures { Takes (known_value self.old) (known_value self.new) result
             (with_root (known_value self.old) (reply_frame id frame) root (root_fault root)) }
@@ -282,10 +304,10 @@ impl Known {
         let mirror = Mirror::of_root(self.alloc, root)?;
         self.keep_reply(id, frame, true)?;
         self.mirror = mirror;
-        Ok(())
+        Ok(Some(Change::Document))
     }
 
-    fn take_fault(&mut self, id: u64, frame: Text) -> Result<(), FrameErr>
+    fn take_fault(&mut self, id: u64, frame: Text) -> Result<Option<Change>, FrameErr>
         ensures { Takes (known_value self.old) (known_value self.new) result
             (with_fault (known_value self.old) (reply_frame id frame) (method_waiting id (known_value self.old).asks)) }
     {
@@ -293,17 +315,17 @@ impl Known {
             return Err(FrameErr::Refused(FrontKind::NotMessage));
         }
         self.keep_reply(id, frame, false)?;
-        Ok(())
+        Ok(None)
     }
 
-    fn take_refusal(&mut self, frame: Text) -> Result<(), FrameErr>
+    fn take_refusal(&mut self, frame: Text) -> Result<Option<Change>, FrameErr>
         ensures { Takes (known_value self.old) (known_value self.new) result (Ok (refused (known_value self.old) frame)) }
     {
         self.keep(None, None, frame, false)?;
-        Ok(())
+        Ok(None)
     }
 
-    fn take_event(&mut self, event: Event) -> Result<(), FrameErr>
+    fn take_event(&mut self, event: Event) -> Result<Option<Change>, FrameErr>
         requires { fits_news (news_of event) ≡ true }
         ensures { Takes (known_value self.old) (known_value self.new) result (with_news (known_value self.old) (news_of event)) }
     {
@@ -340,28 +362,30 @@ impl Known {
         }
     }
 
-    fn take_edit(&mut self, id: u64, edit: NodeChange) -> Result<(), FrameErr>
+    fn take_edit(&mut self, id: u64, edit: NodeChange) -> Result<Option<Change>, FrameErr>
         requires { fits_edit edit ≡ true }
         ensures { Takes (known_value self.old) (known_value self.new) result
             (with_change (known_value self.old) (edit_told id edit)) }
     {
+        self.mirror.valid();
         if let Some(kind) = edit_fault(self.alloc, &self.mirror, id, &edit)? {
             return Err(FrameErr::Refused(kind));
         }
         let taken = self.next_place()?;
+        let told = edit.told(id, &self.mirror);
         self.mirror.change(self.alloc, id, edit)?;
         self.taken = taken;
-        Ok(())
+        Ok(Some(told))
     }
 
-    fn take_pause(&mut self, why: PauseData) -> Result<(), FrameErr>
+    fn take_pause(&mut self, why: PauseData) -> Result<Option<Change>, FrameErr>
         ensures { Takes (known_value self.old) (known_value self.new) result (with_pause (known_value self.old) why) }
     {
         if !self.knows_paused(why) {
             return Err(FrameErr::Refused(FrontKind::UnknownNode));
         }
         self.keep_pause(why)?;
-        Ok(())
+        Ok(None)
     }
 
     /// Keeps a pause, and counts the message.
@@ -385,12 +409,12 @@ impl Known {
         }
     }
 
-    fn take_update(&mut self) -> Result<(), FrameErr>
+    fn take_update(&mut self) -> Result<Option<Change>, FrameErr>
         ensures { Takes (known_value self.old) (known_value self.new) result (Ok (told (known_value self.old) none)) }
     {
         self.taken = self.next_place()?;
         self.mirror = Mirror::new(self.alloc);
-        Ok(())
+        Ok(Some(Change::Cleared))
     }
 
     /// Keeps a reply to the ask of that id, which then waits no longer. A reply to a fetch is not kept.

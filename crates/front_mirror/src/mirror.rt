@@ -1,24 +1,29 @@
 ghost use Rattle.std.specs.Prelude.{◌≡◌, ◌≢◌, ◌↔◌, ◌<◌, ◌++◌, length, IsTrue, IsSome, is_some, Some, option_map, unwrap_or, slice_get};
 ghost use Rattle.std.specs.Prelude.{None, true, IfOk, IfSome, OnOk};
-ghost use Rattle.node_tree.specs.Nodes.{none, alone, width, tree_at};
+ghost use Rattle.node_tree.specs.Nodes.{none, alone, width, tree_at, branch_count};
 ghost use Rattle.std.specs.Option.{option_copied};
 ghost use Rattle.node_tree.specs.Keys.{has, find, parent_of, level_of, spot};
-ghost use Rattle.node_tree.specs.Seen.{is_opened, seen_id, seen_serial};
+ghost use Rattle.node_tree.specs.Seen.{is_opened, shows_count, seen_id, seen_serial};
 ghost use Rattle.dom_objects.specs.Told.{count_in, seen_nodes};
 ghost use Rattle.dom_objects.specs.NodeData.{fits_tree};
 ghost use Rattle.front_mirror.specs.Shown.{known_at, root_id};
+ghost use Rattle.client_views.specs.Moves.{has_tree, removes};
+ghost use Rattle.front_mirror.specs.PanelTold.{panel_change};
 ghost use Rattle.front_mirror.specs.Outline.{lines_at, seen_line};
 ghost use Rattle.front_mirror.specs.Tables.{mirror_row, root_ids, TableLooks};
 
 use crate::checks::MOST_LEVELS;
 use crate::edits::NodeChange;
+use crate::panels::Change;
+use crate::sizes::{note_all, recount};
 use crate::slots::{IdList, Slot};
 use crate::table::Table;
 use cdp_messages::Kind;
 use dom_objects::NodeTree;
+use number_map::NumberMap;
 use std::alloc::{AllocError, Global};
 use std::marker::Model;
-use std::mem;
+use std::{mem, slice};
 
 /// The page as the messages that came show it: its known nodes, each with an id of the session and its serial in the
 /// page, or nothing. The readers take no memory. A node is known by its id.
@@ -26,12 +31,14 @@ use std::mem;
 pub struct Mirror {
     table: Table,
     roots: IdList,
+    counts: NumberMap,
 }
 
 impl Model for Mirror {
     ghost use Rattle.node_tree.specs.Nodes.{Nodes, coded_nodes};
     ghost use Rattle.node_tree.specs.Seen.{Seen, coded_seen};
-    ghost use Rattle.front_mirror.specs.Tables.{tree_in, KeepsMirror};
+    ghost use Rattle.front_mirror.specs.Tables.{tree_in};
+    ghost use Rattle.front_mirror.specs.Sizes.{KeepsCounted};
 
     ghost Value = { Nodes Seen };
 
@@ -39,7 +46,7 @@ impl Model for Mirror {
 
     ghost view = { λ m. tree_in m.table m.roots };
 
-    ghost invariant = { λ m. KeepsMirror m.table m.roots };
+    ghost invariant = { λ m. KeepsCounted m.table m.roots m.counts };
 }
 
 impl Mirror {
@@ -54,6 +61,7 @@ impl Mirror {
         Mirror {
             table: Table::new(alloc),
             roots: IdList::new(alloc),
+            counts: NumberMap::new(alloc),
         }
     }
 
@@ -65,9 +73,15 @@ impl Mirror {
     {
         let mut table = Table::new(alloc);
         let mut roots = IdList::new(alloc);
+        let mut counts = NumberMap::new(alloc);
         roots.push(root.id)?;
+        note_all(&mut counts, slice::from_ref(&root))?;
         table.plant(alloc, root, None)?;
-        Ok(Mirror { table, roots })
+        Ok(Mirror {
+            table,
+            roots,
+            counts,
+        })
     }
 
     /// Changes a known node, where nothing is wrong with the edit. After want of memory the mirror is empty.
@@ -83,9 +97,12 @@ impl Mirror {
     {
         let mut table = mem::replace(&mut self.table, Table::new(alloc));
         let roots = mem::replace(&mut self.roots, IdList::new(alloc));
+        let mut counts = mem::replace(&mut self.counts, NumberMap::new(alloc));
+        recount(alloc, &mut counts, &table, &roots, id, &edit)?;
         table.change(alloc, id, edit)?;
         self.table = table;
         self.roots = roots;
+        self.counts = counts;
         Ok(())
     }
 
@@ -128,7 +145,7 @@ impl Mirror {
         self.table.get(id)
     }
 
-    fn at(&self, id: u64) -> &Slot
+    pub(crate) fn at(&self, id: u64) -> &Slot
         requires known { IsSome (find seen_id id self.now) }
         ensures row { mirror_row result.now ≡ (known_at id self.now).row }
         ensures children { result.now.children ≡ root_ids (known_at id self.now).children }
@@ -155,7 +172,7 @@ impl Mirror {
     }
 
     /// The level of a known node.
-    pub(crate) fn level(&self, id: u64) -> usize
+    pub fn level(&self, id: u64) -> usize
         requires known { IsSome (find seen_id id self.now) }
         ensures level { level_of seen_id id 0 self.now ≡ Some result }
         ensures low { result < most_levels }
@@ -228,6 +245,14 @@ impl Mirror {
         self.at(id).is_opened()
     }
 
+    /// Whether it can have children, and they are only counted.
+    pub fn is_unopened(&self, id: u64) -> bool
+        requires known { IsSome (find seen_id id self.now) }
+        ensures { result ≡ shows_count (known_at id self.now).row.hold }
+    {
+        self.at(id).is_unopened()
+    }
+
     /// How many children it has, known or only counted.
     pub fn count(&self, id: u64) -> u64
         requires known { IsSome (find seen_id id self.now) }
@@ -251,6 +276,34 @@ impl Mirror {
         ensures { Some result ≡ option_map (λ b. b.row.id) (tree_at i (known_at id self.now).children) }
     {
         self.at(id).children.at(i)
+    }
+
+    /// How many known nodes stand at and below the node of that id.
+    pub fn size(&self, id: u64) -> usize
+        requires known { IsSome (find seen_id id self.now) }
+        ensures { result ≡ branch_count (known_at id self.now) }
+    {
+        let Some(count) = self.counts.get(id) else {
+            unreachable!()
+        };
+        count as usize
+    }
+
+    /// What panels are told where the child of that id leaves.
+    pub(crate) fn removal(&self, id: u64, child: u64) -> Change
+        requires known { IsSome (find seen_id id self.now) }
+        requires child { has_tree child (known_at id self.now).children ≡ true }
+        ensures { result ≡ panel_change id (removes child) (known_at id self.now) }
+    {
+        self.valid();
+        let place = self.at(id).children.place(child);
+        let known = self.size(child);
+        Change::Removed {
+            parent: id,
+            place,
+            node: child,
+            known,
+        }
     }
 
     /// How many attributes the node of that id has.

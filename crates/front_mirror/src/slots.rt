@@ -72,7 +72,7 @@ impl IdList {
     }
 
     /// The place of the first that is the id, and else the number of them.
-    fn place(&self, id: u64) -> usize
+    pub(crate) fn place(&self, id: u64) -> usize
         ensures { result ≡ id_place id self.now }
     {
         for i in 0..self.len() {

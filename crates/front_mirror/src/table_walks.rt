@@ -12,7 +12,7 @@ use crate::table::Table;
 use std::alloc::{AllocError, Global};
 
 /// How many children of a node are not shown.
-fn unshown_of(slot: &Slot) -> u64
+pub(crate) fn unshown_of(slot: &Slot) -> u64
     ensures { result ≡ unshown_of (below_hold slot.now.below) }
 {
     match &slot.below {

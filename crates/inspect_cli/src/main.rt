@@ -2,10 +2,16 @@
 //! to standard output, and how the run ended is told on standard error and by the exit status.
 #![tactic(auto)]
 
+use front_mirror::Panel;
 use inspect_replay::{Status, exit_code, inspect, status_line};
+use panels::{CountsPanel, OutlinePanel, WatchPanel};
 use pipe_frames::{MemLink, StdSink, StdSource};
+use std::alloc::AllocError;
 use std::process::ExitCode;
 use std::{env, io};
+
+/// The serial of the node that a panel watches.
+const WATCHED: u64 = 2;
 
 fn main(rt: HostRuntime) -> ExitCode {
     let status = run(&rt);
@@ -24,10 +30,23 @@ fn run(rt: &HostRuntime) -> Status {
         Err(error) if error.kind() == io::ErrorKind::OutOfMemory => return Status::Memory,
         Err(_) => return Status::Usage,
     };
+    match run_words(rt, &words) {
+        Ok(status) => status,
+        Err(AllocError) => Status::Memory,
+    }
+}
+
+/// Runs what the words name, with three panels: the outline, the counts, and a watch on one node.
+fn run_words(rt: &HostRuntime, words: &[String]) -> Result<Status, AllocError> {
+    let alloc = rt.alloc();
+    let mut panels: Vec<Box<dyn Panel>> = Vec::new(alloc);
+    panels.push(Box::new(alloc, OutlinePanel::new(alloc))?)?;
+    panels.push(Box::new(alloc, CountsPanel::new(alloc))?)?;
+    panels.push(Box::new(alloc, WatchPanel::new(alloc, WATCHED))?)?;
     let mut source = StdSource::new(rt.reader());
     let mut sink = StdSink::new(io::writer(rt));
-    let mut link = MemLink::new(rt.alloc(), Vec::new(rt.alloc()));
-    inspect(rt.alloc(), &words, &mut source, &mut sink, &mut link)
+    let mut link = MemLink::new(alloc, Vec::new(alloc));
+    Ok(inspect(alloc, words, &mut source, &mut sink, &mut link, panels))
 }
 
 /// The program's words after its name.

@@ -2,6 +2,7 @@
 use Rattle.std.proofs.Common.{◌≡◌, ℕ, suc, ◌+◌, ◌*◌, ◌-◌, ◌<◌, ◌≤◌, ◌^◌, min, List, [], ◌∷◌, ◌++◌, length, take, drop, get_or, drop-cons}
 use Rattle.std.proofs.Common.{add-one, Bool, true, false, not, cond, Ok, Option, Some, None, refl, sym, ◌∙◌, ap, subst, Result, arith}
 use Rattle.std.proofs.lemmas.List.{take_min}
+use Rattle.front_mirror.specs.declared.panels.Panel.{Ghosts}
 use Rattle.pipe_frames.specs.Pipe.{Pipe, waiting}
 use Rattle.pipe_frames.specs.Frames.{IsText, Frames, framed, frames_of, frames_from, held_after, continued}
 use Rattle.front_mirror.specs.Front.{FrontState, first_value, after_take, after_ask, after_fetch}
@@ -287,15 +288,17 @@ no_fault up0 down0 up down w frames e n max piece front1 f in_world max_is front
 -- ---- frames are answered one after the other
 
 -- while frames are answered: where the run is, and that it goes to where it would have gone
-pub record Answering (honest : Type 0) (up0 down0 up down : Pipe) (target : World RunState) (e : ProgramEnds) : Type 0 where
+pub record Answering {P : Type 0} {g : Ghosts P} (honest : Type 0) (up0 down0 up down : Pipe) (target : World RunState)
+    (e : ProgramEnds P g) : Type 0 where
   pub world : World RunState
   pub so_far : InRunWith honest up0 down0 up down world e
   pub goes : answered run_step e.splitter.whole world ≡ target
 
 -- what the answer to the next frame makes of it
-pub answer_turn : {T : Type 0} (result : Result T Stop) (honest honest1 : Type 0) (up0 down0 up down up1 down1 : Pipe)
+pub answer_turn : {P : Type 0} {g : Ghosts P} {T : Type 0} (result : Result T Stop) (honest honest1 : Type 0)
+    (up0 down0 up down up1 down1 : Pipe)
     (target : World RunState)
-    (e e1 : ProgramEnds) (s : Frames) (frame : List ℕ)
+    (e e1 : ProgramEnds P g) (s : Frames) (frame : List ℕ)
     → Answering honest up0 down0 up down target e
     → e.splitter.whole ≡ frame ∷ s.whole → s.rest ≡ e.splitter.rest
     → AnswersOne (moment honest up down (record e { splitter = s })) (moment honest1 up1 down1 e1) frame result → e1.splitter ≡ s
@@ -314,9 +317,10 @@ answer_turn {T} result honest honest1 up0 down0 up down up1 down1 target e e1 s 
     (both.0, on_ok result _ _ both.1 (λ run. record { world = answered run_step (frame ∷ []) w; so_far = run; goes = goes }))
 
 -- bytes came up, and their frames are answered
-pub deliver_goes : {T : Type 0} (result : Result T Stop) (honest honest1 : Type 0) (up0 down0 up down up1 down1 : Pipe)
+pub deliver_goes : {P : Type 0} {g : Ghosts P} {T : Type 0} (result : Result T Stop) (honest honest1 : Type 0)
+    (up0 down0 up down up1 down1 : Pipe)
     (w : World RunState) (n : ℕ)
-    (e e1 : ProgramEnds)
+    (e e1 : ProgramEnds P g)
     → InRunWith honest up0 down0 up down (given_up n w) e × (e.splitter.whole ≡ arriving n w.up)
     → AnswersAll (moment honest up down e) (moment honest1 up1 down1 e1) result
     → GoesWell result × OnOk result (InRun honest1 up0 down0 up1 down1 (delivered_up run_step n w) e1)
@@ -325,9 +329,11 @@ deliver_goes result honest honest1 up0 down0 up down up1 down1 w n e e1 run answ
     (answers up0 down0 (given_up n w) run.0)
 
 -- all of the up pipe was delivered, and then all of the down pipe
-pub settle_goes : {T : Type 0} (result : Result T Stop) (honest honest1 : Type 0) (up0 down0 up down up1 down1 : Pipe) (w : World RunState)
+pub settle_goes : {P : Type 0} {g : Ghosts P} {T : Type 0} (result : Result T Stop) (honest honest1 : Type 0)
+    (up0 down0 up down up1 down1 : Pipe)
+    (w : World RunState)
     (n : ℕ)
-    (e e1 : ProgramEnds)
+    (e e1 : ProgramEnds P g)
     → n ≡ length w.up.flying
     → InRun honest up0 down0 up down (delivered_up run_step n w) e
     → Steps (moment honest up down e) (moment honest1 up1 down1 e1) result (λ v. delivered_down e.down_there v)
@@ -342,13 +348,15 @@ settle_goes result honest honest1 up0 down0 up down up1 down1 w n e e1 all run s
 -- ---- the fetches of a settle
 
 -- the front end of the run is that of the ends
-pub run-front : (honest : Type 0) (up0 down0 up down : Pipe) (w : World RunState) (e : ProgramEnds) → InRun honest up0 down0 up down w e
+pub run-front : {P : Type 0} {g : Ghosts P} (honest : Type 0) (up0 down0 up down : Pipe) (w : World RunState) (e : ProgramEnds P g)
+    → InRun honest up0 down0 up down w e
     → front_in replay (first_value []) w ≡ Ok e.front.value
 run-front honest up0 down0 up down w e run =
     run.so_far.in_world.is_fold ∙ ap (λ (f : FrontState). Ok f.value) (sym run.so_far.in_world.front_is)
 
 -- a sheet is fetched where the front end knows it
-fetched-is : (honest : Type 0) (up0 down0 up down : Pipe) (w : World RunState) (e : ProgramEnds) (number : ℕ) (known : Bool)
+fetched-is : {P : Type 0} {g : Ghosts P} (honest : Type 0) (up0 down0 up down : Pipe) (w : World RunState) (e : ProgramEnds P g)
+    (number : ℕ) (known : Bool)
     → InRun honest up0 down0 up down w e
     → has_sheet number e.front.value.sheets ≡ known
     → fetched_if replay front_fetcher (front_in replay (first_value []) w) number w ≡ cond known (fetched replay front_fetcher number w) w
@@ -356,8 +364,10 @@ fetched-is honest up0 down0 up down w e number known run is =
     ap (λ r. fetched_if replay front_fetcher r number w) (run-front honest up0 down0 up down w e run)
     ∙ ap (λ b. cond b (fetched replay front_fetcher number w) w) is
 
-pub fetch_known : {T : Type 0} (result : Result T Stop) (honest honest1 : Type 0) (up0 down0 up down up1 down1 : Pipe) (w : World RunState)
-    (e e1 : ProgramEnds) (number : ℕ)
+pub fetch_known : {P : Type 0} {g : Ghosts P} {T : Type 0} (result : Result T Stop) (honest honest1 : Type 0)
+    (up0 down0 up down up1 down1 : Pipe)
+    (w : World RunState)
+    (e e1 : ProgramEnds P g) (number : ℕ)
     → InRun honest up0 down0 up down w e → has_sheet number e.front.value.sheets ≡ true
     → GoesWell result × OnOk result (InRun honest1 up0 down0 up1 down1 (fetched replay front_fetcher number w) e1)
     → GoesWell result × OnOk result
@@ -366,24 +376,26 @@ fetch_known result honest honest1 up0 down0 up down up1 down1 w e e1 number run 
     subst (λ v. GoesWell result × OnOk result (InRun honest1 up0 down0 up1 down1 v e1))
     (sym (fetched-is honest up0 down0 up down w e number true run is)) goes
 
-pub fetch_unknown : (honest : Type 0) (up0 down0 up down : Pipe) (w : World RunState) (e : ProgramEnds) (number : ℕ)
+pub fetch_unknown : {P : Type 0} {g : Ghosts P} (honest : Type 0) (up0 down0 up down : Pipe) (w : World RunState) (e : ProgramEnds P g)
+    (number : ℕ)
     → InRun honest up0 down0 up down w e → has_sheet number e.front.value.sheets ≡ false
     → InRun honest up0 down0 up down (fetched_if replay front_fetcher (front_in replay (first_value []) w) number w) e
 fetch_unknown honest up0 down0 up down w e number run is =
     subst (λ v. InRun honest up0 down0 up down v e) (sym (fetched-is honest up0 down0 up down w e number false run is)) run
 
 -- while texts are fetched: where the run is, and that it goes to where it would have gone
-pub record Fetching (honest : Type 0) (up0 down0 up down : Pipe) (target : World RunState) (numbers : List ℕ)
-    (e : ProgramEnds) : Type 0 where
+pub record Fetching {P : Type 0} {g : Ghosts P} (honest : Type 0) (up0 down0 up down : Pipe) (target : World RunState) (numbers : List ℕ)
+    (e : ProgramEnds P g) : Type 0 where
   pub world : World RunState
   pub in_run : InRun honest up0 down0 up down world e
   pub few : world.spent.fetches + length numbers ≤ most_fetches
   pub goes : all_fetched replay front_fetcher (first_value []) numbers world ≡ target
 
 -- the next of them is fetched, or passed over
-next_fetched : {T : Type 0} (result : Result T Stop) (honest honest1 : Type 0) (up0 down0 up down up1 down1 : Pipe)
+next_fetched : {P : Type 0} {g : Ghosts P} {T : Type 0} (result : Result T Stop) (honest honest1 : Type 0)
+    (up0 down0 up down up1 down1 : Pipe)
     (target : World RunState) (number : ℕ) (numbers : List ℕ)
-    (e e1 : ProgramEnds)
+    (e e1 : ProgramEnds P g)
     → Fetching honest up0 down0 up down target (number ∷ numbers) e
     → FetchesOne (moment honest up down e) (moment honest1 up1 down1 e1) number result
     → GoesWell result × OnOk result (Fetching honest1 up0 down0 up1 down1 target numbers e1)
@@ -395,9 +407,10 @@ next_fetched result honest honest1 up0 down0 up down up1 down1 target number num
     let spent : after.spent.fetches ≤ w.spent.fetches + 1 = fetched-if-spends (first_value []) number w in
     (both.0, on_ok result _ _ both.1 (λ run. record { world = after; in_run = run; few = omega (arith, few, spent); goes = going.goes }))
 
-pub fetch_turn : {T : Type 0} (result : Result T Stop) (honest honest1 : Type 0) (up0 down0 up down up1 down1 : Pipe)
+pub fetch_turn : {P : Type 0} {g : Ghosts P} {T : Type 0} (result : Result T Stop) (honest honest1 : Type 0)
+    (up0 down0 up down up1 down1 : Pipe)
     (target : World RunState) (numbers : List ℕ) (i number : ℕ)
-    (e e1 : ProgramEnds) → i < length numbers → number ≡ get_or numbers i 0
+    (e e1 : ProgramEnds P g) → i < length numbers → number ≡ get_or numbers i 0
     → Fetching honest up0 down0 up down target (drop i numbers) e
     → FetchesOne (moment honest up down e) (moment honest1 up1 down1 e1) number result
     → GoesWell result × OnOk result (Fetching honest1 up0 down0 up1 down1 target (drop (i + 1) numbers) e1)
@@ -408,16 +421,18 @@ fetch_turn result honest honest1 up0 down0 up down up1 down1 target numbers i nu
     (subst (λ ns. Fetching honest up0 down0 up down target ns e) split going) fetches
 
 -- no sheet is left
-pub fetch_end : (honest : Type 0) (up0 down0 up down : Pipe) (target : World RunState) (numbers : List ℕ) (e : ProgramEnds) → numbers ≡ []
+pub fetch_end : {P : Type 0} {g : Ghosts P} (honest : Type 0) (up0 down0 up down : Pipe) (target : World RunState) (numbers : List ℕ)
+    (e : ProgramEnds P g) → numbers ≡ []
     → Fetching honest up0 down0 up down target numbers e → InRun honest up0 down0 up down target e
 fetch_end honest up0 down0 up down target numbers e none going =
     subst (λ w. InRun honest up0 down0 up down w e)
     (sym (ap (λ ns. all_fetched replay front_fetcher (first_value []) ns going.world) none) ∙ going.goes) going.in_run
 
 -- after all was delivered the texts that are old are fetched
-pub refresh_goes : {T : Type 0} (result : Result T Stop) (honest honest0 honest1 : Type 0) (up0 down0 up down up1 down1 up2 down2 : Pipe)
+pub refresh_goes : {P : Type 0} {g : Ghosts P} {T : Type 0} (result : Result T Stop) (honest honest0 honest1 : Type 0)
+    (up0 down0 up down up1 down1 up2 down2 : Pipe)
     (w : World RunState)
-    (e e1 e2 : ProgramEnds)
+    (e e1 e2 : ProgramEnds P g)
     → HasLeft w.spent 0 → InRun honest up0 down0 up down w e → InRun honest0 up0 down0 up1 down1 (settled run_step w) e1
     → FetchesAll (moment honest0 up1 down1 e1) (moment honest1 up2 down2 e2) (stale_of e1.front.value.sheets) result
     → GoesWell result × OnOk result (InRun honest1 up0 down0 up2 down2 (refreshes front_fetcher w) e2)

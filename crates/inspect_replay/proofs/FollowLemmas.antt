@@ -1,10 +1,11 @@
 -- What the calls on the link and on the ends keep over every link.
-use Rattle.std.proofs.Common.{◌≡◌, is_some, ◌+◌, ◌*◌, ◌≤◌, ℕ, suc, ◌<◌, ◌^◌, List, [], ◌∷◌, ◌++◌, length, drop, codes, Option, Some, None}
-use Rattle.std.proofs.Common.{true, false, refl, sym, ◌∙◌, ap, subst, arith, append_assoc, length-append, Result, Ok, Err}
+use Rattle.std.proofs.Common.{◌≡◌, is_some, ◌+◌, ◌*◌, ◌≤◌, ℕ, suc, ◌<◌, ◌^◌, List, [], ◌∷◌, ◌++◌, length, map, drop, codes, Option, Some}
+use Rattle.std.proofs.Common.{None, true, false, refl, sym, ◌∙◌, ap, subst, arith, append_assoc, length-append, Result, Ok, Err}
 use Rattle.std.proofs.Math.Seq.{drop-append_seam}
 use Rattle.std.proofs.lemmas.List.{drop_all}
 use Rattle.std.specs.Result.{OnOk, IsOk}
 use Rattle.std.specs.Io.KnownBytes.{Appends}
+use Rattle.front_mirror.specs.declared.panels.Panel.{Ghosts}
 use Rattle.pipe_frames.specs.Pipe.{Pipe, given_since, sent_since}
 use Rattle.pipe_frames.specs.Frames.{IsText, Frames, framed, frames_of, held_after, continued}
 use Rattle.pipe_frames.proofs.WholeLemmas.{Appends-nil, Appends-append}
@@ -28,10 +29,11 @@ use Rattle.back_end.specs.Steps.{Turn, frame_step, turn_step, step, turn}
 use Rattle.back_end.specs.Laws.{IsTurn}
 use Rattle.page_forms.specs.Texts.{PageHasTexts}
 use Rattle.replay_script.specs.Sound.{CanSend}
+use Rattle.front_mirror.specs.declared.panels.PanelKind.{PanelKind}
 use Rattle.inspect_world.specs.Held.{Ends as HeldEnds}
 use Rattle.std.specs.List.{All}
 use Rattle.front_mirror.specs.Front.{matched_in}
-use Rattle.inspect_world.specs.Links.{Started, run_started, one_line_more, knows_styles, came_styles, Drew, Follows, fold_of}
+use Rattle.inspect_world.specs.Links.{Begun, Started, run_started, one_line_more, knows_styles, came_styles, Drew, Follows, fold_of}
 use Rattle.inspect_world.specs.Fits.{ask_of_frame}
 use Rattle.inspect_world.proofs.Scripts.{fit-first}
 use Rattle.inspect_world.proofs.LinkLemmas.{follows-fewer, front-full, seat-full, follows-told, follows-less, follows-start, follows-sends}
@@ -77,12 +79,14 @@ pub follows-good : (state0 : Started) (up0 down0 up down : Pipe) (waiting : List
 follows-good state0 up0 down0 up down waiting e f =
     (subst IsOk (sym (follows-fold state0 up0 down0 up down waiting e f)) refl, follows-less state0 up0 down0 up down waiting e f)
 
-pub run-good : (state0 : Started) (up0 down0 up down : Pipe) (e : Ends) → FollowsRun state0 up0 down0 up down e
+pub run-good : {P : Type 0} {g : Ghosts P} (state0 : Started) (up0 down0 up down : Pipe) (e : Ends P g)
+    → FollowsRun state0 up0 down0 up down e
     → IsWell (fold_since up0 down0 up down)
 run-good state0 up0 down0 up down e run = follows-good state0 up0 down0 up down e.splitter.whole (ends_of e) run.so_far
 
 -- the matched styles that were shown came
-pub run-came : (state0 : Started) (up0 down0 up down : Pipe) (e : Ends) → FollowsRun state0 up0 down0 up down e
+pub run-came : {P : Type 0} {g : Ghosts P} (state0 : Started) (up0 down0 up down : Pipe) (e : Ends P g)
+    → FollowsRun state0 up0 down0 up down e
     → AllCame (fold_since up0 down0 up down) state0.shown
 run-came state0 up0 down0 up down e run =
     let f = run.so_far in
@@ -93,7 +97,8 @@ run-came state0 up0 down0 up down e run =
     (subst (λ v. All (λ ask. knows_styles v ask ≡ true) state0.shown) value f.styled)
 
 -- whether some came is what the front end has kept
-pub run-kept : (state0 : Started) (up0 down0 up down : Pipe) (e : Ends) (ask : ℕ) → FollowsRun state0 up0 down0 up down e
+pub run-kept : {P : Type 0} {g : Ghosts P} (state0 : Started) (up0 down0 up down : Pipe) (e : Ends P g) (ask : ℕ)
+    → FollowsRun state0 up0 down0 up down e
     → came_styles (fold_since up0 down0 up down).fold ask ≡ is_some (matched_in ask e.front.value.matched)
 run-kept state0 up0 down0 up down e ask run =
     ap (λ r. came_styles r ask) (follows-fold state0 up0 down0 up down e.splitter.whole (ends_of e) run.so_far)
@@ -110,7 +115,8 @@ same-stop stop state0 up0 down0 up down up1 down1 waiting e f never same_up same
 -- ---- what a call keeps
 
 -- it has come through, or not
-pub kept-run : {T : Type 0} (result : Result T Stop) (state0 : Started) (up0 down0 up down : Pipe) (e : Ends) → GoesWell result
+pub kept-run : {P : Type 0} {g : Ghosts P} {T : Type 0} (result : Result T Stop) (state0 : Started) (up0 down0 up down : Pipe)
+    (e : Ends P g) → GoesWell result
     → FollowsRun state0 up0 down0 up down e
     → OnOk result (FollowsRun state0 up0 down0 up down e) × StopFolds result (fold_since up0 down0 up down)
 kept-run (Ok value) state0 up0 down0 up down e never run = (run, run-good state0 up0 down0 up down e run)
@@ -118,29 +124,27 @@ kept-run (Err stop) state0 up0 down0 up down e never run =
     (tt, stop-folds stop (fold_since up0 down0 up down) never (run-good state0 up0 down0 up down e run))
 
 -- a line that makes no step of the script
-pub run-fewer : (state0 : Started) (up0 down0 up down : Pipe) (e : Ends) → FollowsRun (one_line_more state0) up0 down0 up down e
+pub run-fewer : {P : Type 0} {g : Ghosts P} (state0 : Started) (up0 down0 up down : Pipe) (e : Ends P g) → FollowsRun
+    (one_line_more state0) up0 down0 up down e
     → FollowsRun state0 up0 down0 up down e
 run-fewer state0 up0 down0 up down e run =
     record { so_far = follows-fewer state0 up0 down0 up down e.splitter.whole (ends_of e) run.so_far; none_whole = run.none_whole }
 
 -- the line that comes next is one of those that are left
-pub run-line : (state0 : State) (shown : List ℕ) (up0 down0 up down : Pipe) (e : Ends) (lines : List (List ℕ)) (line : List ℕ)
+pub run-line : {P : Type 0} {g : Ghosts P} (begun : Begun) (shown : List ℕ) (panels : List (Option PanelKind)) (up0 down0 up down : Pipe)
+    (e : Ends P g)
+    (lines : List (List ℕ)) (line : List ℕ)
     (more : List (List ℕ)) → lines ≡ line ∷ more
-    → FollowsRun (run_started state0 (length lines) shown) up0 down0 up down e
-    → FollowsRun (one_line_more (run_started state0 (length more) shown)) up0 down0 up down e
-run-line state0 shown up0 down0 up down e lines line more is run =
+    → FollowsRun (run_started begun.state (length lines) shown panels) up0 down0 up down e
+    → FollowsRun (one_line_more (run_started begun.state (length more) shown panels)) up0 down0 up down e
+run-line begun shown panels up0 down0 up down e lines line more is run =
     let count : length lines ≡ suc (length more) = ap length is in
     let plus : length lines ≡ length more + 1 = omega (arith, count) in
-    subst (λ n. FollowsRun (run_started state0 n shown) up0 down0 up down e) plus run
-
--- and then none is left
-pub run-last : (state0 : State) (shown : List ℕ) (up0 down0 up down : Pipe) (e : Ends) (lines : List (List ℕ)) → lines ≡ []
-    → FollowsRun (run_started state0 (length lines) shown) up0 down0 up down e → FollowsRun (run_started state0 0 shown) up0 down0 up down e
-run-last state0 shown up0 down0 up down e lines none run = subst
-    (λ (ls : List (List ℕ)). FollowsRun (run_started state0 (length ls) shown) up0 down0 up down e) none run
+    subst (λ n. FollowsRun (run_started begun.state n shown panels) up0 down0 up down e) plus run
 
 -- where the front end has no id left, the call stops
-pub front-stops : (state0 : Started) (up0 down0 up down : Pipe) (e : Ends) → FollowsRun state0 up0 down0 up down e
+pub front-stops : {P : Type 0} {g : Ghosts P} (state0 : Started) (up0 down0 up down : Pipe) (e : Ends P g)
+    → FollowsRun state0 up0 down0 up down e
     → ((e.front.next < 2 ^ 30) × (2 ^ 30 + e.front.fetches < 2 ^ 52) → false ≡ true)
     → StopFolds {T = Unit {0}} (Err NoRoom) (fold_since up0 down0 up down)
 front-stops state0 up0 down0 up down e run none =
@@ -303,7 +307,9 @@ refused-folds state0 up0 down0 up down up1 down1 waiting e piece bytes front1 fa
     )
 
 -- the next frame is answered, before those that the splitter holds
-pub follow_turn : {T : Type 0} (result : Result T Stop) (state0 : Started) (up0 down0 up down up1 down1 : Pipe) (e e1 : Ends) (s : Frames)
+pub follow_turn : {P : Type 0} {g : Ghosts P} {T : Type 0} (result : Result T Stop) (state0 : Started)
+    (up0 down0 up down up1 down1 : Pipe) (e e1 : Ends P g)
+    (s : Frames)
     (frame : List ℕ)
     → FollowsWith state0 up0 down0 up down e → e.splitter.whole ≡ frame ∷ s.whole → s.rest ≡ e.splitter.rest
     → FollowsAnswer (moment (Unit {0}) up down (record e { splitter = s })) (moment (Unit {0}) up1 down1 e1) frame result
@@ -314,7 +320,8 @@ follow_turn result state0 up0 down0 up down up1 down1 e e1 s frame f whole rest 
     (subst (λ frames. Follows state0 up0 down0 up down frames (ends_of e)) whole f))
 
 -- no frame is left
-pub follow_end : (state0 : Started) (up0 down0 up down : Pipe) (e e1 : Ends) → FollowsWith state0 up0 down0 up down e
+pub follow_end : {P : Type 0} {g : Ghosts P} (state0 : Started) (up0 down0 up down : Pipe) (e e1 : Ends P g)
+    → FollowsWith state0 up0 down0 up down e
     → e1.splitter ≡ e.splitter → e1.splitter.whole ≡ []
     → ((rest : List ℕ) → record (ends_of e) { back_rest = rest } ≡ record (ends_of e1) { back_rest = rest })
     → FollowsRun state0 up0 down0 up down e1 × IsWell (fold_since up0 down0 up down)
@@ -329,7 +336,7 @@ follow_end state0 up0 down0 up down e e1 f same none ends = (
 
 -- ---- what is told and printed
 
-pub told-run : (state0 : Started) (up0 down0 up down : Pipe) (e e1 : Ends) (replies pauses : ℕ)
+pub told-run : {P : Type 0} {g : Ghosts P} (state0 : Started) (up0 down0 up down : Pipe) (e e1 : Ends P g) (replies pauses : ℕ)
     → e1 ≡ record e { told = replies; told_pauses = pauses }
     → FollowsRun state0 up0 down0 up down e → FollowsRun state0 up0 down0 up down e1
 told-run state0 up0 down0 up down e e1 replies pauses is run =
@@ -355,8 +362,9 @@ more-printed before middle after a b = record {
 }
 
 -- the closing part, where it was printed
-pub closes-shown : (result : Result (Unit {0}) Stop) (state0 : Started) (up0 down0 up down : Pipe) (before after : Option (List ℕ))
-    (e : Ends) (tree : Nodes Seen)
+pub closes-shown : {P : Type 0} {g : Ghosts P} (result : Result (Unit {0}) Stop) (state0 : Started) (up0 down0 up down : Pipe)
+    (before after : Option (List ℕ))
+    (e : Ends P g) (tree : Nodes Seen)
     → FollowsRun state0 up0 down0 up down e → tree ≡ e.front.value.tree → GoesWell result
     → OnOk result (Appends before after (codes "# end" ++ 10 ∷ outline_text seen_line tree))
     → OnOk result (EndsShown before after (fold_since up0 down0 up down) × AnswersInOrder up0 down0 up down
@@ -423,12 +431,12 @@ start-good up down =
       (omega (arith, nothing up.given), omega (arith, nothing down.given)),
     )
 
-pub run-first : (up down : Pipe) (page : LoadedPage) (lines : ℕ) (e : Ends)
+pub run-first : {P : Type 0} {g : Ghosts P} (up down : Pipe) (kinds : List PanelKind) (page : LoadedPage) (lines : ℕ) (e : Ends P g)
     → length up.given ≤ length up.sent → length down.given ≤ length down.sent → CanLoadPage page → PageHasTexts page → lines ≤ 2 ^ 26
-    → IsNew e page → FollowsRun (run_started (loaded_state page) lines []) up down up down e
-run-first up down page lines e up_within down_within can texts few new =
-    let start : Started = run_started (loaded_state page) lines [] in
-    let same : ends_of e ≡ first_ends e.seat e.side = ends-first e page new in
+    → IsNew e kinds page → FollowsRun (run_started (loaded_state page) lines [] (map Some kinds)) up down up down e
+run-first up down kinds page lines e up_within down_within can texts few new =
+    let start : Started = run_started (loaded_state page) lines [] (map Some kinds) in
+    let same : ends_of e ≡ first_ends kinds e.seat e.side = ends-first e kinds page new in
     let none : e.splitter.whole ≡ [] = ap (λ (f : Frames). f.whole) new.splitter in
     let fit = fit-first page can texts in
     let drew : Drew (loaded_state page) 0 0 0 = record { ids = omega arith; trees = omega arith; edits = omega arith } in
@@ -436,9 +444,9 @@ run-first up down page lines e up_within down_within can texts few new =
     let numbers : (loaded_state page).side.next_sheet + 0 * max_sheets ≤ (0 + 1) * max_sheets + 1 = fit.numbers in
     record {
       so_far = subst (λ h. Follows start up down up down e.splitter.whole h) (sym same)
-          (subst (λ frames. Follows start up down up down frames (first_ends e.seat e.side)) (sym none)
-          (follows-start up down start e.seat e.side up_within down_within refl (stands-first page e.seat e.side can texts new.side) few
-          drew (omega (arith, serials))
+          (subst (λ frames. Follows start up down up down frames (first_ends kinds e.seat e.side)) (sym none)
+          (follows-start up down kinds start e.seat e.side up_within down_within refl refl
+          (stands-first page e.seat e.side can texts new.side) few drew (omega (arith, serials))
           (omega (arith, numbers)) (omega arith)));
       none_whole = none;
     }

@@ -3,6 +3,8 @@ pub mod FirstLine
 pub mod RunLemmas
 pub mod LinesRun
 pub mod LinesTell
+pub mod PanelLemmas
+pub mod SameEnds
 pub mod StylesLemmas
 pub mod FollowLemmas
 pub mod AnswerLemmas

@@ -1,8 +1,9 @@
 -- The lines of a script are carried out one after the other, up to the first that is refused.
-use Rattle.std.proofs.Common.{◌≡◌, ℕ, ◌+◌, ◌≤◌, List, [], ◌∷◌, ◌++◌, length, Bool, is_some, Option, Some, None, option_and_then, refl}
+use Rattle.std.proofs.Common.{◌≡◌, ℕ, ◌+◌, ◌≤◌, List, [], ◌∷◌, ◌++◌, length, map, Bool, is_some, Option, Some, None, option_and_then, refl}
 use Rattle.std.proofs.Common.{sym, ◌∙◌, ap, subst, arith, append_assoc, append-nil, Result, Ok, Err}
 use Rattle.std.specs.Result.{OnOk, OnErr}
 use Rattle.std.specs.Io.KnownBytes.{Appends}
+use Rattle.front_mirror.specs.declared.panels.Panel.{Ghosts}
 use Rattle.pipe_frames.specs.Pipe.{Pipe}
 use Rattle.pipe_frames.specs.Whole.{WrotePart}
 use Rattle.pipe_frames.proofs.WholeLemmas.{Appends-append, WrotePart-all, WrotePart-longer, WrotePart-after}
@@ -11,15 +12,17 @@ use Rattle.pipe_frames.proofs.FaultLemmas.{Rose-before}
 use Rattle.node_tree.specs.Keys.{first_of}
 use Rattle.css_objects.specs.declared.rules.Matched.{Matched}
 use Rattle.replay_script.specs.Forms as forms_of
-use Rattle.replay_script.specs.Forms.{LineForm, load, ask, show_front, show_page, show_sheets, show_replies, show_pauses, show_styles}
-use Rattle.replay_script.specs.Forms.{line_form}
+use Rattle.replay_script.specs.Forms.{LineForm, load, ask, show_front, show_page, show_sheets, show_replies, show_pauses}
+use Rattle.replay_script.specs.Forms.{show_panels, show_styles, close, line_form}
 use Rattle.replay_script.specs.Faults.{line_fault}
-use Rattle.replay_script.specs.Script.{numbered_or, unless_bad, styles_ask, styles_missing, styles_fault, first_refused, refused_of_lines}
+use Rattle.replay_script.specs.Script.{numbered_or, unless_bad, stands_open, panel_missing, panels_left, want_fault, closed_by}
+use Rattle.replay_script.specs.Script.{styles_ask, styles_missing, styles_fault, first_refused, refused_of_lines}
 use Rattle.replay_script.specs.Script.{script_refused, first_bad, fault_of_lines, good_lines}
 use Rattle.replay_script.specs.Lines.{lines_of}
 use Rattle.replay_script.specs.declared.faults.LineFault.{LineFault}
 use Rattle.replay_script.specs.declared.faults.LineFault.TheVariants.{NotLoad}
 use Rattle.replay_script.proofs.ScriptLemmas.{first_bad-good, first_bad-bad, good_lines-good, good_lines-bad}
+use Rattle.front_mirror.specs.declared.panels.PanelKind.{PanelKind}
 use Rattle.inspect_world.specs.World.{World, settled}
 use Rattle.inspect_world.specs.RunStates.{RunState, run_step}
 use Rattle.inspect_world.specs.Costs.{line_cost, line_bytes}
@@ -61,22 +64,26 @@ pub closed-tells : (result : Result (Unit {0}) Stop) (sink0 sink1 link0 link1 : 
 closed-tells (Ok value) sink0 sink1 link0 link1 bad none cause = none
 closed-tells (Err stop) sink0 sink1 link0 link1 bad none cause = part-tells stop sink0 sink1 link0 link1 bad cause
 
--- a line that shows no matched styles lacks nothing
-pub plain-lacking : (there : ℕ → Bool) (form : LineForm) → styles_ask form ≡ None → styles_fault there form ≡ None
-plain-lacking there form none = ap (option_and_then (λ k. styles_missing (there k))) none
+-- a line that drops no panel and shows no matched styles lacks nothing
+pub plain-lacking : (there : ℕ → Bool) (panels : List (Option PanelKind)) (form : LineForm) → closed_by form ≡ None
+    → styles_ask form ≡ None → want_fault there panels form ≡ None
+plain-lacking there panels form keeps none =
+    ap (λ o. first_of (option_and_then (λ k. panel_missing (stands_open k panels)) o) (styles_fault there form)) keeps
+    ∙ ap (option_and_then (λ k. styles_missing (there k))) none
 
-pub plain-line : (result : Result (Unit {0}) Stop) (honest honest1 : Type 0) (up down up1 down1 : Pipe) (taken taken1 : Option (List ℕ))
-    (e e1 : Ends) (number : ℕ) (form : LineForm)
-    (sink0 sink1 link0 link1 : ℕ) → styles_ask form ≡ None → HasStopCause sink0 sink1 link0 link1 result
+pub plain-line : {P : Type 0} {g : Ghosts P} (result : Result (Unit {0}) Stop) (honest honest1 : Type 0) (up down up1 down1 : Pipe)
+    (taken taken1 : Option (List ℕ))
+    (e e1 : Ends P g) (number : ℕ) (form : LineForm)
+    (sink0 sink1 link0 link1 : ℕ) → closed_by form ≡ None → styles_ask form ≡ None → HasStopCause sink0 sink1 link0 link1 result
     → CarriesOut (scene (moment honest up down e) taken) (scene (moment honest1 up1 down1 e1) taken1) (numbered_line number form) result
     → CarriesLine (scene (moment honest up down e) taken) (scene (moment honest1 up1 down1 e1) taken1) (numbered_line number form) result
-plain-line result honest honest1 up down up1 down1 taken taken1 e e1 number form sink0 sink1 link0 link1 none cause carries = λ up0 down0
-    more w play.
+plain-line result honest honest1 up down up1 down1 taken taken1 e e1 number form sink0 sink1 link0 link1 keeps none cause carries =
+    λ up0 down0 more w play.
     let all = carries up0 down0 more w play in (
       all.1,
       prints-took result sink0 sink1 link0 link1 taken taken1 (line_text number form w) cause all.0 all.2,
       closed-tells result sink0 sink1 link0 link1 (numbered_or number (lacking form w) None)
-          (ap (λ o. numbered_or number o None) (plain-lacking (has_styles (settled run_step w)) form none)) cause,
+          (ap (λ o. numbered_or number o None) (plain-lacking (has_styles (settled run_step w)) w.told.panels form keeps none)) cause,
     )
 
 -- the line that shows the matched styles of an ask
@@ -93,9 +100,29 @@ shows-styles show_page k is = absurd cc
 shows-styles show_sheets k is = absurd cc
 shows-styles show_replies k is = absurd cc
 shows-styles show_pauses k is = absurd cc
+shows-styles show_panels k is = absurd cc
 shows-styles (show_styles i) k is = let same : i ≡ k = cc in ap show_styles same
+shows-styles (close i) k is = absurd cc
 
 -- ---- a line that is refused prints nothing
+
+-- the line that drops a panel
+pub drops-panel : (form : LineForm) (k : ℕ) → closed_by form ≡ Some k → form ≡ close k
+drops-panel (load page) k is = absurd cc
+drops-panel (forms_of.act a) k is = absurd cc
+drops-panel (ask a) k is = absurd cc
+drops-panel (forms_of.raw text) k is = absurd cc
+drops-panel (forms_of.up n) k is = absurd cc
+drops-panel (forms_of.down n) k is = absurd cc
+drops-panel forms_of.settle k is = absurd cc
+drops-panel show_front k is = absurd cc
+drops-panel show_page k is = absurd cc
+drops-panel show_sheets k is = absurd cc
+drops-panel show_replies k is = absurd cc
+drops-panel show_pauses k is = absurd cc
+drops-panel show_panels k is = absurd cc
+drops-panel (show_styles i) k is = absurd cc
+drops-panel (close i) k is = let same : i ≡ k = cc in ap close same
 
 silent-missing : (number k : ℕ) (o : Option Matched) (fault : LineFault) → styles_missing (is_some o) ≡ Some fault → styles_shown k o ≡ []
 silent-missing number k None fault is = refl
@@ -115,7 +142,9 @@ silent-lacking number show_page w fault is = absurd cc
 silent-lacking number show_sheets w fault is = absurd cc
 silent-lacking number show_replies w fault is = absurd cc
 silent-lacking number show_pauses w fault is = absurd cc
+silent-lacking number show_panels w fault is = absurd cc
 silent-lacking number (show_styles k) w fault is = silent-missing number k (styles_at k (settled run_step w)) fault is
+silent-lacking number (close k) w fault is = refl
 
 pub no-number : (number : ℕ) (o : Option LineFault) → numbered_or number o None ≡ None → o ≡ None
 no-number number None e = refl
@@ -135,8 +164,9 @@ pub record Whole : Type 0 where
   pub refused : Option (ℕ × LineFault)
 
 -- where a run of lines is: the world, what was printed so far, and that the lines left do the rest
-pub record Running (honest : Type 0) (up0 down0 up down : Pipe) (taken0 taken : Option (List ℕ)) (all : Whole) (number : ℕ)
-    (lines : List (List ℕ)) (e : Ends) : Type 0 where
+pub record Running {P : Type 0} {g : Ghosts P} (honest : Type 0) (up0 down0 up down : Pipe) (taken0 taken : Option (List ℕ))
+    (all : Whole) (number : ℕ)
+    (lines : List (List ℕ)) (e : Ends P g) : Type 0 where
   pub world : World RunState
   pub in_play : InPlay honest up0 down0 up down (line_bytes lines) world e
   pub so_far : List ℕ
@@ -154,14 +184,15 @@ whole_of lines w = record {
 }
 
 -- the same of lines that are equal
-pub with_lines : (honest : Type 0) (up0 down0 up down : Pipe) (taken0 taken : Option (List ℕ)) (all : Whole) (number : ℕ)
-    (lines lines1 : List (List ℕ)) (e : Ends) → lines ≡ lines1
+pub with_lines : {P : Type 0} {g : Ghosts P} (honest : Type 0) (up0 down0 up down : Pipe) (taken0 taken : Option (List ℕ)) (all : Whole)
+    (number : ℕ)
+    (lines lines1 : List (List ℕ)) (e : Ends P g) → lines ≡ lines1
     → Running honest up0 down0 up down taken0 taken all number lines e → Running honest up0 down0 up down taken0 taken all number lines1 e
 with_lines honest up0 down0 up down taken0 taken all number lines lines1 e same running =
     subst (λ ls. Running honest up0 down0 up down taken0 taken all number ls e) same running
 
 -- room for more bytes is room for fewer
-play-fewer : (honest : Type 0) (up0 down0 up down : Pipe) (j k : ℕ) (w : World RunState) (e : Ends) → j ≤ k
+play-fewer : {P : Type 0} {g : Ghosts P} (honest : Type 0) (up0 down0 up down : Pipe) (j k : ℕ) (w : World RunState) (e : Ends P g) → j ≤ k
     → InPlay honest up0 down0 up down k w e → InPlay honest up0 down0 up down j w e
 play-fewer honest up0 down0 up down j k w e less play = record {
   fresh = play.fresh;
@@ -171,8 +202,10 @@ play-fewer honest up0 down0 up down j k w e less play = record {
 }
 
 -- the line that comes next is one of those that are left, and has the bytes that it costs
-pub run-later : (honest : Type 0) (up0 down0 up down : Pipe) (line : List ℕ) (more : List (List ℕ)) (form : LineForm) (w : World RunState)
-    (e : Ends) → line_form line ≡ Some form
+pub run-later : {P : Type 0} {g : Ghosts P} (honest : Type 0) (up0 down0 up down : Pipe) (line : List ℕ) (more : List (List ℕ))
+    (form : LineForm)
+    (w : World RunState)
+    (e : Ends P g) → line_form line ≡ Some form
     → InPlay honest up0 down0 up down (line_bytes (line ∷ more)) w e
     → InPlay honest up0 down0 up down (line_bytes more + line_cost form) w e
 run-later honest up0 down0 up down line more form w e is play =
@@ -186,8 +219,10 @@ record ThisLine (all : Whole) (number : ℕ) (form : LineForm) (later : List Lin
   worlds : all.world ≡ after_lines (unless_bad (lacking form w) (form ∷ shown_lines later (after_line form w))) w
   refused : all.refused ≡ first_of (numbered_or number (lacking form w) (first_lacking (number + 1) later (after_line form w))) bad
 
-at-line : (honest : Type 0) (up0 down0 up down : Pipe) (taken0 taken : Option (List ℕ)) (all : Whole) (number : ℕ) (line : List ℕ)
-    (more : List (List ℕ)) (form : LineForm) (e : Ends)
+at-line : {P : Type 0} {g : Ghosts P} (honest : Type 0) (up0 down0 up down : Pipe) (taken0 taken : Option (List ℕ)) (all : Whole)
+    (number : ℕ)
+    (line : List ℕ)
+    (more : List (List ℕ)) (form : LineForm) (e : Ends P g)
     → (running : Running honest up0 down0 up down taken0 taken all number (line ∷ more) e) → line_fault number line ≡ None
     → line_form line ≡ Some form
     → ThisLine all number form (good_lines (number + 1) more) (first_bad (number + 1) more) running.world running.so_far
@@ -202,8 +237,10 @@ at-line honest up0 down0 up down taken0 taken all number line more form e runnin
     }
 
 -- a line that lacks nothing was carried out
-pub run-on : (honest honest1 : Type 0) (up0 down0 up down up1 down1 : Pipe) (taken0 taken taken1 : Option (List ℕ)) (all : Whole)
-    (number : ℕ) (line : List ℕ) (more : List (List ℕ)) (form : LineForm) (e e1 : Ends)
+pub run-on : {P : Type 0} {g : Ghosts P} (honest honest1 : Type 0) (up0 down0 up down up1 down1 : Pipe)
+    (taken0 taken taken1 : Option (List ℕ))
+    (all : Whole)
+    (number : ℕ) (line : List ℕ) (more : List (List ℕ)) (form : LineForm) (e e1 : Ends P g)
     → Running honest up0 down0 up down taken0 taken all number (line ∷ more) e → line_fault number line ≡ None → line_form line ≡ Some form
     → CarriesLine {T = Unit {0}} (scene (moment honest up down e) taken) (scene (moment honest1 up1 down1 e1) taken1)
     (numbered_line number form) (Ok tt)
@@ -242,8 +279,9 @@ part-line taken0 taken1 number form later w so_far (Some fault) is wrote =
     subst (λ t. WrotePart taken0 taken1 (so_far ++ t)) (silent-lacking number form w fault is) wrote
 
 -- a line stopped the run
-module _ (honest honest1 : Type 0) (up0 down0 up down up1 down1 : Pipe) (taken0 taken taken1 : Option (List ℕ)) (all : Whole) (number : ℕ)
-    (line : List ℕ) (more : List (List ℕ)) (form : LineForm) (e e1 : Ends)
+module _ {P : Type 0} {g : Ghosts P} (honest honest1 : Type 0) (up0 down0 up down up1 down1 : Pipe) (taken0 taken taken1 : Option (List ℕ))
+    (all : Whole) (number : ℕ)
+    (line : List ℕ) (more : List (List ℕ)) (form : LineForm) (e e1 : Ends P g)
     (running : Running honest up0 down0 up down taken0 taken all number (line ∷ more) e) (good : line_fault number line ≡ None)
     (is : line_form line ≡ Some form) where
   part-all : WrotePart taken taken1 (line_text number form running.world) → WrotePart taken0 taken1 all.text
@@ -291,8 +329,10 @@ nothing-left : (so_far : List ℕ) (number : ℕ) (w : World RunState) (forms : 
 nothing-left so_far number w forms e = ap (λ fs. so_far ++ lines_text number (shown_lines fs w) w) e ∙ append-nil so_far
 
 -- a line is not read
-pub read-stops : (stop : Stop) (honest : Type 0) (up0 down0 up down : Pipe) (taken0 taken : Option (List ℕ)) (all : Whole) (number : ℕ)
-    (line : List ℕ) (more : List (List ℕ)) (e : Ends)
+pub read-stops : {P : Type 0} {g : Ghosts P} (stop : Stop) (honest : Type 0) (up0 down0 up down : Pipe) (taken0 taken : Option (List ℕ))
+    (all : Whole)
+    (number : ℕ)
+    (line : List ℕ) (more : List (List ℕ)) (e : Ends P g)
     → Running honest up0 down0 up down taken0 taken all number (line ∷ more) e
     → IsRead {T = Unit {0}} (Err stop) number (line_fault number line)
     → RunTook {T = Unit {0}} (Err stop) taken0 taken all.text × RunTells {T = Unit {0}} (Err stop) all.refused
@@ -317,8 +357,9 @@ read-stops Memory honest up0 down0 up down taken0 taken all number line more e r
 )
 
 -- no line is left
-pub lines-done : (honest : Type 0) (up0 down0 up down : Pipe) (taken0 taken : Option (List ℕ)) (all : Whole) (number : ℕ)
-    (lines : List (List ℕ)) (e : Ends)
+pub lines-done : {P : Type 0} {g : Ghosts P} (honest : Type 0) (up0 down0 up down : Pipe) (taken0 taken : Option (List ℕ)) (all : Whole)
+    (number : ℕ)
+    (lines : List (List ℕ)) (e : Ends P g)
     → Running honest up0 down0 up down taken0 taken all number lines e → lines ≡ []
     → InPlay honest up0 down0 up down 0 all.world e × Appends taken0 taken all.text × (all.refused ≡ None)
 lines-done honest up0 down0 up down taken0 taken all number lines e running none =
@@ -476,8 +517,9 @@ settled-stop stop sink0 link0 link1 cause =
     }
 
 -- a line that did not settle
-pub stopped-line : (stop : Stop) (sink0 sink1 link0 link1 number : ℕ) (form : LineForm) (honest honest1 : Type 0)
-    (up down up1 down1 : Pipe) (taken taken1 : Option (List ℕ)) (e e1 : Ends)
+pub stopped-line : {P : Type 0} {g : Ghosts P} (stop : Stop) (sink0 sink1 link0 link1 number : ℕ) (form : LineForm)
+    (honest honest1 : Type 0)
+    (up down up1 down1 : Pipe) (taken taken1 : Option (List ℕ)) (e e1 : Ends P g)
     → HasStopCause {T = Unit {0}} sink0 sink1 link0 link1 (Err stop)
     → CarriesOut {T = Unit {0}} (scene (moment honest up down e) taken) (scene (moment honest1 up1 down1 e1) taken1)
     (numbered_line number form) (Err stop)
@@ -493,38 +535,41 @@ stopped-line stop sink0 sink1 link0 link1 number form honest honest1 up down up1
 
 -- ---- an input whose first line is not read, or that has none
 
-pub unread-tells : (stop : Stop) (there : ℕ → Bool) (input first : List ℕ) (more : List (List ℕ)) → lines_of input ≡ first ∷ more
+pub unread-tells : (stop : Stop) (there : ℕ → Bool) (kinds : List PanelKind) (input first : List ℕ) (more : List (List ℕ))
+    → lines_of input ≡ first ∷ more
     → IsRead {T = Unit {0}} (Err stop) 1 (line_fault 1 first)
-    → RunTells {T = Unit {0}} (Err stop) (script_refused there input)
-unread-tells (Line n fault) there input first more lines read =
-    ap (refused_of_lines there) lines
-    ∙ ap (λ o. numbered_or 1 (first_of o (option_and_then (styles_fault there) (line_form first))) (first_refused there 2 more)) read.1
+    → RunTells {T = Unit {0}} (Err stop) (script_refused there kinds input)
+unread-tells (Line n fault) there kinds input first more lines read =
+    ap (refused_of_lines there (map Some kinds)) lines
+    ∙ ap (λ o. numbered_or 1 (first_of o (option_and_then (want_fault there (map Some kinds)) (line_form first)))
+    (first_refused there (panels_left first (map Some kinds)) 2 more)) read.1
     ∙ ap (λ m. Some (m, fault)) (sym read.0)
-unread-tells TooLong there input first more lines read = absurd read
-unread-tells ReadFault there input first more lines read = absurd read
-unread-tells WriteFault there input first more lines read = tt
-unread-tells LinkFault there input first more lines read = tt
-unread-tells (FrontRefused place kind) there input first more lines read = tt
-unread-tells NoRoom there input first more lines read = tt
-unread-tells Memory there input first more lines read = tt
+unread-tells TooLong there kinds input first more lines read = absurd read
+unread-tells ReadFault there kinds input first more lines read = absurd read
+unread-tells WriteFault there kinds input first more lines read = tt
+unread-tells LinkFault there kinds input first more lines read = tt
+unread-tells (FrontRefused place kind) there kinds input first more lines read = tt
+unread-tells NoRoom there kinds input first more lines read = tt
+unread-tells Memory there kinds input first more lines read = tt
 
-pub unread-stops : (stop : Stop) (input first : List ℕ) (more : List (List ℕ)) → lines_of input ≡ first ∷ more
+pub unread-stops : (stop : Stop) (kinds : List PanelKind) (input first : List ℕ) (more : List (List ℕ)) → lines_of input ≡ first ∷ more
     → IsRead {T = Unit {0}} (Err stop) 1 (line_fault 1 first)
-    → RunTells {T = Unit {0}} (Err stop) (report_refused input)
-unread-stops (Line n fault) input first more lines read =
-    ap (λ ls. refused_of (fault_of_lines ls) (good_lines 1 ls)) lines
-    ∙ ap (refused_of (first_bad 1 (first ∷ more))) (good_lines-bad 1 first more fault read.1)
+    → RunTells {T = Unit {0}} (Err stop) (report_refused kinds input)
+unread-stops (Line n fault) kinds input first more lines read =
+    ap (λ ls. refused_of kinds (fault_of_lines ls) (good_lines 1 ls)) lines
+    ∙ ap (refused_of kinds (first_bad 1 (first ∷ more))) (good_lines-bad 1 first more fault read.1)
     ∙ first_bad-bad 1 first more fault read.1 ∙ ap (λ m. Some (m, fault)) (sym read.0)
-unread-stops TooLong input first more lines read = absurd read
-unread-stops ReadFault input first more lines read = absurd read
-unread-stops WriteFault input first more lines read = tt
-unread-stops LinkFault input first more lines read = tt
-unread-stops (FrontRefused place kind) input first more lines read = tt
-unread-stops NoRoom input first more lines read = tt
-unread-stops Memory input first more lines read = tt
+unread-stops TooLong kinds input first more lines read = absurd read
+unread-stops ReadFault kinds input first more lines read = absurd read
+unread-stops WriteFault kinds input first more lines read = tt
+unread-stops LinkFault kinds input first more lines read = tt
+unread-stops (FrontRefused place kind) kinds input first more lines read = tt
+unread-stops NoRoom kinds input first more lines read = tt
+unread-stops Memory kinds input first more lines read = tt
 
-pub no-lines-tell : (there : ℕ → Bool) (input : List ℕ) → lines_of input ≡ [] → script_refused there input ≡ Some (1, NotLoad)
-no-lines-tell there input none = ap (refused_of_lines there) none
+pub no-lines-tell : (there : ℕ → Bool) (kinds : List PanelKind) (input : List ℕ) → lines_of input ≡ []
+    → script_refused there kinds input ≡ Some (1, NotLoad)
+no-lines-tell there kinds input none = ap (refused_of_lines there (map Some kinds)) none
 
-pub no-lines-stop : (input : List ℕ) → lines_of input ≡ [] → report_refused input ≡ Some (1, NotLoad)
-no-lines-stop input none = ap (λ ls. refused_of (fault_of_lines ls) (good_lines 1 ls)) none
+pub no-lines-stop : (kinds : List PanelKind) (input : List ℕ) → lines_of input ≡ [] → report_refused kinds input ≡ Some (1, NotLoad)
+no-lines-stop kinds input none = ap (λ ls. refused_of kinds (fault_of_lines ls) (good_lines 1 ls)) none

@@ -1,30 +1,33 @@
 -- A run goes on line by line, and writes what the lines print.
-use Rattle.std.proofs.Common.{◌≡◌, ℕ, suc, ◌+◌, ◌≤◌, min, Bool, option_and_then, List, [], ◌∷◌, ◌++◌, length, map, drop, Option, Some}
-use Rattle.std.proofs.Common.{None, refl, sym, ◌∙◌, ap, subst, arith, append-nil, codes, Result, Ok, Err}
+use Rattle.std.proofs.Common.{◌≡◌, ℕ, suc, ◌+◌, ◌≤◌, min, Bool, false, option_and_then, List, [], ◌∷◌, ◌++◌, length, map, drop, Option}
+use Rattle.std.proofs.Common.{Some, None, refl, sym, ◌∙◌, ap, subst, arith, append-nil, codes, Result, Ok, Err}
 use Rattle.std.proofs.lemmas.List.{drop-map, drop_min, length-map}
+use Rattle.std.specs.Option.{option_map_or}
 use Rattle.std.specs.Result.{OnOk, OnErr}
 use Rattle.node_tree.specs.Keys.{first_of}
 use Rattle.std.specs.Io.KnownBytes.{Appends}
+use Rattle.front_mirror.specs.declared.panels.Panel.{Ghosts}
 use Rattle.pipe_frames.specs.Pipe.{Pipe, IsLevel}
 use Rattle.pipe_frames.specs.Frames.{Frames, frames_of}
 use Rattle.pipe_frames.specs.Whole.{WrotePart}
 use Rattle.pipe_frames.proofs.WholeLemmas.{Appends-nil}
 use Rattle.replay_script.specs.Forms as forms_of
 use Rattle.replay_script.specs.Forms.{LineForm, load, show_front, show_page, show_sheets, show_replies, show_pauses}
-use Rattle.replay_script.specs.Forms.{line_form}
+use Rattle.replay_script.specs.Forms.{show_panels, line_form}
 use Rattle.replay_script.specs.Faults.{line_fault}
 use Rattle.replay_script.specs.Lines.{lines_of}
-use Rattle.replay_script.specs.Script.{numbered_or, styles_fault, first_refused, refused_of_lines, script_refused, first_bad, good_lines}
-use Rattle.replay_script.specs.Script.{fault_of_lines, script_fault, script_forms}
+use Rattle.replay_script.specs.Script.{numbered_or, panels_after, panels_left, want_fault, first_refused, refused_of_lines}
+use Rattle.replay_script.specs.Script.{script_refused, first_bad, good_lines, fault_of_lines, script_fault, script_forms}
 use Rattle.replay_script.specs.declared.faults.LineFault.{LineFault}
 use Rattle.page_forms.specs.Pages.{LoadedPage, CanLoadPage}
 use Rattle.node_tree.specs.Nodes.{Nodes}
 use Rattle.node_tree.specs.Seen.{Seen}
 use Rattle.front_mirror.specs.declared.replies.Kept.{Kept}
-use Rattle.front_mirror.specs.Front.{first_state, seen_pause}
+use Rattle.front_mirror.specs.declared.panels.PanelKind.{PanelKind}
+use Rattle.front_mirror.specs.Front.{FrontState, first_state, seen_pause}
 use Rattle.front_mirror.specs.Outline.{outline_text, seen_line}
 use Rattle.inspect_world.specs.Stream.{awaited}
-use Rattle.inspect_world.specs.World.{World, AlreadyTold, nothing_told, Spent, raw, turned, settled}
+use Rattle.inspect_world.specs.World.{World, AlreadyTold, Audience, nothing_told, Spent, raw, turned, settled}
 use Rattle.node_tree.specs.Nodes.{alone}
 use Rattle.page_tree.specs.Pages.{PageValue}
 use Rattle.back_end.specs.declared.faults.ActFault.{ActFault}
@@ -52,7 +55,8 @@ use Rattle.inspect_world.specs.Fits.{most_bytes, HasLeft, IsPlainFrame}
 use Rattle.inspect_world.specs.FreshRuns.{front_fetcher, refreshes, fresh_line, Together}
 use Rattle.inspect_world.specs.ActTexts.{act_text}
 use Rattle.inspect_world.specs.Scripts.{page_line, after_line, line_text, rest_refused, refused_of, report_refused, closing_text, rest_text}
-use Rattle.inspect_world.specs.Scripts.{text_by_refusal, report, loaded_world}
+use Rattle.inspect_world.specs.Scripts.{text_by_refusal, report, loaded_world, panels_of}
+use Rattle.inspect_world.specs.PanelTexts.{panels_text}
 use Rattle.page_forms.specs.Texts.{PageHasTexts}
 use Rattle.inspect_world.specs.ScriptsFit.{IsLater}
 use Rattle.inspect_world.specs.Held.{Ends as HeldEnds, InWorld}
@@ -123,7 +127,8 @@ pub left-none : (n : Spent) (k : ℕ) → HasLeft n k → HasLeft n 0
 left-none n k left = left-fewer n 0 k (omega arith) left
 
 -- a call that takes the run with fetches over a line takes both runs over it
-pub plays : {T : Type 0} (result : Result T Stop) (honest honest1 : Type 0) (up down up1 down1 : Pipe) (e e1 : Ends)
+pub plays : {P : Type 0} {g : Ghosts P} {T : Type 0} (result : Result T Stop) (honest honest1 : Type 0) (up down up1 down1 : Pipe)
+    (e e1 : Ends P g)
     (f : World RunState → World RunState) (line : LineForm)
     → IsLater line → ((v : World RunState) → f v ≡ fresh_line front_fetcher line v)
     → ((v : World RunState) → (fresh_line front_fetcher line v).told ≡ v.told)
@@ -144,8 +149,9 @@ plays result honest honest1 up down up1 down1 e e1 f line later goes told told1 
     )
 
 -- a line that sends a frame or makes a step prints nothing by itself
-pub spend-carries : (result : Result (Unit {0}) Stop) (honest honest1 : Type 0) (up down up1 down1 : Pipe) (taken : Option (List ℕ))
-    (e e1 : Ends)
+pub spend-carries : {P : Type 0} {g : Ghosts P} (result : Result (Unit {0}) Stop) (honest honest1 : Type 0) (up down up1 down1 : Pipe)
+    (taken : Option (List ℕ))
+    (e e1 : Ends P g)
     (f : World RunState → World RunState) (number : ℕ) (move form : LineForm) → IsLater move
     → ((v : World RunState) → f v ≡ fresh_line front_fetcher move v)
     → ((v : World RunState) → (fresh_line front_fetcher move v).told ≡ v.told)
@@ -164,8 +170,9 @@ spend-carries result honest honest1 up down up1 down1 taken e e1 f number move f
     ))
 
 -- nor does a line that delivers bytes
-pub move-carries : (result : Result (Unit {0}) Stop) (honest honest1 : Type 0) (up down up1 down1 : Pipe) (taken : Option (List ℕ))
-    (e e1 : Ends)
+pub move-carries : {P : Type 0} {g : Ghosts P} (result : Result (Unit {0}) Stop) (honest honest1 : Type 0) (up down up1 down1 : Pipe)
+    (taken : Option (List ℕ))
+    (e e1 : Ends P g)
     (f : World RunState → World RunState) (number : ℕ) (move form : LineForm) → IsLater move
     → ((v : World RunState) → f v ≡ fresh_line front_fetcher move v)
     → ((v : World RunState) → (fresh_line front_fetcher move v).told ≡ v.told)
@@ -178,14 +185,17 @@ move-carries result honest honest1 up down up1 down1 taken e e1 f number move fo
     (λ up0 down0 w few run. steps up0 down0 w run)
 
 -- a settle with its fetches may be a line's
-pub settles-spend : {T : Type 0} (result : Result T Stop) (honest honest1 : Type 0) (up down up1 down1 : Pipe) (e e1 : Ends)
+pub settles-spend : {P : Type 0} {g : Ghosts P} {T : Type 0} (result : Result T Stop) (honest honest1 : Type 0)
+    (up down up1 down1 : Pipe) (e e1 : Ends P g)
     → Refreshes (moment honest up down e) (moment honest1 up1 down1 e1) result
     → Spends least_line (passage (moment honest up down e) (moment honest1 up1 down1 e1)) result (refreshes front_fetcher)
 settles-spend result honest honest1 up down up1 down1 e e1 settles = λ up0 down0 w few run. settles up0 down0 w
     (left-none w.spent least_line few) run
 
 -- a text that is sent is the line's
-pub raw-spends : (result : Result (Unit {0}) Stop) (honest honest1 : Type 0) (up down up1 down1 : Pipe) (e e1 : Ends) (text text1 : List ℕ)
+pub raw-spends : {P : Type 0} {g : Ghosts P} (result : Result (Unit {0}) Stop) (honest honest1 : Type 0) (up down up1 down1 : Pipe)
+    (e e1 : Ends P g)
+    (text text1 : List ℕ)
     → text1 ≡ text
     → Spends least_line (passage (moment honest up down e) (moment honest1 up1 down1 e1)) result (λ w. raw text1 w)
     → Spends least_line (passage (moment honest up down e) (moment honest1 up1 down1 e1)) result (λ w. raw text w)
@@ -193,8 +203,9 @@ raw-spends result honest honest1 up down up1 down1 e e1 text text1 is spends =
     subst (λ t. Spends least_line (passage (moment honest up down e) (moment honest1 up1 down1 e1)) result (λ w. raw t w)) is spends
 
 -- the same of equal lines
-pub same-carries : (result : Result (Unit {0}) Stop) (honest honest1 : Type 0) (up down up1 down1 : Pipe) (taken taken1 : Option (List ℕ))
-    (e e1 : Ends) (number : ℕ) (line form : LineForm)
+pub same-carries : {P : Type 0} {g : Ghosts P} (result : Result (Unit {0}) Stop) (honest honest1 : Type 0) (up down up1 down1 : Pipe)
+    (taken taken1 : Option (List ℕ))
+    (e e1 : Ends P g) (number : ℕ) (line form : LineForm)
     → form ≡ line → CarriesOut (scene (moment honest up down e) taken) (scene (moment honest1 up1 down1 e1) taken1)
     (numbered_line number line) result
     → CarriesOut (scene (moment honest up down e) taken) (scene (moment honest1 up1 down1 e1) taken1) (numbered_line number form) result
@@ -203,7 +214,8 @@ same-carries result honest honest1 up down up1 down1 taken taken1 e e1 number li
     (numbered_line number f) result) (sym is) carries
 
 -- after a settle the front end shows what the client sees of the page
-pub shown-settled : (honest1 : Type 0) (up0 down0 up1 down1 : Pipe) (lines : ℕ) (w v : World RunState) (e1 : Ends)
+pub shown-settled : {P : Type 0} {g : Ghosts P} (honest1 : Type 0) (up0 down0 up1 down1 : Pipe) (lines : ℕ) (w v : World RunState)
+    (e1 : Ends P g)
     → Together IsPlainFrame lines w v → InRun honest1 up0 down0 up1 down1 (refreshes front_fetcher v) e1 → ShownThen w e1.front.value
 shown-settled honest1 up0 down0 up1 down1 lines w v e1 both after =
     shown-then lines w v e1.front.value both (run-front honest1 up0 down0 up1 down1 (refreshes front_fetcher v) e1 after)
@@ -215,7 +227,7 @@ prints-same (Ok value) before after text text1 same ok err = subst (λ t. Append
 prints-same (Err stop) before after text text1 same ok err = subst (λ t. WrotePart before after t) same err
 
 -- what a settle that came through takes a run to
-abbrev pub SettlesTo : Type 0 → Type 0 → Pipe → Pipe → Pipe → Pipe → Ends → Ends → Type 0
+abbrev pub SettlesTo : {P : Type 0} {g : Ghosts P} → Type 0 → Type 0 → Pipe → Pipe → Pipe → Pipe → Ends P g → Ends P g → Type 0
 SettlesTo honest honest1 up down up1 down1 e e1 =
     (up0 down0 : Pipe) (w : World RunState) → HasLeft w.spent 0 → InRun honest up0 down0 up down w e
     → InRun honest1 up0 down0 up1 down1 (refreshes front_fetcher w) e1
@@ -225,18 +237,19 @@ after-ok (Ok value) p = p
 after-ok (Err stop) p = tt
 
 -- a change of the page: what the page and its sheets say is refused is what the script's own state says
-page-is : (honest : Type 0) (up0 down0 up down : Pipe) (lines : ℕ) (w : World RunState) (e : Ends)
+page-is : {P : Type 0} {g : Ghosts P} (honest : Type 0) (up0 down0 up down : Pipe) (lines : ℕ) (w : World RunState) (e : Ends P g)
     → InPlay honest up0 down0 up down lines w e → e.side.page ≡ w.state.back.side.page
 page-is honest up0 down0 up down lines w e play =
     play.in_run.so_far.in_world.stands.stands.page_is ∙ ap (λ (s : RunState). s.back.side.page) (sym play.both.runs.agrees.state)
 
-sheets-are : (honest : Type 0) (up0 down0 up down : Pipe) (lines : ℕ) (w : World RunState) (e : Ends)
+sheets-are : {P : Type 0} {g : Ghosts P} (honest : Type 0) (up0 down0 up down : Pipe) (lines : ℕ) (w : World RunState) (e : Ends P g)
     → InPlay honest up0 down0 up down lines w e → e.side.sheets.entries ≡ book_in w.state.back
 sheets-are honest up0 down0 up down lines w e play =
     play.in_run.so_far.in_world.stands.stands.sheets_are ∙ ap (λ (s : RunState). book_in s.back) (sym play.both.runs.agrees.state)
 
-pub act-carries : (result : Result (Unit {0}) Stop) (fault : Option ActFault) (honest honest1 : Type 0) (up down up1 down1 : Pipe)
-    (taken taken1 : Option (List ℕ)) (e e1 : Ends)
+pub act-carries : {P : Type 0} {g : Ghosts P} (result : Result (Unit {0}) Stop) (fault : Option ActFault) (honest honest1 : Type 0)
+    (up down up1 down1 : Pipe)
+    (taken taken1 : Option (List ℕ)) (e e1 : Ends P g)
     (number : ℕ) (a : Act)
     → Spends {T = Option ActFault} least_line (passage (moment honest up down e) (moment honest1 up1 down1 e1)) (Ok fault)
     (λ w. turned run_turn (acts a) w)
@@ -257,7 +270,8 @@ act-carries result fault honest honest1 up down up1 down1 taken taken1 e e1 numb
     )
 
 -- or it was not made
-pub act-stops : (stop : Stop) (honest honest1 : Type 0) (up down up1 down1 : Pipe) (taken : Option (List ℕ)) (e e1 : Ends)
+pub act-stops : {P : Type 0} {g : Ghosts P} (stop : Stop) (honest honest1 : Type 0) (up down up1 down1 : Pipe) (taken : Option (List ℕ))
+    (e e1 : Ends P g)
     (line : NumberedLine) (f : World RunState → World RunState)
     → Spends {T = Option ActFault} least_line (passage (moment honest up down e) (moment honest1 up1 down1 e1)) (Err stop) f
     → CarriesOut {T = Unit {0}} (scene (moment honest up down e) taken) (scene (moment honest1 up1 down1 e1) taken) line (Err stop)
@@ -276,7 +290,9 @@ act-stops stop honest honest1 up down up1 down1 taken e e1 line f spends = λ up
     )
 
 -- the page itself is printed
-pub page-carries : (result : Result (Unit {0}) Stop) (honest : Type 0) (up down : Pipe) (taken taken1 : Option (List ℕ)) (e : Ends)
+pub page-carries : {P : Type 0} {g : Ghosts P} (result : Result (Unit {0}) Stop) (honest : Type 0) (up down : Pipe)
+    (taken taken1 : Option (List ℕ))
+    (e : Ends P g)
     (number : ℕ) (page : PageValue)
     → page ≡ e.side.page → GoesWell result
     → OnOk result (Appends taken taken1 (codes "# page" ++ 10 ∷ outline_text page_line (alone page.tree)))
@@ -294,8 +310,9 @@ page-carries result honest up down taken taken1 e number page is never ok err = 
     )
 
 -- a show that was printed
-pub show-carries : (result : Result (Unit {0}) Stop) (honest honest1 : Type 0) (up down up1 down1 : Pipe) (taken taken1 : Option (List ℕ))
-    (e e1 : Ends)
+pub show-carries : {P : Type 0} {g : Ghosts P} (result : Result (Unit {0}) Stop) (honest honest1 : Type 0) (up down up1 down1 : Pipe)
+    (taken taken1 : Option (List ℕ))
+    (e e1 : Ends P g)
     (number : ℕ) (tree : Nodes Seen)
     → SettlesTo honest honest1 up down up1 down1 e e1 → tree ≡ e1.front.value.tree → GoesWell result
     → OnOk result (Appends taken taken1 (codes "# front" ++ 10 ∷ outline_text seen_line tree))
@@ -319,8 +336,8 @@ show-carries result honest honest1 up down up1 down1 taken taken1 e e1 number tr
     )
 
 -- a show of the sheets that was printed
-pub sheets-carries : (result : Result (Unit {0}) Stop) (honest honest1 : Type 0) (up down up1 down1 : Pipe)
-    (taken taken1 : Option (List ℕ)) (e e1 : Ends)
+pub sheets-carries : {P : Type 0} {g : Ghosts P} (result : Result (Unit {0}) Stop) (honest honest1 : Type 0) (up down up1 down1 : Pipe)
+    (taken taken1 : Option (List ℕ)) (e e1 : Ends P g)
     (number : ℕ) (sheets : List KnownSheet)
     → SettlesTo honest honest1 up down up1 down1 e e1 → sheets ≡ e1.front.value.sheets → GoesWell result
     → OnOk result (Appends taken taken1 (codes "# sheets" ++ 10 ∷ known_lines sheets))
@@ -345,7 +362,8 @@ sheets-carries result honest honest1 up down up1 down1 taken taken1 e e1 number 
     )
 
 -- a show that did not settle
-pub show-stops : (stop : Stop) (honest honest1 : Type 0) (up down up1 down1 : Pipe) (taken : Option (List ℕ)) (e e1 : Ends)
+pub show-stops : {P : Type 0} {g : Ghosts P} (stop : Stop) (honest honest1 : Type 0) (up down up1 down1 : Pipe) (taken : Option (List ℕ))
+    (e e1 : Ends P g)
     (line : NumberedLine)
     → ((up0 down0 : Pipe) (w : World RunState) → HasLeft w.spent 0 → InRun honest up0 down0 up down w e
     → GoesWell {T = Unit {0}} (Err stop))
@@ -387,12 +405,13 @@ untold-are f told told1 came kept all u same is =
 abbrev pub replies_text : List Kept → List ℕ
 replies_text kept = codes "# replies" ++ 10 ∷ told_lines (map reply_shown kept)
 
-replies-same : (number : ℕ) (w : World RunState) (e1 : Ends) (kept : List Kept) → ShownThen w e1.front.value → e1.told ≡ w.told.replies
+replies-same : {P : Type 0} {g : Ghosts P} (number : ℕ) (w : World RunState) (e1 : Ends P g) (kept : List Kept) → ShownThen w e1.front.value
+    → e1.told ≡ w.told.so_far.replies
     → Untold e1.told e1.front.value.replies kept
     → replies_text kept ≡ line_text number show_replies w
 replies-same number w e1 kept shown told u =
     ap (λ ts. codes "# replies" ++ 10 ∷ told_lines ts)
-    (untold-are reply_shown e1.told w.told.replies e1.front.value.replies kept
+    (untold-are reply_shown e1.told w.told.so_far.replies e1.front.value.replies kept
     (replies_in (settled run_step w).down.given) u told shown.told)
 
 abbrev pub pauses_text : List SeenPause → List ℕ
@@ -413,24 +432,28 @@ map-id : {A : Type 0} (xs : List A) → map (λ (x : A). x) xs ≡ xs
 map-id [] = refl
 map-id (x ∷ xs) = ap (λ ys. x ∷ ys) (map-id xs)
 
-pauses-same : (number : ℕ) (w : World RunState) (e1 : Ends) (kept : List SeenPause) → ShownThen w e1.front.value
-    → e1.told_pauses ≡ w.told.pauses
+pauses-same : {P : Type 0} {g : Ghosts P} (number : ℕ) (w : World RunState) (e1 : Ends P g) (kept : List SeenPause)
+    → ShownThen w e1.front.value
+    → e1.told_pauses ≡ w.told.so_far.pauses
     → Untold e1.told_pauses e1.front.value.pauses kept → pauses_text kept ≡ line_text number show_pauses w
 pauses-same number w e1 kept shown told u =
     let came = pauses_in (settled run_step w).down.given in
-    let left : kept ≡ drop w.told.pauses (map seen_pause came) =
-    sym (map-id kept) ∙ untold-are (λ (p : SeenPause). p) e1.told_pauses w.told.pauses e1.front.value.pauses kept
+    let left : kept ≡ drop w.told.so_far.pauses (map seen_pause came) =
+    sym (map-id kept) ∙ untold-are (λ (p : SeenPause). p) e1.told_pauses w.told.so_far.pauses e1.front.value.pauses kept
     (map seen_pause came) u told (map-id e1.front.value.pauses ∙ shown.pauses) in
-    ap (λ ps. codes "# pauses" ++ 10 ∷ seen_pause_lines ps) (left ∙ drop-map seen_pause w.told.pauses came)
-    ∙ ap (λ text. codes "# pauses" ++ 10 ∷ text) (same-pauses (drop w.told.pauses came))
+    ap (λ ps. codes "# pauses" ++ 10 ∷ seen_pause_lines ps) (left ∙ drop-map seen_pause w.told.so_far.pauses came)
+    ∙ ap (λ text. codes "# pauses" ++ 10 ∷ text) (same-pauses (drop w.told.so_far.pauses came))
 
 -- a settle that came through, before something is told
-record BeforeTold (honest1 : Type 0) (up0 down0 up1 down1 : Pipe) (w v : World RunState) (e1 : Ends) : Type 0 where
+record BeforeTold {P : Type 0} {g : Ghosts P} (honest1 : Type 0) (up0 down0 up1 down1 : Pipe) (w v : World RunState)
+    (e1 : Ends P g) : Type 0 where
   after : InRun honest1 up0 down0 up1 down1 (refreshes front_fetcher v) e1
   shown : ShownThen w e1.front.value
-  told : (ends_of e1).told ≡ w.told
+  told : (ends_of e1).told ≡ w.told.so_far
+  panels : (refreshes front_fetcher v).told.panels ≡ w.told.panels
 
-before-told : (honest honest1 : Type 0) (up0 down0 up down up1 down1 : Pipe) (more : ℕ) (w : World RunState) (e e1 : Ends)
+before-told : {P : Type 0} {g : Ghosts P} (honest honest1 : Type 0) (up0 down0 up down up1 down1 : Pipe) (more : ℕ) (w : World RunState)
+    (e e1 : Ends P g)
     → SettlesTo honest honest1 up down up1 down1 e e1 → (play : InPlay honest up0 down0 up down (more + least_line) w e)
     → BeforeTold honest1 up0 down0 up1 down1 w play.fresh e1
 before-told honest honest1 up0 down0 up down up1 down1 more w e e1 settles play =
@@ -440,28 +463,32 @@ before-told honest honest1 up0 down0 up down up1 down1 more w e e1 settles play 
     record {
       after = after;
       shown = shown-settled honest1 up0 down0 up1 down1 (more + least_line) w v e1 play.both after;
-      told = after.so_far.in_world.told_is ∙ refreshed-told v ∙ play.told_is;
+      told = after.so_far.in_world.told_is ∙ ap (λ (n : Audience). n.so_far) (refreshed-told v ∙ play.told_is);
+      panels = ap (λ (n : Audience). n.panels) (refreshed-told v ∙ play.told_is);
     }
 
 -- the same world, with something told
 abbrev told_to : AlreadyTold → World RunState → World RunState
-told_to n v = record v { told = n }
+told_to n v = record v { told = record v.told { so_far = n } }
 
 -- what was printed counts as told, in both runs alike
-told-play : (line : LineForm) (honest1 : Type 0) (up0 down0 up1 down1 : Pipe) (more : ℕ) (w v : World RunState) (e1 e2 : Ends)
+told-play : {P : Type 0} {g : Ghosts P} (line : LineForm) (honest1 : Type 0) (up0 down0 up1 down1 : Pipe) (more : ℕ) (w v : World RunState)
+    (e1 e2 : Ends P g)
     (n : AlreadyTold)
-    → IsLater line → fresh_line front_fetcher line v ≡ told_to (fresh_line front_fetcher line v).told (refreshes front_fetcher v)
+    → IsLater line → fresh_line front_fetcher line v ≡ told_to (fresh_line front_fetcher line v).told.so_far (refreshes front_fetcher v)
     → Together IsPlainFrame (more + line_cost line) w v → InRun honest1 up0 down0 up1 down1 (refreshes front_fetcher v) e1
-    → ends_of e2 ≡ record (ends_of e1) { told = n } → e2.splitter ≡ e1.splitter → n ≡ (after_line line w).told
+    → ends_of e2 ≡ record (ends_of e1) { told = n } → e2.splitter ≡ e1.splitter
+    → record (refreshes front_fetcher v).told { so_far = n } ≡ (after_line line w).told
     → InPlay honest1 up0 down0 up1 down1 more (after_line line w) e2
 told-play line honest1 up0 down0 up1 down1 more w v e1 e2 n later is both after told same counts =
     let v1 = refreshes front_fetcher v in
-    let together : Together IsPlainFrame more (after_line line w) (told_to (fresh_line front_fetcher line v).told v1) =
+    let together : Together IsPlainFrame more (after_line line w) (told_to (fresh_line front_fetcher line v).told.so_far v1) =
     subst (Together IsPlainFrame more (after_line line w)) is (play-line line more w v later both) in
     let whole : e1.splitter.whole ≡ e2.splitter.whole = ap (λ (f : Frames). f.whole) (sym same) in
     record {
       fresh = told_to n v1;
-      both = play-told more (after_line line w) (told_to (fresh_line front_fetcher line v).told v1) n together;
+      both = play-told more (after_line line w) (told_to (fresh_line front_fetcher line v).told.so_far v1)
+          (record v1.told { so_far = n }) together;
       in_run = record {
         so_far = record {
           is_honest = after.so_far.is_honest;
@@ -475,7 +502,9 @@ told-play line honest1 up0 down0 up1 down1 more w v e1 e2 n later is both after 
     }
 
 -- the replies were printed, and count as told
-pub replies-carried : (number : ℕ) (honest honest1 : Type 0) (up down up1 down1 : Pipe) (taken taken1 : Option (List ℕ)) (e e1 e2 : Ends)
+pub replies-carried : {P : Type 0} {g : Ghosts P} (number : ℕ) (honest honest1 : Type 0) (up down up1 down1 : Pipe)
+    (taken taken1 : Option (List ℕ))
+    (e e1 e2 : Ends P g)
     (kept : List Kept)
     → SettlesTo honest honest1 up down up1 down1 e e1 → Untold e1.told e1.front.value.replies kept
     → Appends taken taken1 (replies_text kept) → e2 ≡ record e1 { told = length e1.front.value.replies }
@@ -491,15 +520,16 @@ replies-carried number honest honest1 up down up1 down1 taken taken1 e e1 e2 kep
       tt,
       told-play show_replies honest1 up0 down0 up1 down1 more w v e1 e2
           (record { replies = count; pauses = e1.told_pauses }) tt refl play.both before.after
-          (ap ends_of told) (ap (λ (x : Ends). x.splitter) told)
-          (λ i. record { replies = all i; pauses = (before.told i).pauses }),
+          (ap ends_of told) (λ i. (told i).splitter)
+          (λ i. record { so_far = record { replies = all i; pauses = (before.told i).pauses }; panels = before.panels i }),
       subst (λ t. Appends taken taken1 t)
           (replies-same number w e1 kept before.shown (ap (λ (n : AlreadyTold). n.replies) before.told) u) printed,
     )
 
 -- or they were not
-pub replies-stop : (number : ℕ) (stop : Stop) (honest honest1 : Type 0) (up down up1 down1 : Pipe) (taken taken1 : Option (List ℕ))
-    (e e1 e2 : Ends) (kept : List Kept)
+pub replies-stop : {P : Type 0} {g : Ghosts P} (number : ℕ) (stop : Stop) (honest honest1 : Type 0) (up down up1 down1 : Pipe)
+    (taken taken1 : Option (List ℕ))
+    (e e1 e2 : Ends P g) (kept : List Kept)
     → SettlesTo honest honest1 up down up1 down1 e e1 → Untold e1.told e1.front.value.replies kept
     → GoesWell {T = Unit {0}} (Err stop) → WrotePart taken taken1 (replies_text kept)
     → CarriesOut {T = Unit {0}} (scene (moment honest up down e) taken) (scene (moment honest1 up1 down1 e2) taken1)
@@ -514,7 +544,9 @@ replies-stop number stop honest honest1 up down up1 down1 taken taken1 e e1 e2 k
     )
 
 -- the pauses were printed, and count as told
-pub pauses-carried : (number : ℕ) (honest honest1 : Type 0) (up down up1 down1 : Pipe) (taken taken1 : Option (List ℕ)) (e e1 e2 : Ends)
+pub pauses-carried : {P : Type 0} {g : Ghosts P} (number : ℕ) (honest honest1 : Type 0) (up down up1 down1 : Pipe)
+    (taken taken1 : Option (List ℕ))
+    (e e1 e2 : Ends P g)
     (kept : List SeenPause)
     → SettlesTo honest honest1 up down up1 down1 e e1 → Untold e1.told_pauses e1.front.value.pauses kept
     → Appends taken taken1 (pauses_text kept) → e2 ≡ record e1 { told_pauses = length e1.front.value.pauses }
@@ -530,15 +562,16 @@ pauses-carried number honest honest1 up down up1 down1 taken taken1 e e1 e2 kept
       tt,
       told-play show_pauses honest1 up0 down0 up1 down1 more w v e1 e2
           (record { replies = e1.told; pauses = count }) tt refl play.both before.after
-          (ap ends_of told) (ap (λ (x : Ends). x.splitter) told)
-          (λ i. record { replies = (before.told i).replies; pauses = all i }),
+          (ap ends_of told) (λ i. (told i).splitter)
+          (λ i. record { so_far = record { replies = (before.told i).replies; pauses = all i }; panels = before.panels i }),
       subst (λ t. Appends taken taken1 t)
           (pauses-same number w e1 kept before.shown (ap (λ (n : AlreadyTold). n.pauses) before.told) u) printed,
     )
 
 -- or they were not
-pub pauses-stop : (number : ℕ) (stop : Stop) (honest honest1 : Type 0) (up down up1 down1 : Pipe) (taken taken1 : Option (List ℕ))
-    (e e1 e2 : Ends) (kept : List SeenPause)
+pub pauses-stop : {P : Type 0} {g : Ghosts P} (number : ℕ) (stop : Stop) (honest honest1 : Type 0) (up down up1 down1 : Pipe)
+    (taken taken1 : Option (List ℕ))
+    (e e1 e2 : Ends P g) (kept : List SeenPause)
     → SettlesTo honest honest1 up down up1 down1 e e1 → Untold e1.told_pauses e1.front.value.pauses kept
     → GoesWell {T = Unit {0}} (Err stop) → WrotePart taken taken1 (pauses_text kept)
     → CarriesOut {T = Unit {0}} (scene (moment honest up down e) taken) (scene (moment honest1 up1 down1 e2) taken1)
@@ -552,9 +585,45 @@ pauses-stop number stop honest honest1 up down up1 down1 taken taken1 e e1 e2 ke
           (pauses-same number w e1 kept before.shown (ap (λ (n : AlreadyTold). n.pauses) before.told) u) wrote,
     )
 
+-- ---- the panels
+
+-- what a show of the panels prints, by the front end
+abbrev pub panels_shown : FrontState → List ℕ
+panels_shown front = codes "# panels" ++ 10 ∷ panels_text front.panels front.value.tree
+
+-- a show of the panels that was printed
+pub panels-carries : {P : Type 0} {g : Ghosts P} (result : Result (Unit {0}) Stop) (honest honest1 : Type 0) (up down up1 down1 : Pipe)
+    (taken taken1 : Option (List ℕ)) (e e1 : Ends P g) (number : ℕ) (front : FrontState)
+    → SettlesTo honest honest1 up down up1 down1 e e1 → front ≡ e1.front → GoesWell result
+    → (front.dead ≡ false → OnOk result (Appends taken taken1 (panels_shown front)))
+    → (front.dead ≡ false → OnErr result (WrotePart taken taken1 (panels_shown front)))
+    → CarriesOut (scene (moment honest up down e) taken) (scene (moment honest1 up1 down1 e1) taken1)
+    (numbered_line number show_panels) result
+panels-carries result honest honest1 up down up1 down1 taken taken1 e e1 number front settles same never ok err = λ up0 down0 more w play.
+    let v : World RunState = play.fresh in
+    let after : InRun honest1 up0 down0 up1 down1 (refreshes front_fetcher v) e1 = settles up0 down0 v
+    (left-none v.spent (more + least_line) play.both.left) play.in_run in
+    let shown : ShownThen w e1.front.value = shown-settled honest1 up0 down0 up1 down1 (more + least_line) w v e1 play.both after in
+    let front_is = same ∙ after.so_far.in_world.front_is in
+    let alive : front.dead ≡ false = ap (λ (s : FrontState). s.dead) front_is in
+    let panels : front.panels ≡ w.told.panels =
+    ap (λ (s : FrontState). s.panels) front_is ∙ ap (λ (n : Audience). n.panels) (refreshed-told v ∙ play.told_is) in
+    let tree : front.value.tree ≡ (view_of (settled run_step w).state.back).tree =
+    ap (λ (s : FrontState). s.value.tree) same ∙ shown.has.tree in
+    let both = plays {T = Unit {0}} (Ok tt) honest honest1 up down up1 down1 e e1 (refreshes front_fetcher) show_panels tt
+    (λ v. refl) refreshed-told (λ v. refl)
+    (λ up0 down0 v few run. (tt, settles up0 down0 v (left-none v.spent least_line few) run)) up0 down0 more w play in (
+      never,
+      after-ok result both.1,
+      prints-same result taken taken1 (panels_shown front) (codes "# panels" ++ 10 ∷ panels_of (settled run_step w))
+          (ap (λ ps. codes "# panels" ++ 10 ∷ panels_text ps front.value.tree) panels
+          ∙ ap (λ t. codes "# panels" ++ 10 ∷ panels_text w.told.panels t) tree) (ok alive) (err alive),
+    )
+
 -- the closing part that was printed
-pub closes-well : (result : Result (Unit {0}) Stop) (honest honest1 : Type 0) (up down up1 down1 : Pipe) (taken taken1 : Option (List ℕ))
-    (e e1 : Ends)
+pub closes-well : {P : Type 0} {g : Ghosts P} (result : Result (Unit {0}) Stop) (honest honest1 : Type 0) (up down up1 down1 : Pipe)
+    (taken taken1 : Option (List ℕ))
+    (e e1 : Ends P g)
     (tree : Nodes Seen)
     → SettlesTo honest honest1 up down up1 down1 e e1 → tree ≡ e1.front.value.tree → GoesWell result
     → OnOk result (Appends taken taken1 (codes "# end" ++ 10 ∷ outline_text seen_line tree))
@@ -571,7 +640,7 @@ closes-well result honest honest1 up down up1 down1 taken taken1 e e1 tree settl
           (ap (λ t. codes "# end" ++ 10 ∷ outline_text seen_line t) shows) ok err,
     )
 
-pub closes-not : (stop : Stop) (honest : Type 0) (up down : Pipe) (taken : Option (List ℕ)) (e : Ends)
+pub closes-not : {P : Type 0} {g : Ghosts P} (stop : Stop) (honest : Type 0) (up down : Pipe) (taken : Option (List ℕ)) (e : Ends P g)
     → ((up0 down0 : Pipe) (w : World RunState) → HasLeft w.spent 0 → InRun honest up0 down0 up down w e
     → GoesWell {T = Unit {0}} (Err stop))
     → Closes {T = Unit {0}} (scene (moment honest up down e) taken) taken (Err stop)
@@ -603,28 +672,30 @@ pub script-loads : (input first : List ℕ) (more : List (List ℕ)) (page : Loa
 script-loads input first more page lines good is = input-script input page (good_lines 2 more)
     (forms-first input first more (load page) lines good is)
 
-pub report-loads : (input first : List ℕ) (more : List (List ℕ)) (page : LoadedPage)
+pub report-loads : (kinds : List PanelKind) (input first : List ℕ) (more : List (List ℕ)) (page : LoadedPage)
     → lines_of input ≡ first ∷ more → line_fault 1 first ≡ None → line_form first ≡ Some (load page)
-    → report input ≡ rest_text (first_bad 2 more) (good_lines 2 more) (loaded_world page)
-report-loads input first more page lines good is =
-    ap (λ bad. text_by_refusal bad (script_forms input)) (bad-first input first more lines good)
-    ∙ ap (text_by_refusal (first_bad 2 more)) (forms-first input first more (load page) lines good is)
+    → report kinds input ≡ rest_text (first_bad 2 more) (good_lines 2 more) (loaded_world kinds page)
+report-loads kinds input first more page lines good is =
+    ap (λ bad. text_by_refusal kinds bad (script_forms input)) (bad-first input first more lines good)
+    ∙ ap (text_by_refusal kinds (first_bad 2 more)) (forms-first input first more (load page) lines good is)
 
-pub refused-loads : (input first : List ℕ) (more : List (List ℕ)) (page : LoadedPage)
+pub refused-loads : (kinds : List PanelKind) (input first : List ℕ) (more : List (List ℕ)) (page : LoadedPage)
     → lines_of input ≡ first ∷ more → line_fault 1 first ≡ None → line_form first ≡ Some (load page)
-    → report_refused input ≡ rest_refused (first_bad 2 more) (good_lines 2 more) (loaded_world page)
-refused-loads input first more page lines good is =
-    ap (λ bad. refused_of bad (script_forms input)) (bad-first input first more lines good)
-    ∙ ap (refused_of (first_bad 2 more)) (forms-first input first more (load page) lines good is)
+    → report_refused kinds input ≡ rest_refused (first_bad 2 more) (good_lines 2 more) (loaded_world kinds page)
+refused-loads kinds input first more page lines good is =
+    ap (λ bad. refused_of kinds bad (script_forms input)) (bad-first input first more lines good)
+    ∙ ap (refused_of kinds (first_bad 2 more)) (forms-first input first more (load page) lines good is)
 
 -- the first line that is refused, where the first line of all is good
-pub script-refused : (there : ℕ → Bool) (input first : List ℕ) (more : List (List ℕ)) (page : LoadedPage)
+pub script-refused : (there : ℕ → Bool) (kinds : List PanelKind) (input first : List ℕ) (more : List (List ℕ)) (page : LoadedPage)
     → lines_of input ≡ first ∷ more → line_fault 1 first ≡ None → line_form first ≡ Some (load page)
-    → script_refused there input ≡ first_refused there 2 more
-script-refused there input first more page lines good is =
-    ap (refused_of_lines there) lines
-    ∙ ap (λ o. numbered_or 1 (first_of o (option_and_then (styles_fault there) (line_form first))) (first_refused there 2 more)) good
-    ∙ ap (λ o. numbered_or 1 (option_and_then (styles_fault there) o) (first_refused there 2 more)) is
+    → script_refused there kinds input ≡ first_refused there (map Some kinds) 2 more
+script-refused there kinds input first more page lines good is =
+    ap (refused_of_lines there (map Some kinds)) lines
+    ∙ ap (λ o. numbered_or 1 (first_of o (option_and_then (want_fault there (map Some kinds)) (line_form first)))
+    (first_refused there (panels_left first (map Some kinds)) 2 more)) good
+    ∙ ap (λ o. numbered_or 1 (option_and_then (want_fault there (map Some kinds)) o)
+    (first_refused there (option_map_or (λ form. panels_after form (map Some kinds)) o (map Some kinds)) 2 more)) is
 
 pub few-lines : (input first : List ℕ) (more : List (List ℕ)) (limit : ℕ) → lines_of input ≡ first ∷ more → length input ≤ limit
     → length more ≤ limit
@@ -644,19 +715,20 @@ few-bytes input first more limit lines few =
 -- ---- the start
 
 -- the ends of a page that was just loaded
-abbrev pub first_ends : Seat → PageSide → HeldEnds
-first_ends seat side = record {
+abbrev pub first_ends : List PanelKind → Seat → PageSide → HeldEnds
+first_ends kinds seat side = record {
   seat = seat;
   side = side;
   back_rest = [];
-  front = first_state;
+  front = first_state kinds;
   up_there = 0;
   down_there = 0;
   told = nothing_told;
 }
 
-pub ends-first : (e : Ends) (page : LoadedPage) → IsNew e page → ends_of e ≡ first_ends e.seat e.side
-ends-first e page new = λ i. record {
+pub ends-first : {P : Type 0} {g : Ghosts P} (e : Ends P g) (kinds : List PanelKind) (page : LoadedPage) → IsNew e kinds page
+    → ends_of e ≡ first_ends kinds e.seat e.side
+ends-first e kinds page new = λ i. record {
   seat = e.seat;
   side = e.side;
   back_rest = (new.splitter i).rest;
@@ -693,30 +765,36 @@ pub seated-first : (page : LoadedPage) (seat : Seat) (side : PageSide) → CanLo
     → IsSeated seat side
 seated-first page seat side can texts new = λ alive. ∣ (loaded_state page, stands-first page seat side can texts new) ∣₁
 
-nothing-awaited : (page : LoadedPage) → awaited (loaded_world page).up ≡ []
+nothing-awaited : (kinds : List PanelKind) (page : LoadedPage) → awaited (loaded_world kinds page).up ≡ []
 unfolding frames_of
-nothing-awaited page = refl
+nothing-awaited kinds page = refl
 
-pub begins : (honest : Type 0) (up down : Pipe) (page : LoadedPage) (e : Ends) → honest → CanLoadPage page → PageHasTexts page → IsLevel up
-    → IsLevel down → IsNew e page → InRun honest up down up down (loaded_world page) e
-begins honest up down page e is_honest can texts up_level down_level new =
-    let same : first_ends e.seat e.side ≡ ends_of e = sym (ends-first e page new) in
+pub begins : {P : Type 0} {g : Ghosts P} (honest : Type 0) (up down : Pipe) (kinds : List PanelKind) (page : LoadedPage) (e : Ends P g)
+    → honest
+    → CanLoadPage page → PageHasTexts page → IsLevel up → IsLevel down → IsNew e kinds page
+    → InRun honest up down up down (loaded_world kinds page) e
+begins honest up down kinds page e is_honest can texts up_level down_level new =
+    let same : first_ends kinds e.seat e.side ≡ ends_of e = sym (ends-first e kinds page new) in
     let none : e.splitter.whole ≡ [] = ap (λ (f : Frames). f.whole) new.splitter in
-    let frames : [] ≡ e.splitter.whole ++ awaited (loaded_world page).up =
-    sym (ap (λ whole. whole ++ awaited (loaded_world page).up) none ∙ nothing-awaited page) in
+    let frames : [] ≡ e.splitter.whole ++ awaited (loaded_world kinds page).up =
+    sym (ap (λ whole. whole ++ awaited (loaded_world kinds page).up) none ∙ nothing-awaited kinds page) in
     record {
       so_far = record {
         is_honest = is_honest;
-        in_world = subst (λ h. InWorld up down up down (loaded_world page) (e.splitter.whole ++ awaited (loaded_world page).up) h) same
-            (subst (λ fs. InWorld up down up down (loaded_world page) fs (first_ends e.seat e.side)) frames
-            (world-first up down page e.seat e.side can texts up_level down_level (stands-first page e.seat e.side can texts new.side)));
+        in_world = subst
+            (λ h. InWorld up down up down (loaded_world kinds page) (e.splitter.whole ++ awaited (loaded_world kinds page).up) h) same
+            (subst (λ fs. InWorld up down up down (loaded_world kinds page) fs (first_ends kinds e.seat e.side)) frames
+            (world-first up down kinds page e.seat e.side can texts up_level down_level
+            (stands-first page e.seat e.side can texts new.side)));
       };
       none_whole = none;
     }
 
 -- so both runs begin, with room for lines of so many bytes
-pub play-begins : (honest : Type 0) (up down : Pipe) (page : LoadedPage) (lines : ℕ) (e : Ends) → CanLoadPage page → PageHasTexts page
+pub play-begins : {P : Type 0} {g : Ghosts P} (honest : Type 0) (up down : Pipe) (kinds : List PanelKind) (page : LoadedPage) (lines : ℕ)
+    (e : Ends P g)
+    → CanLoadPage page → PageHasTexts page
     → lines ≤ most_bytes
-    → InRun honest up down up down (loaded_world page) e → InPlay honest up down up down lines (loaded_world page) e
-play-begins honest up down page lines e can texts few run =
-    record { fresh = loaded_world page; both = play-loaded page lines can texts few; in_run = run; told_is = refl }
+    → InRun honest up down up down (loaded_world kinds page) e → InPlay honest up down up down lines (loaded_world kinds page) e
+play-begins honest up down kinds page lines e can texts few run =
+    record { fresh = loaded_world kinds page; both = play-loaded kinds page lines can texts few; in_run = run; told_is = refl }

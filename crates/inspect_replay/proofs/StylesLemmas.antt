@@ -1,6 +1,7 @@
 -- The lines of matched styles, and a line that shows them.
 use Rattle.std.proofs.Common.{◌≡◌, ℕ, zero, suc, ◌+◌, ◌≤◌, min, length, drop, List, [], ◌∷◌, ◌++◌, map, Bool, cond, ◌==◌, is_some, Option}
 use Rattle.std.proofs.Common.{Some, None, refl, sym, ◌∙◌, ap, subst, arith, Result, Ok}
+use Rattle.front_mirror.specs.declared.panels.Panel.{Ghosts}
 use Rattle.pipe_frames.specs.Pipe.{Pipe}
 use Rattle.css_objects.specs.declared.rules.Matched.{Matched}
 use Rattle.css_objects.specs.declared.rules.RuleMatch.{RuleMatch}
@@ -9,7 +10,7 @@ use Rattle.inspect_world.specs.StylesTexts.{ShownBlock, rule_block, competing, p
 use Rattle.front_mirror.specs.declared.replies.MatchedReply.{MatchedReply}
 use Rattle.front_mirror.specs.Front.{matched_in}
 use Rattle.replay_script.specs.Forms.{show_styles}
-use Rattle.replay_script.specs.Script.{numbered_or, styles_missing, styles_fault}
+use Rattle.replay_script.specs.Script.{numbered_or, styles_missing, want_fault}
 use Rattle.inspect_world.specs.World.{World, settled}
 use Rattle.inspect_world.specs.RunStates.{RunState, styles_under, run_step}
 use Rattle.inspect_world.specs.Costs.{least_line}
@@ -65,13 +66,14 @@ under-kept : (ask : ℕ) (rs : List MatchedReply) → styles_under ask (map kept
 under-kept ask [] = refl
 under-kept ask (r ∷ rs) = ap (λ o. cond (r.ask == ask) (Some r.matched) o) (under-kept ask rs)
 
-shown-styles : (w : World RunState) (e1 : Ends) (ask : ℕ) → ShownThen w e1.front.value
+shown-styles : {P : Type 0} {g : Ghosts P} (w : World RunState) (e1 : Ends P g) (ask : ℕ) → ShownThen w e1.front.value
     → matched_in ask e1.front.value.matched ≡ styles_at ask (settled run_step w)
 shown-styles w e1 ask shown = sym (under-kept ask e1.front.value.matched) ∙ ap (styles_under ask) shown.styles
 
 -- a show of matched styles: they were printed, or the line is refused
-pub styles-carry : (result : Result (Unit {0}) Stop) (number ask : ℕ) (found : Option Matched) (honest honest1 : Type 0)
-    (up down up1 down1 : Pipe) (taken taken1 : Option (List ℕ)) (e e1 : Ends)
+pub styles-carry : {P : Type 0} {g : Ghosts P} (result : Result (Unit {0}) Stop) (number ask : ℕ) (found : Option Matched)
+    (honest honest1 : Type 0)
+    (up down up1 down1 : Pipe) (taken taken1 : Option (List ℕ)) (e e1 : Ends P g)
     → SettlesTo honest honest1 up down up1 down1 e e1 → found ≡ matched_in ask e1.front.value.matched
     → RunTook result taken taken1 (styles_shown ask found) → RunTells result (numbered_or number (styles_missing (is_some found)) None)
     → CarriesLine (scene (moment honest up down e) taken) (scene (moment honest1 up1 down1 e1) taken1)
@@ -91,11 +93,13 @@ styles-carry result number ask found honest honest1 up down up1 down1 taken take
     )
 
 -- over every link they are those that the front end has kept
-pub styles-tell : (result : Result (Unit {0}) Stop) (number ask : ℕ) (found : Option Matched) (state0 : Started) (up0 down0 up down : Pipe)
-    (e : Ends)
+pub styles-tell : {P : Type 0} {g : Ghosts P} (result : Result (Unit {0}) Stop) (number ask : ℕ) (found : Option Matched) (state0 : Started)
+    (up0 down0 up down : Pipe)
+    (e : Ends P g)
     → FollowsRun state0 up0 down0 up down e → found ≡ matched_in ask e.front.value.matched
     → RunTells result (numbered_or number (styles_missing (is_some found)) None)
-    → RunTells result (numbered_or number (styles_fault (came_styles (fold_since up0 down0 up down).fold) (show_styles ask)) None)
+    → RunTells result
+    (numbered_or number (want_fault (came_styles (fold_since up0 down0 up down).fold) state0.panels (show_styles ask)) None)
     × AtEnd (says_of result).phase (AllCame (fold_since up0 down0 up down) state0.shown)
 styles-tell result number ask found state0 up0 down0 up down e run is tells = (
   subst (λ b. RunTells result (numbered_or number (styles_missing b) None))

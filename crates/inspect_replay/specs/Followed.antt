@@ -3,14 +3,17 @@ use Rattle.std.specs.Prelude.{◌≡◌, ◌≤◌, ◌^◌, ℕ, List, [], ◌�
 use Rattle.std.specs.Prelude.{Err, IsOk, OnOk, ⊤}
 use Rattle.std.specs.Io.KnownBytes.{Appends}
 use Rattle.node_tree.specs.Numbers.{sent_when_full}
+use Rattle.front_mirror.specs.declared.panels.Panel.{Ghosts}
 use Rattle.pipe_frames.specs.Pipe.{Pipe, sent_since, given_since}
 use Rattle.pipe_frames.specs.Frames.{frames_of}
 use Rattle.front_mirror.specs.declared.faults.FrontFault.{FrontFault}
+use Rattle.front_mirror.specs.declared.panels.PanelKind.{PanelKind}
 use Rattle.front_mirror.specs.Front.{FrontValue}
 use Rattle.front_mirror.specs.Outline.{outline_text, seen_line}
 use Rattle.back_end.specs.States.{State}
-use Rattle.replay_script.specs.Script.{numbered_or, styles_fault, first_refused}
-use Rattle.inspect_world.specs.Links.{Started, run_started, one_line_more, came_styles, Follows, fold_of}
+use Rattle.replay_script.specs.Forms.{LineForm}
+use Rattle.replay_script.specs.Script.{numbered_or, panels_after, want_fault, first_refused}
+use Rattle.inspect_world.specs.Links.{Begun, Started, run_started, one_line_more, came_styles, Follows, fold_of}
 use Rattle.inspect_world.specs.ShownReplies.{ShownReply, replies_in, reply_id}
 use Rattle.inspect_replay.specs.declared.ends.Ends.{Ends}
 use Rattle.inspect_replay.specs.declared.status.Status.{Status}
@@ -97,65 +100,81 @@ abbrev pub IsWell : Passed → Type 0
 IsWell passed = IsOk passed.fold × GivesNoMore passed
 
 -- the ends follow the link; the splitter may hold whole frames that are not yet answered
-abbrev pub FollowsWith : Started → (up0 down0 up down : Pipe) → Ends → Type 0
+abbrev pub FollowsWith : {P : Type 0} {g : Ghosts P} → Started → (up0 down0 up down : Pipe) → Ends P g → Type 0
 FollowsWith state0 up0 down0 up down e = Follows state0 up0 down0 up down e.splitter.whole (ends_of e)
 
 -- the ends follow the link, and every whole frame is answered
-pub record FollowsRun (state0 : Started) (up0 down0 up down : Pipe) (e : Ends) : Type 0 where
+pub record FollowsRun {P : Type 0} {g : Ghosts P} (state0 : Started) (up0 down0 up down : Pipe) (e : Ends P g) : Type 0 where
   pub so_far : FollowsWith state0 up0 down0 up down e
   pub none_whole : e.splitter.whole ≡ []
 
 -- a call goes on following, or stops as the fold says
-abbrev pub KeepsFollowing : {T : Type 0} → Moment → Moment → Result T Stop → Type 0
+abbrev pub KeepsFollowing : {P : Type 0} {g : Ghosts P} {T : Type 0} → Moment P g → Moment P g → Result T Stop → Type 0
 KeepsFollowing old new result =
     (state0 : Started) (up0 down0 : Pipe) → FollowsRun state0 up0 down0 old.up old.down old.ends
     → OnOk result (FollowsRun state0 up0 down0 new.up new.down new.ends) × StopFolds result (fold_since up0 down0 new.up new.down)
 
 -- a call that carries out a line, and may make a step of the script, goes on following or stops as the fold says
-abbrev pub LineFollows : {T : Type 0} → Moment → Moment → Result T Stop → Type 0
+abbrev pub LineFollows : {P : Type 0} {g : Ghosts P} {T : Type 0} → Moment P g → Moment P g → Result T Stop → Type 0
 LineFollows old new result =
     (state0 : Started) (up0 down0 : Pipe) → FollowsRun (one_line_more state0) up0 down0 old.up old.down old.ends
     → OnOk result (FollowsRun state0 up0 down0 new.up new.down new.ends) × StopFolds result (fold_since up0 down0 new.up new.down)
+
+-- a run after a line, which may have dropped a panel
+abbrev pub passing : LineForm → Started → Started
+passing form start = run_started start.state start.lines start.shown (panels_after form start.panels)
+
+-- a call that carries out any line goes on following or stops as the fold says
+abbrev pub LinePasses : {P : Type 0} {g : Ghosts P} {T : Type 0} → Moment P g → Moment P g → LineForm → Result T Stop → Type 0
+LinePasses old new form result =
+    (state0 : Started) (up0 down0 : Pipe) → FollowsRun (one_line_more state0) up0 down0 old.up old.down old.ends
+    → OnOk result (FollowsRun (passing form state0) up0 down0 new.up new.down new.ends)
+    × StopFolds result (fold_since up0 down0 new.up new.down)
 
 -- these asks are among those whose matched styles came
 abbrev pub AllCame : Passed → List ℕ → Type 0
 AllCame passed asks = All (λ ask. came_styles passed.fold ask ≡ true) asks
 
--- A line shows matched styles exactly where they came; what was shown before is there still.
-abbrev pub LineTells : {T : Type 0} → Moment → Moment → NumberedLine → Result T Stop → Type 0
+-- A line is refused exactly where it drops a panel that does not stand open, or shows matched styles that did not come; what was shown
+-- before is there still.
+abbrev pub LineTells : {P : Type 0} {g : Ghosts P} {T : Type 0} → Moment P g → Moment P g → NumberedLine → Result T Stop → Type 0
 LineTells old new line result =
     (state0 : Started) (up0 down0 : Pipe) → FollowsRun (one_line_more state0) up0 down0 old.up old.down old.ends
-    → RunTells result (numbered_or line.number (styles_fault (came_styles (fold_since up0 down0 new.up new.down).fold) line.form) None)
+    → RunTells result (numbered_or line.number
+    (want_fault (came_styles (fold_since up0 down0 new.up new.down).fold) state0.panels line.form) None)
     × AtEnd (says_of result).phase (AllCame (fold_since up0 down0 new.up new.down) state0.shown)
 
 -- The lines were carried out: while the matched styles of the asks that they show are there, none of them is refused.
-pub record LinesCarried (state0 : State) (up0 down0 : Pipe) (new : Moment) (lines : List (List ℕ)) : Type 0 where
+pub record LinesCarried {P : Type 0} {g : Ghosts P} (begun : Begun) (up0 down0 : Pipe) (new : Moment P g)
+    (lines : List (List ℕ)) : Type 0 where
   pub shown : List ℕ
-  pub run : FollowsRun (run_started state0 0 shown) up0 down0 new.up new.down new.ends
-  pub none : (there : ℕ → Bool) → All (λ ask. there ask ≡ true) shown → first_refused there 2 lines ≡ None
+  pub panels : List (Option PanelKind)
+  pub run : FollowsRun (run_started begun.state 0 shown panels) up0 down0 new.up new.down new.ends
+  pub none : (there : ℕ → Bool) → All (λ ask. there ask ≡ true) shown → first_refused there begun.panels 2 lines ≡ None
 
 -- a call that carries out these lines, the first of which has the number 2, goes on following or stops as the fold says
-abbrev pub LinesFollow : {T : Type 0} → Moment → Moment → List (List ℕ) → Result T Stop → Type 0
+abbrev pub LinesFollow : {P : Type 0} {g : Ghosts P} {T : Type 0} → Moment P g → Moment P g → List (List ℕ) → Result T Stop → Type 0
 LinesFollow old new lines result =
-    (state0 : State) (up0 down0 : Pipe) → FollowsRun (run_started state0 (length lines) []) up0 down0 old.up old.down old.ends
-    → OnOk result (LinesCarried state0 up0 down0 new lines)
+    (begun : Begun) (up0 down0 : Pipe)
+    → FollowsRun (run_started begun.state (length lines) [] begun.panels) up0 down0 old.up old.down old.ends
+    → OnOk result (LinesCarried begun up0 down0 new lines)
     × StopFolds result (fold_since up0 down0 new.up new.down)
-    × RunTells result (first_refused (came_styles (fold_since up0 down0 new.up new.down).fold) 2 lines)
+    × RunTells result (first_refused (came_styles (fold_since up0 down0 new.up new.down).fold) begun.panels 2 lines)
 
 -- a call that leaves whole frames in the splitter goes on following or stops as the fold says
-abbrev pub KeepsFollowingWith : {T : Type 0} → Moment → Moment → Result T Stop → Type 0
+abbrev pub KeepsFollowingWith : {P : Type 0} {g : Ghosts P} {T : Type 0} → Moment P g → Moment P g → Result T Stop → Type 0
 KeepsFollowingWith old new result =
     (state0 : Started) (up0 down0 : Pipe) → FollowsRun state0 up0 down0 old.up old.down old.ends
     → OnOk result (FollowsWith state0 up0 down0 new.up new.down new.ends) × StopFolds result (fold_since up0 down0 new.up new.down)
 
 -- a call that answers all whole frames goes on following or stops as the fold says
-abbrev pub FollowsAnswers : {T : Type 0} → Moment → Moment → Result T Stop → Type 0
+abbrev pub FollowsAnswers : {P : Type 0} {g : Ghosts P} {T : Type 0} → Moment P g → Moment P g → Result T Stop → Type 0
 FollowsAnswers old new result =
     (state0 : Started) (up0 down0 : Pipe) → FollowsWith state0 up0 down0 old.up old.down old.ends
     → OnOk result (FollowsRun state0 up0 down0 new.up new.down new.ends) × StopFolds result (fold_since up0 down0 new.up new.down)
 
 -- a call that answers this frame, before those that the splitter holds, goes on following or stops as the fold says
-abbrev pub FollowsAnswer : {T : Type 0} → Moment → Moment → List ℕ → Result T Stop → Type 0
+abbrev pub FollowsAnswer : {P : Type 0} {g : Ghosts P} {T : Type 0} → Moment P g → Moment P g → List ℕ → Result T Stop → Type 0
 FollowsAnswer old new frame result =
     (state0 : Started) (up0 down0 : Pipe) → Follows state0 up0 down0 old.up old.down (frame ∷ old.ends.splitter.whole) (ends_of old.ends)
     → OnOk result (FollowsWith state0 up0 down0 new.up new.down new.ends) × StopFolds result (fold_since up0 down0 new.up new.down)
@@ -166,7 +185,7 @@ pub record PrintedSome (before after : Option (List ℕ)) : Type 0 where
   pub printed : Appends before after written
 
 -- the closing part is printed
-abbrev pub ClosesShown : {T : Type 0} → Scene → Scene → Result T Stop → Type 0
+abbrev pub ClosesShown : {P : Type 0} {g : Ghosts P} {T : Type 0} → Scene P g → Scene P g → Result T Stop → Type 0
 ClosesShown old new result =
     (state0 : Started) (up0 down0 : Pipe) → FollowsRun state0 up0 down0 old.now.up old.now.down old.now.ends
     → OnOk result (EndsShown old.taken new.taken (fold_since up0 down0 new.now.up new.now.down)

@@ -1,5 +1,6 @@
 -- What a call on the link and the ends keeps, whatever it answers, and where it leads: four facts of the moments before and after it.
 use Rattle.std.specs.Prelude.{ℕ, List, Result, OnOk}
+use Rattle.front_mirror.specs.declared.panels.Panel.{Ghosts}
 use Rattle.back_end.specs.Steps.{Turn}
 use Rattle.inspect_world.specs.Costs.{least_line}
 use Rattle.inspect_world.specs.RunStates.{RunState, run_turn}
@@ -11,100 +12,102 @@ use Rattle.inspect_replay.specs.Stops.{HasStopCause, StopRose, RunRose}
 use Rattle.inspect_replay.specs.Moments.{Moment, Scene, passage, counts_between}
 use Rattle.inspect_replay.specs.Runs.{Steps, Spends, TakesUp, AnswersAll, AnswersOne, SendsFetch, FetchesText, FetchesOne, FetchesAll}
 use Rattle.inspect_replay.specs.Runs.{Refreshes}
-use Rattle.inspect_replay.specs.Followed.{KeepsFollowing, KeepsFollowingWith, LineFollows, LinesFollow, FollowsAnswers, FollowsAnswer}
+use Rattle.inspect_replay.specs.Followed.{KeepsFollowing, KeepsFollowingWith, LineFollows, LinePasses, LinesFollow, FollowsAnswers}
+use Rattle.inspect_replay.specs.Followed.{FollowsAnswer}
 use Rattle.inspect_replay.specs.Followed.{PrintedSome}
 use Rattle.inspect_replay.specs.Prints.{NumberedLine, numbered_line, CarriesOut, CarriesLine, RunsLines}
 
 -- ---- calls that print nothing
 
 -- how a call goes: what it keeps over every link, and over an honest one where it takes the run
-pub record Manner (T : Type 0) : Type 1 where
-  pub follows : Moment → Moment → Result T Stop → Type 0
-  pub steps : Moment → Moment → Result T Stop → Type 0
+pub record Manner (P : Type 0) (g : Ghosts P) (T : Type 0) : Type 1 where
+  pub follows : Moment P g → Moment P g → Result T Stop → Type 0
+  pub steps : Moment P g → Moment P g → Result T Stop → Type 0
 
 -- An honest link stays honest; a fault of the link is answered only where its count rose; the ends go on following the link; and
 -- over an honest link the run goes where the script takes it.
-pub record Goes {T : Type 0} (manner : Manner T) (old new : Moment) (result : Result T Stop) : Type 0 where
+pub record Goes {P : Type 0} {g : Ghosts P} {T : Type 0} (manner : Manner P g T) (old new : Moment P g)
+    (result : Result T Stop) : Type 0 where
   pub honest : old.honest → new.honest
   pub cause : HasStopCause 0 0 old.faults new.faults result
   pub follows : manner.follows old new result
   pub steps : manner.steps old new result
 
 -- the run goes where this function takes it
-abbrev pub stepping : {T : Type 0} → (World RunState → World RunState) → Manner T
+abbrev pub stepping : {P : Type 0} {g : Ghosts P} {T : Type 0} → (World RunState → World RunState) → Manner P g T
 stepping f = record { follows = λ old new result. KeepsFollowing old new result; steps = λ old new result. Steps old new result f }
 
 -- the same, while there is room for a line of so many bytes
-abbrev pub spending : {T : Type 0} → ℕ → (World RunState → World RunState) → Manner T
+abbrev pub spending : {P : Type 0} {g : Ghosts P} {T : Type 0} → ℕ → (World RunState → World RunState) → Manner P g T
 spending bytes f = record {
   follows = λ old new result. KeepsFollowing old new result;
   steps = λ old new result. Spends bytes (passage old new) result f;
 }
 
 -- the script makes a step
-abbrev pub turning : {T : Type 0} → Turn → Manner T
+abbrev pub turning : {P : Type 0} {g : Ghosts P} {T : Type 0} → Turn → Manner P g T
 turning x = record {
   follows = λ old new result. LineFollows old new result;
   steps = λ old new result. Spends least_line (passage old new) result (λ w. turned run_turn x w);
 }
 
 -- up to so many bytes are taken that come up
-abbrev pub taking_up : {T : Type 0} → ℕ → Manner T
+abbrev pub taking_up : {P : Type 0} {g : Ghosts P} {T : Type 0} → ℕ → Manner P g T
 taking_up n = record { follows = λ old new result. KeepsFollowingWith old new result; steps = λ old new result. TakesUp old new n result }
 
 -- the frames that are whole are answered
-abbrev pub answering_all : {T : Type 0} → Manner T
+abbrev pub answering_all : {P : Type 0} {g : Ghosts P} {T : Type 0} → Manner P g T
 answering_all = record { follows = λ old new result. FollowsAnswers old new result; steps = λ old new result. AnswersAll old new result }
 
 -- this frame is answered
-abbrev pub answering : {T : Type 0} → List ℕ → Manner T
+abbrev pub answering : {P : Type 0} {g : Ghosts P} {T : Type 0} → List ℕ → Manner P g T
 answering frame = record {
   follows = λ old new result. FollowsAnswer old new frame result;
   steps = λ old new result. AnswersOne old new frame result;
 }
 
 -- the fetch of a sheet's text is sent
-abbrev pub sending_fetch : {T : Type 0} → ℕ → Manner T
+abbrev pub sending_fetch : {P : Type 0} {g : Ghosts P} {T : Type 0} → ℕ → Manner P g T
 sending_fetch number = record {
   follows = λ old new result. KeepsFollowing old new result;
   steps = λ old new result. SendsFetch old new number result;
 }
 
 -- the text of a sheet is fetched
-abbrev pub fetching_text : {T : Type 0} → ℕ → Manner T
+abbrev pub fetching_text : {P : Type 0} {g : Ghosts P} {T : Type 0} → ℕ → Manner P g T
 fetching_text number = record {
   follows = λ old new result. KeepsFollowing old new result;
   steps = λ old new result. FetchesText old new number result;
 }
 
 -- the same, unless the sheet is passed over
-abbrev pub fetching_one : {T : Type 0} → ℕ → Manner T
+abbrev pub fetching_one : {P : Type 0} {g : Ghosts P} {T : Type 0} → ℕ → Manner P g T
 fetching_one number = record {
   follows = λ old new result. KeepsFollowing old new result;
   steps = λ old new result. FetchesOne old new number result;
 }
 
 -- the texts of these sheets are fetched
-abbrev pub fetching_all : {T : Type 0} → List ℕ → Manner T
+abbrev pub fetching_all : {P : Type 0} {g : Ghosts P} {T : Type 0} → List ℕ → Manner P g T
 fetching_all numbers = record {
   follows = λ old new result. KeepsFollowing old new result;
   steps = λ old new result. FetchesAll old new numbers result;
 }
 
 -- all is delivered, and then the texts that are old are fetched
-abbrev pub settling : {T : Type 0} → Manner T
+abbrev pub settling : {P : Type 0} {g : Ghosts P} {T : Type 0} → Manner P g T
 settling = record { follows = λ old new result. KeepsFollowing old new result; steps = λ old new result. Refreshes old new result }
 
 -- ---- calls that print
 
 -- how such a call goes: what a fault says, what it keeps over every link, and over an honest one where it takes both runs
-pub record Part (T : Type 0) : Type 1 where
+pub record Part (P : Type 0) (g : Ghosts P) (T : Type 0) : Type 1 where
   pub cause : Counts → Result T Stop → Type 0
-  pub follows : Moment → Moment → Result T Stop → Type 0
-  pub runs : Scene → Scene → Result T Stop → Type 0
+  pub follows : Moment P g → Moment P g → Result T Stop → Type 0
+  pub runs : Scene P g → Scene P g → Result T Stop → Type 0
 
 -- The same four facts of a call that prints; and what it printed.
-pub record Plays {T : Type 0} (part : Part T) (old new : Scene) (result : Result T Stop) : Type 0 where
+pub record Plays {P : Type 0} {g : Ghosts P} {T : Type 0} (part : Part P g T) (old new : Scene P g) (result : Result T Stop) : Type 0 where
   pub honest : old.now.honest → new.now.honest
   pub cause : part.cause (counts_between old new) result
   pub follows : part.follows old.now new.now result
@@ -112,7 +115,7 @@ pub record Plays {T : Type 0} (part : Part T) (old new : Scene) (result : Result
   pub runs : part.runs old new result
 
 -- a show, of any number
-abbrev pub showing : {T : Type 0} → LineForm → Part T
+abbrev pub showing : {P : Type 0} {g : Ghosts P} {T : Type 0} → LineForm → Part P g T
 showing form = record {
   cause = λ c result. StopRose c result;
   follows = λ old new result. KeepsFollowing old new result;
@@ -120,7 +123,7 @@ showing form = record {
 }
 
 -- a line that is not refused
-abbrev pub carrying : {T : Type 0} → NumberedLine → Part T
+abbrev pub carrying : {P : Type 0} {g : Ghosts P} {T : Type 0} → NumberedLine → Part P g T
 carrying line = record {
   cause = λ c result. StopRose c result;
   follows = λ old new result. LineFollows old new result;
@@ -128,7 +131,7 @@ carrying line = record {
 }
 
 -- a show of matched styles, which is refused where none came
-abbrev pub showing_styles : {T : Type 0} → NumberedLine → Part T
+abbrev pub showing_styles : {P : Type 0} {g : Ghosts P} {T : Type 0} → NumberedLine → Part P g T
 showing_styles line = record {
   cause = λ c result. RunRose c result;
   follows = λ old new result. KeepsFollowing old new result;
@@ -136,15 +139,15 @@ showing_styles line = record {
 }
 
 -- any line
-abbrev pub carrying_line : {T : Type 0} → NumberedLine → Part T
+abbrev pub carrying_line : {P : Type 0} {g : Ghosts P} {T : Type 0} → NumberedLine → Part P g T
 carrying_line line = record {
   cause = λ c result. RunRose c result;
-  follows = λ old new result. LineFollows old new result;
+  follows = λ old new result. LinePasses old new line.form result;
   runs = λ old new result. CarriesLine old new line result;
 }
 
 -- the lines after the load
-abbrev pub running : {T : Type 0} → List (List ℕ) → Part T
+abbrev pub running : {P : Type 0} {g : Ghosts P} {T : Type 0} → List (List ℕ) → Part P g T
 running lines = record {
   cause = λ c result. RunRose c result;
   follows = λ old new result. LinesFollow old new lines result;

@@ -1,28 +1,29 @@
 -- One moment of a run: what the link and the ends hold, and what the sink has taken.
 use Rattle.std.specs.Prelude.{ℕ, List, Option}
+use Rattle.front_mirror.specs.declared.panels.Panel.{Ghosts}
 use Rattle.pipe_frames.specs.Pipe.{Pipe}
 use Rattle.inspect_replay.specs.declared.ends.Ends.{Ends}
 use Rattle.inspect_replay.specs.Says.{Counts}
 
 -- the link, whether it is honest, how often it failed, and the ends
-pub record Moment : Type 1 where
+pub record Moment (P : Type 0) (g : Ghosts P) : Type 1 where
   pub honest : Type 0
   pub up : Pipe
   pub down : Pipe
   pub faults : ℕ
-  pub ends : Ends
+  pub ends : Ends P g
 
 -- these together, but for the faults, which nothing asks for that is said of a run
-abbrev pub moment : Type 0 → Pipe → Pipe → Ends → Moment
+abbrev pub moment : {P : Type 0} {g : Ghosts P} → Type 0 → Pipe → Pipe → Ends P g → Moment P g
 moment honest up down ends = record { honest = honest; up = up; down = down; faults = 0; ends = ends }
 
 -- what a call leads from, and to
-pub record Passage : Type 1 where
-  pub before : Moment
-  pub after : Moment
+pub record Passage (P : Type 0) (g : Ghosts P) : Type 1 where
+  pub before : Moment P g
+  pub after : Moment P g
 
 -- what a call leads from, and to
-abbrev pub passage : Moment → Moment → Passage
+abbrev pub passage : {P : Type 0} {g : Ghosts P} → Moment P g → Moment P g → Passage P g
 passage before after = record { before = before; after = after }
 
 -- what a sink has taken, and how often it failed
@@ -31,21 +32,21 @@ pub record Taken : Type 0 where
   pub faults : ℕ
 
 -- a moment, with what the sink has taken
-pub record Scene : Type 1 where
-  pub now : Moment
+pub record Scene (P : Type 0) (g : Ghosts P) : Type 1 where
+  pub now : Moment P g
   pub taken : Option (List ℕ)
   pub faults : ℕ
 
 -- these together, but for the faults of the sink
-abbrev pub scene : Moment → Option (List ℕ) → Scene
+abbrev pub scene : {P : Type 0} {g : Ghosts P} → Moment P g → Option (List ℕ) → Scene P g
 scene now taken = record { now = now; taken = taken; faults = 0 }
 
 -- these together
-abbrev pub seen_by : Moment → Taken → Scene
+abbrev pub seen_by : {P : Type 0} {g : Ghosts P} → Moment P g → Taken → Scene P g
 seen_by now sink = record { now = now; taken = sink.bytes; faults = sink.faults }
 
 -- the counts of faults from one scene to another
-abbrev pub counts_between : Scene → Scene → Counts
+abbrev pub counts_between : {P : Type 0} {g : Ghosts P} → Scene P g → Scene P g → Counts
 counts_between old new =
     record {
       source_before = 0;

@@ -1,5 +1,6 @@
 -- A run in hand: the link is honest, and the link and the ends have come to where the run of the script is.
 use Rattle.std.specs.Prelude.{◌≡◌, ◌≤◌, ◌+◌, ℕ, List, [], ◌∷◌, ◌++◌, length, Result, OnOk}
+use Rattle.front_mirror.specs.declared.panels.Panel.{Ghosts}
 use Rattle.pipe_frames.specs.Pipe.{Pipe}
 use Rattle.inspect_world.specs.Stream.{arriving, awaited}
 use Rattle.inspect_world.specs.World.{World, one_fetch, sent_up, given_up, answered}
@@ -15,7 +16,7 @@ use Rattle.inspect_replay.specs.Moments.{Moment, Passage}
 use Rattle.inspect_replay.specs.Stops.{GoesWell}
 
 -- what the ends of the program hold
-abbrev pub ends_of : Ends → HeldEnds
+abbrev pub ends_of : {P : Type 0} {g : Ghosts P} → Ends P g → HeldEnds
 ends_of e = record {
   seat = e.seat;
   side = e.side;
@@ -29,44 +30,46 @@ ends_of e = record {
 -- Over an honest link the run, with the fetches of its settles, has come to the world w since the pipes were as `up0` and
 -- `down0`, with nothing left to give.
 -- The frames that the splitter holds came up whole, and are not yet answered.
-pub record InRunWith (honest : Type 0) (up0 down0 up down : Pipe) (w : World RunState) (e : Ends) : Type 0 where
+pub record InRunWith {P : Type 0} {g : Ghosts P} (honest : Type 0) (up0 down0 up down : Pipe) (w : World RunState)
+    (e : Ends P g) : Type 0 where
   pub is_honest : honest
   pub in_world : InWorld up0 down0 up down w (e.splitter.whole ++ awaited w.up) (ends_of e)
 
 -- the ends are in a run, each frame that came up whole being answered
-pub record InRun (honest : Type 0) (up0 down0 up down : Pipe) (w : World RunState) (e : Ends) : Type 0 where
+pub record InRun {P : Type 0} {g : Ghosts P} (honest : Type 0) (up0 down0 up down : Pipe) (w : World RunState) (e : Ends P g) : Type 0 where
   pub so_far : InRunWith honest up0 down0 up down w e
   pub none_whole : e.splitter.whole ≡ []
 
 -- a call takes each run over an honest link to where the script takes it, and never stops at the front end
-abbrev pub Steps : {T : Type 0} → Moment → Moment → Result T Stop → (World RunState → World RunState) → Type 0
+abbrev pub Steps : {P : Type 0} {g : Ghosts P} {T : Type 0} → Moment P g → Moment P g → Result T Stop → (World RunState → World RunState)
+    → Type 0
 Steps old new result f =
     (up0 down0 : Pipe) (w : World RunState) → InRun old.honest up0 down0 old.up old.down w old.ends
     → GoesWell result × OnOk result (InRun new.honest up0 down0 new.up new.down (f w) new.ends)
 
 -- a call that sends a frame or makes a step of the script takes each run to where the script takes it, while there is room for a line of
 -- so many bytes
-abbrev pub Spends : {T : Type 0} → ℕ → Passage → Result T Stop → (World RunState → World RunState) → Type 0
+abbrev pub Spends : {P : Type 0} {g : Ghosts P} {T : Type 0} → ℕ → Passage P g → Result T Stop → (World RunState → World RunState) → Type 0
 Spends bytes m result f =
     (up0 down0 : Pipe) (w : World RunState) → HasLeft w.spent bytes
     → InRun m.before.honest up0 down0 m.before.up m.before.down w m.before.ends
     → GoesWell result × OnOk result (InRun m.after.honest up0 down0 m.after.up m.after.down (f w) m.after.ends)
 
 -- a call that answers the frames that came up whole takes each run to where the script takes it
-abbrev pub AnswersAll : {T : Type 0} → Moment → Moment → Result T Stop → Type 0
+abbrev pub AnswersAll : {P : Type 0} {g : Ghosts P} {T : Type 0} → Moment P g → Moment P g → Result T Stop → Type 0
 AnswersAll old new result =
     (up0 down0 : Pipe) (w : World RunState) → InRunWith old.honest up0 down0 old.up old.down w old.ends
     → GoesWell result × OnOk result (InRun new.honest up0 down0 new.up new.down (answered run_step old.ends.splitter.whole w) new.ends)
 
 -- a call that answers one frame, before those that the splitter holds, takes each run to where the script takes it
-abbrev pub AnswersOne : {T : Type 0} → Moment → Moment → List ℕ → Result T Stop → Type 0
+abbrev pub AnswersOne : {P : Type 0} {g : Ghosts P} {T : Type 0} → Moment P g → Moment P g → List ℕ → Result T Stop → Type 0
 AnswersOne old new frame result =
     (up0 down0 : Pipe) (w : World RunState) → old.honest
     → InWorld up0 down0 old.up old.down w (frame ∷ (old.ends.splitter.whole ++ awaited w.up)) (ends_of old.ends)
     → GoesWell result × OnOk result (InRunWith new.honest up0 down0 new.up new.down (answered run_step (frame ∷ []) w) new.ends)
 
 -- a call that takes bytes that come up, and cuts them into frames, takes each run to where the script takes it
-abbrev pub TakesUp : {T : Type 0} → Moment → Moment → ℕ → Result T Stop → Type 0
+abbrev pub TakesUp : {P : Type 0} {g : Ghosts P} {T : Type 0} → Moment P g → Moment P g → ℕ → Result T Stop → Type 0
 TakesUp old new n result =
     (up0 down0 : Pipe) (w : World RunState) → InRun old.honest up0 down0 old.up old.down w old.ends
     → GoesWell result
@@ -75,32 +78,33 @@ TakesUp old new n result =
 -- ---- the fetches of a settle
 
 -- a call that makes fetches takes each run to where the script takes it, while there is room for so many
-abbrev pub SpendsFetches : {T : Type 0} → Moment → Moment → ℕ → Result T Stop → (World RunState → World RunState) → Type 0
+abbrev pub SpendsFetches : {P : Type 0} {g : Ghosts P} {T : Type 0} → Moment P g → Moment P g → ℕ → Result T Stop →
+    (World RunState → World RunState) → Type 0
 SpendsFetches old new count result f =
     (up0 down0 : Pipe) (w : World RunState) → w.spent.fetches + count ≤ most_fetches → InRun old.honest up0 down0 old.up old.down w old.ends
     → GoesWell result × OnOk result (InRun new.honest up0 down0 new.up new.down (f w) new.ends)
 
 -- of one that sends the fetch of a sheet's text
-abbrev pub SendsFetch : {T : Type 0} → Moment → Moment → ℕ → Result T Stop → Type 0
+abbrev pub SendsFetch : {P : Type 0} {g : Ghosts P} {T : Type 0} → Moment P g → Moment P g → ℕ → Result T Stop → Type 0
 SendsFetch old new number result =
     SpendsFetches old new 1 result (λ w. sent_up (front_fetcher.text w.spent.fetches number) one_fetch w)
 
 -- of one that fetches it
-abbrev pub FetchesText : {T : Type 0} → Moment → Moment → ℕ → Result T Stop → Type 0
+abbrev pub FetchesText : {P : Type 0} {g : Ghosts P} {T : Type 0} → Moment P g → Moment P g → ℕ → Result T Stop → Type 0
 FetchesText old new number result = SpendsFetches old new 1 result (fetched replay front_fetcher number)
 
 -- of one that fetches it, unless the sheet is passed over
-abbrev pub FetchesOne : {T : Type 0} → Moment → Moment → ℕ → Result T Stop → Type 0
+abbrev pub FetchesOne : {P : Type 0} {g : Ghosts P} {T : Type 0} → Moment P g → Moment P g → ℕ → Result T Stop → Type 0
 FetchesOne old new number result =
     SpendsFetches old new 1 result (λ w. fetched_if replay front_fetcher (front_in replay (first_value []) w) number w)
 
 -- of one that fetches the texts of these sheets
-abbrev pub FetchesAll : {T : Type 0} → Moment → Moment → List ℕ → Result T Stop → Type 0
+abbrev pub FetchesAll : {P : Type 0} {g : Ghosts P} {T : Type 0} → Moment P g → Moment P g → List ℕ → Result T Stop → Type 0
 FetchesAll old new numbers result =
     SpendsFetches old new (length numbers) result (all_fetched replay front_fetcher (first_value []) numbers)
 
 -- a settle with its fetches takes each run to where the script takes it, while there is room for those of one settle
-abbrev pub Refreshes : {T : Type 0} → Moment → Moment → Result T Stop → Type 0
+abbrev pub Refreshes : {P : Type 0} {g : Ghosts P} {T : Type 0} → Moment P g → Moment P g → Result T Stop → Type 0
 Refreshes old new result =
     (up0 down0 : Pipe) (w : World RunState) → HasLeft w.spent 0 → InRun old.honest up0 down0 old.up old.down w old.ends
     → GoesWell result × OnOk result (InRun new.honest up0 down0 new.up new.down (refreshes front_fetcher w) new.ends)
@@ -109,7 +113,8 @@ Refreshes old new result =
 
 -- The run that the report tells has come to w, and over an honest link the run with fetches to a world that goes together with
 -- w; lines of so many bytes more may be carried out. As many replies and pauses were told in both.
-pub record InPlay (honest : Type 0) (up0 down0 up down : Pipe) (bytes : ℕ) (w : World RunState) (e : Ends) : Type 0 where
+pub record InPlay {P : Type 0} {g : Ghosts P} (honest : Type 0) (up0 down0 up down : Pipe) (bytes : ℕ) (w : World RunState)
+    (e : Ends P g) : Type 0 where
   pub fresh : World RunState
   pub both : Together IsPlainFrame bytes w fresh
   pub in_run : InRun honest up0 down0 up down fresh e

@@ -1,11 +1,13 @@
 -- Ends of a page that was just loaded, before anything was sent.
-use Rattle.std.specs.Prelude.{◌≡◌, ◌+◌, [], false, length}
+use Rattle.std.specs.Prelude.{◌≡◌, ◌+◌, List, [], false, length}
+use Rattle.front_mirror.specs.declared.panels.Panel.{Ghosts}
 use Rattle.node_binding.specs.Bindings.{empty_from}
 use Rattle.dom_breakpoints.specs.Watched.{unwatched}
 use Rattle.dom_search.specs.Searches.{no_searches}
 use Rattle.undo_marks.specs.Marks.{no_marks}
 use Rattle.page_tree.specs.Pages.{loaded}
 use Rattle.page_forms.specs.Pages.{LoadedPage}
+use Rattle.front_mirror.specs.declared.panels.PanelKind.{PanelKind}
 use Rattle.front_mirror.specs.Front.{first_state}
 use Rattle.back_end.specs.Sheets.{as_book, numbered_sheets}
 use Rattle.back_end.specs.declared.seat.Seat.{Seat}
@@ -25,11 +27,11 @@ pub record IsNewSide (seat : Seat) (side : PageSide) (page : LoadedPage) : Type 
   pub searches_are : seat.desk.searches ≡ no_searches
   pub history_is : seat.history ≡ no_marks
 
--- the ends of it: nothing was sent, given or told
-pub record IsNew (e : Ends) (page : LoadedPage) : Type 0 where
+-- the ends of it, with panels of these kinds: nothing was sent, given or told
+pub record IsNew {P : Type 0} {g : Ghosts P} (e : Ends P g) (kinds : List PanelKind) (page : LoadedPage) : Type 0 where
   pub side : IsNewSide e.seat e.side page
   pub splitter : e.splitter ≡ record { whole = []; rest = [] }
-  pub front : e.front ≡ first_state
+  pub front : e.front ≡ first_state kinds
   pub up : e.up_there ≡ 0
   pub down : e.down_there ≡ 0
   pub told : e.told ≡ 0

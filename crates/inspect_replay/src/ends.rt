@@ -1,4 +1,4 @@
-ghost use Rattle.std.specs.Prelude.{◌≡◌, true, false, length, option_map, IsTrue, IfOk};
+ghost use Rattle.std.specs.Prelude.{◌≡◌, true, false, length, map, option_map, IsTrue, IfOk};
 ghost use Rattle.serde_json.specs.View.{view};
 ghost use Rattle.cdp_messages.specs.Asked.{is_whole_where_there};
 ghost use Rattle.front_mirror.specs.Front.{matched_in};
@@ -11,6 +11,8 @@ ghost use Rattle.back_end.specs.Steps.{acts, loads};
 ghost use Rattle.inspect_world.specs.RunStates.{run_step};
 ghost use Rattle.back_end.specs.Plans.{act_fault};
 ghost use Rattle.back_end.specs.Laws.{IsTurn};
+ghost use Rattle.replay_script.specs.Script.{stands_open, dropped};
+ghost use Rattle.inspect_world.specs.Held.{with_panels};
 ghost use Rattle.inspect_world.specs.World.{raw};
 ghost use Rattle.inspect_world.specs.Fits.{IsBare};
 ghost use Rattle.inspect_world.specs.Costs.{ask_cost, least_line};
@@ -24,7 +26,7 @@ use crate::pipes::{receive_down, receive_up, send_down, send_up};
 use crate::stop::Stop;
 use back_end::{Act, ActFault, PageForm, PageSide, Seat};
 use cdp_messages::Matched;
-use front_mirror::{Front, FrontErr, Kept, Mirror, SeenPause};
+use front_mirror::{Front, FrontErr, Kept, Mirror, Panel, SeenPause};
 use page_tree::Page;
 use pipe_frames::{Link, Splitter};
 use replay_script::Ask;
@@ -33,12 +35,12 @@ use std::alloc::{AllocError, Global};
 /// The two ends of the link, how many bytes of each pipe were sent and not given, and how many of the replies and of the
 /// pauses were told. The seat stands for the page's side, as long as it is not dead.
 #[derive(Drop)]
-pub(crate) struct Ends {
+pub(crate) struct Ends<P: Panel> {
     pub(crate) alloc: Global,
     pub(crate) side: PageSide,
     pub(crate) seat: Seat,
     pub(crate) splitter: Splitter,
-    pub(crate) front: Front,
+    pub(crate) front: Front<P>,
     pub(crate) up_there: u64,
     pub(crate) down_there: u64,
     pub(crate) told: usize,
@@ -55,23 +57,23 @@ fn framed(alloc: Global, text: &str) -> Result<Vec<u8>, AllocError>
     Ok(frame)
 }
 
-impl Ends {
+impl<P: Panel> Ends<P> {
     ghost use Rattle.inspect_replay.specs.Goes.{Goes, stepping, spending, turning, taking_up, answering_all, answering, sending_fetch};
     ghost use Rattle.inspect_replay.specs.Starts.{IsNew};
     ghost use Rattle.inspect_replay.specs.Goes.{fetching_text, fetching_one, fetching_all, settling};
 
-    /// Both ends of a page that is loaded, with serials and numbers of sheets from 1 on.
-    pub(crate) fn new(alloc: Global, form: PageForm) -> Result<Ends, AllocError>
+    /// Both ends of a page that is loaded, with serials and numbers of sheets from 1 on. The front end tells the panels.
+    pub(crate) fn new(alloc: Global, panels: Vec<P>, form: PageForm) -> Result<Ends<P>, AllocError>
         requires can { CanLoadPage (loaded_page form) }
         requires texts { PageHasTexts (loaded_page form) }
-        ensures { IfOk result (λ ends. IsNew ends (loaded_page form)) }
+        ensures { IfOk result (λ ends. IsNew ends (map P.kind_of panels.items) (loaded_page form)) }
     {
         Ok(Ends {
             alloc,
             side: PageSide::new(alloc, Some(form))?,
             seat: Seat::new(alloc),
             splitter: Splitter::new(alloc),
-            front: Front::new(alloc)?,
+            front: Front::new(alloc, panels)?,
             up_there: 0,
             down_there: 0,
             told: 0,
@@ -94,7 +96,7 @@ impl Ends {
     }
 
     /// The front end.
-    pub(crate) fn front(&self) -> &Front
+    pub(crate) fn front(&self) -> &Front<P>
         ensures { result.now ≡ self.now.front }
     {
         &self.front
@@ -133,6 +135,15 @@ impl Ends {
         ensures { option_map (λ m. m.now) result ≡ matched_in ask self.now.front.value.matched }
     {
         self.front.matched_reply(ask)
+    }
+
+    /// Drops the panel at that place, counted from 1; false where none stands open there.
+    pub(crate) fn close(&mut self, place: u64) -> bool
+        ensures stood { result ≡ stands_open place self.old.front.panels }
+        ensures dropped { self.new
+            ≡ record self.old { front = with_panels (dropped place self.old.front.panels) self.old.front } }
+    {
+        self.front.close(place as usize)
     }
 
     /// The front end sends a command.

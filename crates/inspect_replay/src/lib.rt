@@ -14,6 +14,7 @@
 mod ends;
 mod moments;
 mod page_lines;
+mod panel_lines;
 mod pause_lines;
 mod pipes;
 mod program;

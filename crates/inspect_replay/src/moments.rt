@@ -1,4 +1,5 @@
 // A link and a sink at one moment, each as one value that clauses see.
+ghost use Rattle.front_mirror.specs.declared.panels.Panel.{Ghosts};
 ghost use Rattle.inspect_replay.specs.Moments.{Moment, Taken};
 ghost use Rattle.inspect_replay.specs.declared.ends.Ends.{Ends};
 
@@ -7,7 +8,7 @@ use pipe_frames::{Link, Sink};
 /// What is seen of a link at one moment.
 pub(crate) trait Watched {
     // The link and the ends together.
-    ghost at: { Self → Ends → Moment };
+    ghost at: { Self → {P : Type 0} → {g : Ghosts P} → Ends P g → Moment P g };
 }
 
 impl<L: Link> Watched for L {

@@ -19,6 +19,7 @@ use crate::serve::serve;
 use crate::status::Status;
 use crate::stop::Stop;
 use crate::words::{is_replay, is_serve};
+use front_mirror::Panel;
 use inspect_world::fits_law;
 use pipe_frames::{Link, ReadErr, Sink, Source, read_all};
 use replay_script::has_long_line;
@@ -35,18 +36,21 @@ pub const LINE_LIMIT: usize = 16_777_216;
 /// `replay` reads the whole input, and then carries out its lines in order: a back end and a front end speak over `link`,
 /// and what the lines print goes to `out` before the next line is looked at.
 ///
-/// `serve` answers frames: each that is whole is answered on `out` before more is read. It does not use `link`.
+/// `panels` are told of each change of what the front end shows, and dropped by a line that closes them, or at the end.
+///
+/// `serve` answers frames: each that is whole is answered on `out` before more is read. It uses neither `link` nor `panels`.
 pub fn inspect<S: Source, K: Sink, L: Link>(
     alloc: Global,
     words: &[String],
     src: &mut S,
     out: &mut K,
     link: &mut L,
+    panels: Vec<Box<dyn Panel>>,
 ) -> Status
     // the headline: over an honest link with nothing left to give, the sink takes the report of the input
     ensures report { L.honest link.old → IsLevel (L.up link.old) → IsLevel (L.down link.old)
         → (input : List ℕ) → S.left src.old ≡ Some input → is_replay (map string_bytes words.now) ≡ true
-        → Took result (K.taken out.old) (K.taken out.new) (report input) }
+        → Took result (K.taken out.old) (K.taken out.new) (report (map (λ p. kind_of p) panels.items) input) }
     // its half on undo: at each moment of the run that is reported, an undo leads to the very tree and texts that were saved
     ensures restores { UndoRestoresInRuns }
     // over an honest link no message is refused, and there is always room, whatever the source tells of its bytes
@@ -67,16 +71,18 @@ pub fn inspect<S: Source, K: Sink, L: Link>(
     ensures unread { result ≡ Usage → src.new ≡ src.old }
     ensures unwritten { result ≡ Usage → out.new ≡ out.old }
     ensures unlinked { result ≡ Usage → link.new ≡ link.old }
-    // over every link: a line is answered exactly where it is the first that is refused; that the matched styles of an ask did not
-    // come is said by what the fold of the bytes sent up and given down has kept at the end of the call
+    // over every link: a line is answered exactly where it is the first that is refused; that no panel stands open where it drops one
+    // is said by the lines and the panels handed in, and that the matched styles of an ask did not come by what the fold of the bytes
+    // sent up and given down has kept at the end of the call
     ensures line { is_replay (map string_bytes words.now) ≡ true
         → (input : List ℕ) → S.left src.old ≡ Some input
         → TellsLine result
-        (script_refused (came_styles (fold_since (L.up link.old) (L.down link.old) (L.up link.new) (L.down link.new)).fold) input) }
+        (script_refused (came_styles (fold_since (L.up link.old) (L.down link.old) (L.up link.new) (L.down link.new)).fold)
+        (map (λ p. kind_of p) panels.items) input) }
     // over an honest link that line is the first that the run of the script refuses, in which no front end takes part
     ensures stops { L.honest link.old → IsLevel (L.up link.old) → IsLevel (L.down link.old)
         → (input : List ℕ) → S.left src.old ≡ Some input → is_replay (map string_bytes words.now) ≡ true
-        → TellsLine result (report_refused input) }
+        → TellsLine result (report_refused (map (λ p. kind_of p) panels.items) input) }
     ensures limits { is_replay (map string_bytes words.now) ≡ true
         → (input : List ℕ) → S.left src.old ≡ Some input → FitsLimits result input }
     ensures whole { is_replay (map string_bytes words.now) ≡ true
@@ -114,7 +120,7 @@ pub fn inspect<S: Source, K: Sink, L: Link>(
     // Called for the proof alone: the law is what `restores` says.
     fits_law();
     if is_replay(words) {
-        return replay(alloc, src, out, link);
+        return replay(alloc, panels, src, out, link);
     }
     if is_serve(words) {
         return serve(alloc, src, out);
@@ -122,15 +128,16 @@ pub fn inspect<S: Source, K: Sink, L: Link>(
     Status::Usage
 }
 
-fn replay<S: Source, K: Sink, L: Link>(
+fn replay<P: Panel, S: Source, K: Sink, L: Link>(
     alloc: Global,
+    panels: Vec<P>,
     src: &mut S,
     out: &mut K,
     link: &mut L,
 ) -> Status
     ensures report { L.honest link.old → IsLevel (L.up link.old) → IsLevel (L.down link.old)
         → (input : List ℕ) → S.left src.old ≡ Some input
-        → Took result (K.taken out.old) (K.taken out.new) (report input) }
+        → Took result (K.taken out.old) (K.taken out.new) (report (map P.kind_of panels.items) input) }
     ensures sound { L.honest link.old → IsLevel (L.up link.old) → IsLevel (L.down link.old) → IsHonest result }
     ensures refused { StatusFolds result (fold_since (L.up link.old) (L.down link.old) (L.up link.new) (L.down link.new)) }
     ensures closes { result ≡ Done → EndsShown (K.taken out.old) (K.taken out.new)
@@ -140,9 +147,10 @@ fn replay<S: Source, K: Sink, L: Link>(
     ensures used { result ≡ Usage → ⊥ }
     ensures line { (input : List ℕ) → S.left src.old ≡ Some input
         → TellsLine result
-        (script_refused (came_styles (fold_since (L.up link.old) (L.down link.old) (L.up link.new) (L.down link.new)).fold) input) }
+        (script_refused (came_styles (fold_since (L.up link.old) (L.down link.old) (L.up link.new) (L.down link.new)).fold)
+        (map P.kind_of panels.items) input) }
     ensures stops { L.honest link.old → IsLevel (L.up link.old) → IsLevel (L.down link.old)
-        → (input : List ℕ) → S.left src.old ≡ Some input → TellsLine result (report_refused input) }
+        → (input : List ℕ) → S.left src.old ≡ Some input → TellsLine result (report_refused (map P.kind_of panels.items) input) }
     ensures limits { (input : List ℕ) → S.left src.old ≡ Some input → FitsLimits result input }
     ensures whole { (input : List ℕ) → S.left src.old ≡ Some input → ReadsAll result (S.left src.new) }
     // reading stops as soon as more than 2^26 bytes came
@@ -159,16 +167,22 @@ fn replay<S: Source, K: Sink, L: Link>(
     ensures honest { L.honest link.old → L.honest link.new }
 {
     match read_input(alloc, src) {
-        Ok(input) => run_input(alloc, &input, out, link),
+        Ok(input) => run_input(alloc, panels, &input, out, link),
         Err(stop) => status_of(stop),
     }
 }
 
 /// Carries out the script that was read.
-fn run_input<K: Sink, L: Link>(alloc: Global, input: &[u8], out: &mut K, link: &mut L) -> Status
+fn run_input<P: Panel, K: Sink, L: Link>(
+    alloc: Global,
+    panels: Vec<P>,
+    input: &[u8],
+    out: &mut K,
+    link: &mut L,
+) -> Status
     requires few { length input.now ≤ 2 ^ 26 }
     ensures report { L.honest link.old → IsLevel (L.up link.old) → IsLevel (L.down link.old)
-        → Took result (K.taken out.old) (K.taken out.new) (report input.now) }
+        → Took result (K.taken out.old) (K.taken out.new) (report (map P.kind_of panels.items) input.now) }
     ensures sound { L.honest link.old → IsLevel (L.up link.old) → IsLevel (L.down link.old) → IsHonest result }
     ensures refused { StatusFolds result (fold_since (L.up link.old) (L.down link.old) (L.up link.new) (L.down link.new)) }
     ensures closes { result ≡ Done → EndsShown (K.taken out.old) (K.taken out.new)
@@ -177,8 +191,10 @@ fn run_input<K: Sink, L: Link>(alloc: Global, input: &[u8], out: &mut K, link: &
     ensures less { StatusLess result (fold_since (L.up link.old) (L.down link.old) (L.up link.new) (L.down link.new)) }
     ensures used { result ≡ Usage → ⊥ }
     ensures line { TellsLine result
-        (script_refused (came_styles (fold_since (L.up link.old) (L.down link.old) (L.up link.new) (L.down link.new)).fold) input.now) }
-    ensures stops { L.honest link.old → IsLevel (L.up link.old) → IsLevel (L.down link.old) → TellsLine result (report_refused input.now) }
+        (script_refused (came_styles (fold_since (L.up link.old) (L.down link.old) (L.up link.new) (L.down link.new)).fold)
+        (map P.kind_of panels.items) input.now) }
+    ensures stops { L.honest link.old → IsLevel (L.up link.old) → IsLevel (L.down link.old)
+        → TellsLine result (report_refused (map P.kind_of panels.items) input.now) }
     ensures late { IsLate result }
     ensures nothing { WritesNothing result (K.taken out.old) (K.taken out.new) }
     ensures cause { StatusRose (record {
@@ -191,7 +207,7 @@ fn run_input<K: Sink, L: Link>(alloc: Global, input: &[u8], out: &mut K, link: &
     }) result }
     ensures honest { L.honest link.old → L.honest link.new }
 {
-    match run_script(alloc, input, out, link) {
+    match run_script(alloc, panels, input, out, link) {
         Ok(()) => Status::Done,
         Err(stop) => status_of(stop),
     }

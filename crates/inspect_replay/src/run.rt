@@ -1,14 +1,17 @@
-ghost use Rattle.std.specs.Prelude.{◌≡◌, ◌≤◌, ◌∷◌, [], length, option_map, Some, None, IfOk, OnOk, IfSome, IsNone};
+ghost use Rattle.std.specs.Prelude.{◌≡◌, ◌≤◌, ◌∷◌, [], length, map, option_map, Some, None, IfOk, OnOk, IfSome, IsNone};
 ghost use Rattle.node_tree.specs.Numbers.{max_input};
 ghost use Rattle.pipe_frames.specs.Pipe.{IsLevel};
 ghost use Rattle.replay_script.specs.Faults.{line_fault};
-ghost use Rattle.replay_script.specs.Forms.{act, load, line_form, show_front, show_sheets, show_replies, show_pauses, show_styles};
+ghost use Rattle.replay_script.specs.Forms.{act, load, line_form, show_front, show_sheets, show_replies, show_pauses};
+ghost use Rattle.replay_script.specs.Forms.{show_panels, show_styles};
 ghost use Rattle.page_forms.specs.Pages.{CanLoadPage, loaded_page};
 ghost use Rattle.pipe_frames.specs.Frames.{IsText};
 ghost use Rattle.back_end.specs.Steps.{acts};
 ghost use Rattle.back_end.specs.Laws.{IsTurn};
 ghost use Rattle.inspect_world.specs.Fits.{IsBare};
-ghost use Rattle.replay_script.specs.Script.{first_bad, good_lines, first_refused, script_refused, styles_ask};
+ghost use Rattle.replay_script.specs.Script.{first_bad, good_lines, first_refused, script_refused, styles_ask, closed_by};
+ghost use Rattle.replay_script.specs.Script.{stands_open, dropped};
+ghost use Rattle.inspect_world.specs.Held.{with_panels};
 ghost use Rattle.inspect_world.specs.Links.{came_styles};
 ghost use Rattle.replay_script.specs.Seen.{seen, seen_ask};
 ghost use Rattle.page_forms.specs.Texts.{PageHasTexts};
@@ -23,25 +26,26 @@ ghost use Rattle.inspect_replay.specs.Moments.{seen_by};
 ghost use Rattle.inspect_replay.specs.Goes.{Goes, Plays, spending, showing, showing_styles, carrying, carrying_line, running};
 ghost use Rattle.inspect_replay.specs.Followed.{LineTells, ClosesShown, StopFolds};
 ghost use Rattle.inspect_replay.specs.Followed.{fold_since, EndsShown, AnswersInOrder};
-ghost use Rattle.inspect_replay.specs.Prints.{Closes, IsRead, numbered_line, load_of};
+ghost use Rattle.inspect_replay.specs.Prints.{Closes, IsRead, numbered_line, drops, load_of};
 
 use crate::ends::Ends;
 use crate::moments::{Printed, Watched};
 use crate::show::{
-    print_fault, print_matched, print_outline, print_page, print_pauses, print_replies,
-    print_sheets,
+    print_fault, print_matched, print_outline, print_page, print_panels, print_pauses,
+    print_replies, print_sheets,
 };
 use crate::stop::Stop;
 use back_end::{Act, PageForm};
+use front_mirror::Panel;
 use node_tree::Text;
 use pipe_frames::{Link, Sink};
 use replay_script::{Ask, Line, LineErr, LineFault, Lines, read_line};
 use std::alloc::Global;
 
 /// Settles, and prints what the front end shows.
-fn show_front<K: Sink, L: Link>(
+fn show_front<P: Panel, K: Sink, L: Link>(
     alloc: Global,
-    ends: &mut Ends,
+    ends: &mut Ends<P>,
     out: &mut K,
     link: &mut L,
 ) -> Result<(), Stop>
@@ -56,9 +60,9 @@ fn show_front<K: Sink, L: Link>(
 }
 
 /// Settles, and prints the replies that came since the last time.
-fn show_replies<K: Sink, L: Link>(
+fn show_replies<P: Panel, K: Sink, L: Link>(
     alloc: Global,
-    ends: &mut Ends,
+    ends: &mut Ends<P>,
     out: &mut K,
     link: &mut L,
 ) -> Result<(), Stop>
@@ -82,9 +86,9 @@ fn show_replies<K: Sink, L: Link>(
 }
 
 /// Settles, and prints the sheets that the front end knows.
-fn show_sheets<K: Sink, L: Link>(
+fn show_sheets<P: Panel, K: Sink, L: Link>(
     alloc: Global,
-    ends: &mut Ends,
+    ends: &mut Ends<P>,
     out: &mut K,
     link: &mut L,
 ) -> Result<(), Stop>
@@ -99,9 +103,9 @@ fn show_sheets<K: Sink, L: Link>(
 }
 
 /// Settles, and prints the pauses that came since the last time.
-fn show_pauses<K: Sink, L: Link>(
+fn show_pauses<P: Panel, K: Sink, L: Link>(
     alloc: Global,
-    ends: &mut Ends,
+    ends: &mut Ends<P>,
     out: &mut K,
     link: &mut L,
 ) -> Result<(), Stop>
@@ -124,12 +128,29 @@ fn show_pauses<K: Sink, L: Link>(
     }
 }
 
+/// Settles, and prints what the panels show that stand open.
+fn show_panels<P: Panel, K: Sink, L: Link>(
+    alloc: Global,
+    ends: &mut Ends<P>,
+    out: &mut K,
+    link: &mut L,
+) -> Result<(), Stop>
+    ensures { Plays (showing show_panels)
+        (seen_by (⟦<L as Watched>⟧.at link.old ends.old) (⟦<K as Printed>⟧.at out.old))
+        (seen_by (⟦<L as Watched>⟧.at link.new ends.new) (⟦<K as Printed>⟧.at out.new)) result }
+{
+    match ends.settle(link) {
+        Ok(()) => print_panels(alloc, ends.front(), out),
+        Err(stop) => Err(stop),
+    }
+}
+
 /// Settles, and prints the matched styles that the reply to the ask told. Where none told them, the line of that number is refused.
-fn show_styles<K: Sink, L: Link>(
+fn show_styles<P: Panel, K: Sink, L: Link>(
     alloc: Global,
     number: u64,
     ask: u64,
-    ends: &mut Ends,
+    ends: &mut Ends<P>,
     out: &mut K,
     link: &mut L,
 ) -> Result<(), Stop>
@@ -146,11 +167,11 @@ fn show_styles<K: Sink, L: Link>(
 }
 
 /// Changes the page, or prints why the change is refused.
-fn carry_act<K: Sink, L: Link>(
+fn carry_act<P: Panel, K: Sink, L: Link>(
     alloc: Global,
     number: u64,
     change: Act,
-    ends: &mut Ends,
+    ends: &mut Ends<P>,
     out: &mut K,
     link: &mut L,
 ) -> Result<(), Stop>
@@ -166,7 +187,7 @@ fn carry_act<K: Sink, L: Link>(
 }
 
 /// Sends an ask.
-fn carry_ask<L: Link>(ends: &mut Ends, link: &mut L, sent: Ask) -> Result<(), Stop>
+fn carry_ask<P: Panel, L: Link>(ends: &mut Ends<P>, link: &mut L, sent: Ask) -> Result<(), Stop>
     requires { CanSend (seen_ask sent) }
     ensures { Goes (spending (ask_cost (seen_ask sent)) (λ w. sends (seen_ask sent) w)) (⟦<L as Watched>⟧.at link.old ends.old)
         (⟦<L as Watched>⟧.at link.new ends.new) result }
@@ -175,7 +196,7 @@ fn carry_ask<L: Link>(ends: &mut Ends, link: &mut L, sent: Ask) -> Result<(), St
 }
 
 /// Sends a text as it is.
-fn carry_raw<L: Link>(ends: &mut Ends, link: &mut L, text: Text) -> Result<(), Stop>
+fn carry_raw<P: Panel, L: Link>(ends: &mut Ends<P>, link: &mut L, text: Text) -> Result<(), Stop>
     requires text { IsText text }
     requires bare { IsBare text }
     ensures { Goes (spending least_line (λ w. world.raw text w)) (⟦<L as Watched>⟧.at link.old ends.old)
@@ -184,17 +205,18 @@ fn carry_raw<L: Link>(ends: &mut Ends, link: &mut L, text: Text) -> Result<(), S
     ends.send_raw(link, text.as_str())
 }
 
-/// Carries out the line of that number after the first, and writes what it prints; it shows no matched styles.
-fn carry_plain<K: Sink, L: Link>(
+/// Carries out the line of that number after the first, and writes what it prints; it shows no matched styles and drops no panel.
+fn carry_plain<P: Panel, K: Sink, L: Link>(
     alloc: Global,
     number: u64,
     line: Line,
-    ends: &mut Ends,
+    ends: &mut Ends<P>,
     out: &mut K,
     link: &mut L,
 ) -> Result<(), Stop>
     requires later { IsLater (seen line) }
     requires plain { styles_ask (seen line) ≡ None }
+    requires keeps { closed_by (seen line) ≡ None }
     ensures { Plays (carrying (numbered_line number (seen line)))
         (seen_by (⟦<L as Watched>⟧.at link.old ends.old) (⟦<K as Printed>⟧.at out.old))
         (seen_by (⟦<L as Watched>⟧.at link.new ends.new) (⟦<K as Printed>⟧.at out.new)) result }
@@ -212,20 +234,24 @@ fn carry_plain<K: Sink, L: Link>(
         Line::ShowSheets => show_sheets(alloc, ends, out, link),
         Line::ShowReplies => show_replies(alloc, ends, out, link),
         Line::ShowPauses => show_pauses(alloc, ends, out, link),
+        Line::ShowPanels => show_panels(alloc, ends, out, link),
         Line::ShowStyles(_) => unreachable!(),
+        Line::Close(_) => unreachable!(),
     }
 }
 
-/// Carries out the line of that number after the first, and writes what it prints. A line that shows what did not come is refused.
-fn carry_out<K: Sink, L: Link>(
+/// Carries out the line of that number after the first, which drops no panel, and writes what it prints. A line that shows what did not
+/// come is refused.
+fn carry_open<P: Panel, K: Sink, L: Link>(
     alloc: Global,
     number: u64,
     line: Line,
-    ends: &mut Ends,
+    ends: &mut Ends<P>,
     out: &mut K,
     link: &mut L,
 ) -> Result<(), Stop>
-    requires { IsLater (seen line) }
+    requires later { IsLater (seen line) }
+    requires keeps { closed_by (seen line) ≡ None }
     ensures plays { Plays (carrying_line (numbered_line number (seen line)))
         (seen_by (⟦<L as Watched>⟧.at link.old ends.old) (⟦<K as Printed>⟧.at out.old))
         (seen_by (⟦<L as Watched>⟧.at link.new ends.new) (⟦<K as Printed>⟧.at out.new)) result }
@@ -238,11 +264,50 @@ fn carry_out<K: Sink, L: Link>(
     }
 }
 
+/// Drops the panel at that place. The line of that number is refused where none stands open there.
+fn drop_panel<P: Panel>(number: u64, place: u64, ends: &mut Ends<P>) -> Result<(), Stop>
+    ensures refused { result ≡ drops number (stands_open place ends.old.front.panels) }
+    ensures dropped { ends.new
+        ≡ record ends.old { front = with_panels (dropped place ends.old.front.panels) ends.old.front } }
+{
+    if ends.close(place) {
+        Ok(())
+    } else {
+        Err(Stop::Line {
+            number,
+            fault: LineFault::NoPanel,
+        })
+    }
+}
+
+/// Carries out the line of that number after the first, and writes what it prints. A line that drops a panel where none stands open,
+/// or shows what did not come, is refused.
+fn carry_out<P: Panel, K: Sink, L: Link>(
+    alloc: Global,
+    number: u64,
+    line: Line,
+    ends: &mut Ends<P>,
+    out: &mut K,
+    link: &mut L,
+) -> Result<(), Stop>
+    requires { IsLater (seen line) }
+    ensures plays { Plays (carrying_line (numbered_line number (seen line)))
+        (seen_by (⟦<L as Watched>⟧.at link.old ends.old) (⟦<K as Printed>⟧.at out.old))
+        (seen_by (⟦<L as Watched>⟧.at link.new ends.new) (⟦<K as Printed>⟧.at out.new)) result }
+    ensures tells { LineTells (⟦<L as Watched>⟧.at link.old ends.old)
+        (⟦<L as Watched>⟧.at link.new ends.new) (numbered_line number (seen line)) result }
+{
+    match line.closed_by() {
+        Some(place) => drop_panel(number, place, ends),
+        None => carry_open(alloc, number, line, ends, out, link),
+    }
+}
+
 /// Carries out the lines after the load, each as soon as it is read.
-fn run_lines<K: Sink, L: Link>(
+fn run_lines<P: Panel, K: Sink, L: Link>(
     alloc: Global,
     mut lines: Lines,
-    ends: &mut Ends,
+    ends: &mut Ends<P>,
     out: &mut K,
     link: &mut L,
 ) -> Result<(), Stop>
@@ -303,7 +368,9 @@ fn load_of(line: Line) -> Option<PageForm>
         | Line::ShowSheets
         | Line::ShowReplies
         | Line::ShowPauses
-        | Line::ShowStyles(_) => None,
+        | Line::ShowPanels
+        | Line::ShowStyles(_)
+        | Line::Close(_) => None,
     }
 }
 
@@ -323,9 +390,9 @@ fn read_load(alloc: Global, text: &[u8]) -> Result<PageForm, Stop>
 }
 
 /// Settles, and prints the closing part.
-fn close<K: Sink, L: Link>(
+fn close<P: Panel, K: Sink, L: Link>(
     alloc: Global,
-    ends: &mut Ends,
+    ends: &mut Ends<P>,
     out: &mut K,
     link: &mut L,
 ) -> Result<(), Stop>
@@ -342,8 +409,9 @@ fn close<K: Sink, L: Link>(
 }
 
 /// Carries out a script whose first line loads this page.
-fn run_loaded<K: Sink, L: Link>(
+fn run_loaded<P: Panel, K: Sink, L: Link>(
     alloc: Global,
+    panels: Vec<P>,
     form: PageForm,
     lines: Lines,
     out: &mut K,
@@ -354,9 +422,11 @@ fn run_loaded<K: Sink, L: Link>(
     requires few { length lines ≤ max_input }
     requires short { line_bytes lines ≤ max_input }
     ensures tells { RunTells result
-        (first_refused (came_styles (fold_since (L.up link.old) (L.down link.old) (L.up link.new) (L.down link.new)).fold) 2 lines.entry) }
+        (first_refused (came_styles (fold_since (L.up link.old) (L.down link.old) (L.up link.new) (L.down link.new)).fold)
+        (map Some (map P.kind_of panels.items)) 2 lines.entry) }
     ensures stops { L.honest link.old → IsLevel (L.up link.old) → IsLevel (L.down link.old)
-        → RunTells result (rest_refused (first_bad 2 lines.entry) (good_lines 2 lines.entry) (loaded_world (loaded_page form))) }
+        → RunTells result (rest_refused (first_bad 2 lines.entry) (good_lines 2 lines.entry)
+        (loaded_world (map P.kind_of panels.items) (loaded_page form))) }
     ensures honest { L.honest link.old → L.honest link.new }
     ensures cause { RunRose (two_counts (K.faults out.old) (K.faults out.new) (L.faults link.old) (L.faults link.new)) result }
     ensures refused { StopFolds result (fold_since (L.up link.old) (L.down link.old) (L.up link.new) (L.down link.new)) }
@@ -365,9 +435,9 @@ fn run_loaded<K: Sink, L: Link>(
     ensures replies { OnOk result (AnswersInOrder (L.up link.old) (L.down link.old) (L.up link.new) (L.down link.new)) }
     ensures took { L.honest link.old → IsLevel (L.up link.old) → IsLevel (L.down link.old)
         → RunTook result (K.taken out.old) (K.taken out.new)
-        (rest_text (first_bad 2 lines.entry) (good_lines 2 lines.entry) (loaded_world (loaded_page form))) }
+        (rest_text (first_bad 2 lines.entry) (good_lines 2 lines.entry) (loaded_world (map P.kind_of panels.items) (loaded_page form))) }
 {
-    let mut ends = Ends::new(alloc, form)?;
+    let mut ends = Ends::new(alloc, panels, form)?;
     match run_lines(alloc, lines, &mut ends, out, link) {
         Ok(()) => close(alloc, &mut ends, out, link),
         Err(stop) => Err(stop),
@@ -375,16 +445,19 @@ fn run_loaded<K: Sink, L: Link>(
 }
 
 /// Carries out a whole script.
-pub(crate) fn run_script<K: Sink, L: Link>(
+pub(crate) fn run_script<P: Panel, K: Sink, L: Link>(
     alloc: Global,
+    panels: Vec<P>,
     input: &[u8],
     out: &mut K,
     link: &mut L,
 ) -> Result<(), Stop>
     requires few { length input.now ≤ max_input }
     ensures tells { RunTells result
-        (script_refused (came_styles (fold_since (L.up link.old) (L.down link.old) (L.up link.new) (L.down link.new)).fold) input.now) }
-    ensures stops { L.honest link.old → IsLevel (L.up link.old) → IsLevel (L.down link.old) → RunTells result (report_refused input.now) }
+        (script_refused (came_styles (fold_since (L.up link.old) (L.down link.old) (L.up link.new) (L.down link.new)).fold)
+        (map P.kind_of panels.items) input.now) }
+    ensures stops { L.honest link.old → IsLevel (L.up link.old) → IsLevel (L.down link.old)
+        → RunTells result (report_refused (map P.kind_of panels.items) input.now) }
     ensures honest { L.honest link.old → L.honest link.new }
     ensures cause { RunRose (two_counts (K.faults out.old) (K.faults out.new) (L.faults link.old) (L.faults link.new)) result }
     ensures refused { StopFolds result (fold_since (L.up link.old) (L.down link.old) (L.up link.new) (L.down link.new)) }
@@ -392,7 +465,7 @@ pub(crate) fn run_script<K: Sink, L: Link>(
         (fold_since (L.up link.old) (L.down link.old) (L.up link.new) (L.down link.new))) }
     ensures replies { OnOk result (AnswersInOrder (L.up link.old) (L.down link.old) (L.up link.new) (L.down link.new)) }
     ensures took { L.honest link.old → IsLevel (L.up link.old) → IsLevel (L.down link.old)
-        → RunTook result (K.taken out.old) (K.taken out.new) (report input.now) }
+        → RunTook result (K.taken out.old) (K.taken out.new) (report (map P.kind_of panels.items) input.now) }
 {
     let mut lines = Lines::new(input);
     let Some(first) = next_line(&mut lines) else {
@@ -402,7 +475,7 @@ pub(crate) fn run_script<K: Sink, L: Link>(
         });
     };
     match read_load(alloc, first) {
-        Ok(form) => run_loaded(alloc, form, lines, out, link),
+        Ok(form) => run_loaded(alloc, panels, form, lines, out, link),
         Err(stop) => Err(stop),
     }
 }

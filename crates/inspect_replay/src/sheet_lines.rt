@@ -5,7 +5,7 @@ ghost use Rattle.front_mirror.specs.Outline.{quoted};
 ghost use Rattle.inspect_world.specs.SheetTexts.{text_shown, sheet_line, known_line, known_lines};
 
 use cdp_messages::SheetOrigin;
-use front_mirror::Front;
+use front_mirror::{Front, Panel};
 use serde_json::Value;
 use std::alloc::{AllocError, Global};
 
@@ -61,7 +61,12 @@ fn write_line(
 }
 
 /// Appends the line of the sheet that the front end knows at place `i`.
-fn write_known(alloc: Global, front: &Front, i: usize, out: &mut Vec<u8>) -> Result<(), AllocError>
+fn write_known<P: Panel>(
+    alloc: Global,
+    front: &Front<P>,
+    i: usize,
+    out: &mut Vec<u8>,
+) -> Result<(), AllocError>
     requires { i < length front.now.value.sheets }
     ensures { OnOk result (option_map (λ s. out.old.items ++ known_line s) (slice_get front.now.value.sheets i) ≡ Some out.new.items) }
 {
@@ -70,7 +75,7 @@ fn write_known(alloc: Global, front: &Front, i: usize, out: &mut Vec<u8>) -> Res
 }
 
 /// A heading and the lines of the sheets that the front end knows.
-pub(crate) fn sheets_text(alloc: Global, front: &Front) -> Result<Vec<u8>, AllocError>
+pub(crate) fn sheets_text<P: Panel>(alloc: Global, front: &Front<P>) -> Result<Vec<u8>, AllocError>
     ensures { IfOk result (λ text. text.items ≡ codes "# sheets" ++ 10 ∷ known_lines front.now.value.sheets) }
 {
     let mut text = Vec::from_slice(alloc, b"# sheets\n")?;

@@ -1,4 +1,4 @@
-ghost use Rattle.std.specs.Prelude.{◌≡◌, ◌++◌, ◌∷◌, map, codes, OnOk, OnErr, IfOk, option_map, is_some, None};
+ghost use Rattle.std.specs.Prelude.{◌≡◌, ◌++◌, ◌∷◌, map, codes, OnOk, OnErr, IfOk, option_map, is_some, None, false};
 ghost use Rattle.std.specs.Io.KnownBytes.{Appends};
 ghost use Rattle.pipe_frames.specs.Whole.{WrotePart};
 ghost use Rattle.front_mirror.specs.Outline.{outline_text, seen_line};
@@ -6,6 +6,7 @@ ghost use Rattle.node_tree.specs.Nodes.{alone};
 ghost use Rattle.inspect_world.specs.ActTexts.{edit_fault_name, sheet_fault_name, act_fault_name, refused_line, act_text};
 ghost use Rattle.inspect_world.specs.SheetTexts.{known_lines};
 ghost use Rattle.inspect_world.specs.ShownPauses.{seen_pause_lines};
+ghost use Rattle.inspect_world.specs.PanelTexts.{panels_text};
 ghost use Rattle.inspect_world.specs.StylesTexts.{styles_text};
 ghost use Rattle.replay_script.specs.Script.{numbered_or, styles_missing};
 ghost use Rattle.inspect_replay.specs.Answers.{RunTook, RunTells};
@@ -15,13 +16,14 @@ ghost use Rattle.inspect_replay.specs.Stops.{StopRose, RunRose, two_counts, Goes
 ghost use Rattle.inspect_replay.specs.Followed.{PrintedSome};
 
 use crate::page_lines::page_text;
+use crate::panel_lines::panels_text;
 use crate::pause_lines::pauses_text;
 use crate::sheet_lines::sheets_text;
 use crate::stop::Stop;
 use crate::style_lines::styles_text;
 use back_end::{ActFault, EditFault, SheetFault};
 use cdp_messages::Matched;
-use front_mirror::{Front, Kept, Mirror, SeenPause, write_outline};
+use front_mirror::{Front, Kept, Mirror, Panel, SeenPause, write_outline};
 use page_tree::Page;
 use pipe_frames::{OutErr, Sink, write_all};
 use replay_script::LineFault;
@@ -121,7 +123,11 @@ pub(crate) fn print_page<K: Sink>(alloc: Global, page: &Page, out: &mut K) -> Re
 }
 
 /// Writes the sheets that the front end knows.
-pub(crate) fn print_sheets<K: Sink>(alloc: Global, front: &Front, out: &mut K) -> Result<(), Stop>
+pub(crate) fn print_sheets<P: Panel, K: Sink>(
+    alloc: Global,
+    front: &Front<P>,
+    out: &mut K,
+) -> Result<(), Stop>
     ensures ok { OnOk result (Appends (K.taken out.old) (K.taken out.new)
         (codes "# sheets" ++ 10 ∷ known_lines front.now.value.sheets)) }
     ensures err { OnErr result (WrotePart (K.taken out.old) (K.taken out.new)
@@ -151,6 +157,28 @@ pub(crate) fn print_pauses<K: Sink>(
     ensures cause { StopRose (two_counts (K.faults out.old) (K.faults out.new) 0 0) result }
 {
     let text = pauses_text(alloc, pauses)?;
+    match write_all(out, &text) {
+        Ok(()) => Ok(()),
+        Err(OutErr::Failed) => Err(Stop::WriteFault),
+        Err(OutErr::Memory) => Err(Stop::Memory),
+    }
+}
+
+/// Writes what the panels show that stand open. The front end is not dead.
+pub(crate) fn print_panels<P: Panel, K: Sink>(
+    alloc: Global,
+    front: &Front<P>,
+    out: &mut K,
+) -> Result<(), Stop>
+    ensures ok { front.now.dead ≡ false → OnOk result (Appends (K.taken out.old) (K.taken out.new)
+        (codes "# panels" ++ 10 ∷ panels_text front.now.panels front.now.value.tree)) }
+    ensures err { front.now.dead ≡ false → OnErr result (WrotePart (K.taken out.old) (K.taken out.new)
+        (codes "# panels" ++ 10 ∷ panels_text front.now.panels front.now.value.tree)) }
+    ensures some { OnOk result (PrintedSome (K.taken out.old) (K.taken out.new)) }
+    ensures never { GoesWell result }
+    ensures cause { StopRose (two_counts (K.faults out.old) (K.faults out.new) 0 0) result }
+{
+    let text = panels_text(alloc, front)?;
     match write_all(out, &text) {
         Ok(()) => Ok(()),
         Err(OutErr::Failed) => Err(Stop::WriteFault),

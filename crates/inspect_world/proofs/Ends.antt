@@ -1,5 +1,6 @@
 -- The ends follow the run as bytes are sent and given.
-use Rattle.std.proofs.Common.{◌≡◌, refl, false, ℕ, ◌+◌, ◌-◌, ◌^◌, ◌<◌, ◌≤◌, List, [], ◌∷◌, ◌++◌, length, take, drop, Some, None, sym, ◌∙◌}
+use Rattle.std.proofs.Common.{◌≡◌, refl, false, ℕ, ◌+◌, ◌-◌, ◌^◌, ◌<◌, ◌≤◌, List, [], ◌∷◌, ◌++◌, length, take, drop, Option, Some, None}
+use Rattle.std.proofs.Common.{sym, ◌∙◌}
 use Rattle.std.proofs.Common.{ap, subst, append_assoc, append-nil, Result, Ok, Err, arith, length-append}
 use Rattle.std.proofs.lemmas.List.{take-append-drop}
 use Rattle.page_forms.specs.Pages.{LoadedPage, CanLoadPage}
@@ -8,6 +9,7 @@ use Rattle.pipe_frames.specs.Frames.{IsText, framed, frames_of, held_after}
 use Rattle.pipe_frames.proofs.FrameLemmas.{frames_of-one}
 use Rattle.cdp_messages.specs.Asked.{command_text}
 use Rattle.front_mirror.specs.declared.faults.FrontKind.{FrontKind}
+use Rattle.front_mirror.specs.declared.panels.PanelKind.{PanelKind}
 use Rattle.front_mirror.specs.Front as front
 use Rattle.front_mirror.specs.Front.{FrontValue, FrontState, first_state, first_value, take_frame, Folded, after_message, fetch_ask}
 use Rattle.front_mirror.specs.Front.{after_ask, after_fetch, after_take}
@@ -31,7 +33,7 @@ use Rattle.inspect_world.specs.FreshRuns.{front_fetcher}
 use Rattle.inspect_world.specs.Scripts.{sends, loaded_world}
 use Rattle.page_forms.specs.Texts.{PageHasTexts}
 use Rattle.replay_script.specs.Sound.{CanSend}
-use Rattle.inspect_world.specs.Held.{Ends, good_front, InWorld}
+use Rattle.inspect_world.specs.Held.{Ends, good_front, with_panels, InWorld}
 use Rattle.inspect_world.specs.Carried.{Carries}
 use Rattle.inspect_world.proofs.Frames.{sent-passed, awaited-passed, whole-sent, whole-given, rest-given}
 use Rattle.inspect_world.proofs.Worlds.{whole-after, fits-sent_up, fits-turned, fits-given_up, fits-answered_one}
@@ -78,7 +80,7 @@ world-waits up0 down0 up down w frames e in_world =
 -- what the front end makes of the bytes that come down in an honest run
 pub record Takes (front1 : FrontState) (w : World RunState) (n : ℕ) : Type 0 where
   pub value : FrontValue
-  pub front_is : front1 ≡ good_front value (held (passed n w.down)) (w.spent.asks + 1) w.spent.fetches
+  pub front_is : front1 ≡ with_panels w.told.panels (good_front value (held (passed n w.down)) (w.spent.asks + 1) w.spent.fetches)
   pub is_fold : folded take_frame (asks_joined join (first_value []) (frames_of (sent w.up)).whole) (frames_of (passed n
       w.down).given).whole
       ≡ Ok value
@@ -101,7 +103,8 @@ takes up0 down0 up down w frames e n piece in_world front_part =
       value = halves.middle;
       front_is =
           ap (λ state. after_take state piece) in_world.front_is
-          ∙ ap (λ bytes. after_take (good_front in_world.value (held w.down) (w.spent.asks + 1) w.spent.fetches) bytes) front_part
+          ∙ ap (λ bytes. after_take
+          (with_panels w.told.panels (good_front in_world.value (held w.down) (w.spent.asks + 1) w.spent.fetches)) bytes) front_part
           ∙ ap (λ (end : Folded). record {
             value = end.value;
             rest = held_after (held w.down) (take n w.down.flying);
@@ -109,8 +112,10 @@ takes up0 down0 up down w frames e n piece in_world front_part =
             next = w.spent.asks + 1;
             fetches = w.spent.fetches;
             dead = false;
+            panels = w.told.panels;
           }) taken
-          ∙ ap (λ rest. good_front halves.middle rest (w.spent.asks + 1) w.spent.fetches) (sym (rest-given n w.down));
+          ∙ ap (λ rest. with_panels w.told.panels (good_front halves.middle rest (w.spent.asks + 1) w.spent.fetches))
+          (sym (rest-given n w.down));
       is_fold =
           ap (folded take_frame start) (whole-given n w.down)
           ∙ folded-append take_frame start given (arriving n w.down)
@@ -161,7 +166,8 @@ never-refuses up0 down0 up down w frames e n piece in_world front_part =
 pub world-sent_up : (up0 down0 up down up1 : Pipe) (w : World RunState) (e : Ends) (text : List ℕ) (more : Spent → Spent)
     (front1 : FrontState) (there : ℕ)
     → (in_world : InWorld up0 down0 up down w (awaited w.up) e) → IsText text → IsNext w.spent text (more w.spent)
-    → front1 ≡ good_front (join in_world.value text) (held w.down) ((more w.spent).asks + 1) (more w.spent).fetches
+    → front1 ≡ with_panels w.told.panels
+    (good_front (join in_world.value text) (held w.down) ((more w.spent).asks + 1) (more w.spent).fetches)
     → up1.sent ≡ up.sent ++ framed text → up1.given ≡ up.given → there ≡ e.up_there + length (framed text)
     → InWorld up0 down0 up1 down (sent_up text more w) (awaited (sent_up text more w).up) (record e { front = front1; up_there = there })
 world-sent_up up0 down0 up down up1 w e text more front1 there in_world letters is_next front_is sent_is given_is left =
@@ -205,7 +211,7 @@ world-sent up0 down0 up down up1 w e a text there in_world can room text_is sent
     (IsText-sent (w.spent.asks + 1) a can (omega (arith, few)))
     (IsNext-sent w.spent a can few (edits-left w.spent (ask_edits a) room) small)
     (ap (λ front. after_ask front a.method) in_world.front_is
-    ∙ ap (λ value. good_front value (held w.down) (w.spent.asks + 1 + 1) w.spent.fetches) (sym joins))
+    ∙ ap (λ value. with_panels w.told.panels (good_front value (held w.down) (w.spent.asks + 1 + 1) w.spent.fetches)) (sym joins))
     (sent_is ∙ ap (λ bytes. up.sent ++ framed bytes) text_is) given_is (left ∙ ap (λ bytes. e.up_there + length (framed bytes)) text_is)
 
 -- a frame is sent that names no ask
@@ -216,7 +222,9 @@ pub world-raw : (up0 down0 up down up1 : Pipe) (w : World RunState) (e : Ends) (
 world-raw up0 down0 up down up1 w e text there in_world letters bare room sent_is given_is left =
     let joins : join in_world.value text ≡ in_world.value = ap (with_ask in_world.value) bare.no_ask in
     world-sent_up up0 down0 up down up1 w e text one_raw e.front there in_world letters (next_raw bare (frame-left w.spent 0 room))
-    (in_world.front_is ∙ ap (λ value. good_front value (held w.down) (w.spent.asks + 1) w.spent.fetches) (sym joins)) sent_is given_is left
+    (in_world.front_is
+    ∙ ap (λ value. with_panels w.told.panels (good_front value (held w.down) (w.spent.asks + 1) w.spent.fetches)) (sym joins))
+    sent_is given_is left
 
 -- the text of a sheet is fetched
 pub world-fetched : (up0 down0 up down up1 : Pipe) (w : World RunState) (e : Ends) (sheet there : ℕ)
@@ -234,7 +242,7 @@ world-fetched up0 down0 up down up1 w e sheet there in_world fits few sent_is gi
     world-sent_up up0 down0 up down up1 w e text one_fetch (after_fetch e.front sheet) there in_world
     (fetcher-text w.spent.fetches sheet few) (fetcher-next w.spent sheet few fits)
     (ap (λ front. after_fetch front sheet) in_world.front_is
-    ∙ ap (λ value. good_front value (held w.down) (w.spent.asks + 1) (w.spent.fetches + 1)) (sym joins))
+    ∙ ap (λ value. with_panels w.told.panels (good_front value (held w.down) (w.spent.asks + 1) (w.spent.fetches + 1))) (sym joins))
     sent_is given_is left
 
 -- bytes come up
@@ -342,7 +350,7 @@ world-ids up0 down0 up down w frames e in_world few_fetches =
 -- what was told says nothing of the link
 pub world-told : (up0 down0 up down : Pipe) (w : World RunState) (frames : List (List ℕ)) (e : Ends) (n : AlreadyTold)
     → InWorld up0 down0 up down w frames e
-    → InWorld up0 down0 up down (record w { told = n }) frames
+    → InWorld up0 down0 up down (record w { told = record w.told { so_far = n } }) frames
     (record e { told = n })
 world-told up0 down0 up down w frames e n in_world = record {
   up_is = in_world.up_is;
@@ -364,15 +372,43 @@ world-told up0 down0 up down w frames e n in_world = record {
   };
 }
 
+-- ---- the panels
+
+-- nor do the panels
+pub world-panels : (up0 down0 up down : Pipe) (w : World RunState) (frames : List (List ℕ)) (e : Ends) (panels : List (Option PanelKind))
+    → InWorld up0 down0 up down w frames e
+    → InWorld up0 down0 up down (record w { told = record w.told { panels = panels } }) frames
+    (record e { front = with_panels panels e.front })
+world-panels up0 down0 up down w frames e panels in_world = record {
+  up_is = in_world.up_is;
+  down_is = in_world.down_is;
+  stands = in_world.stands;
+  back_is = in_world.back_is;
+  value = in_world.value;
+  front_is = ap (with_panels panels) in_world.front_is;
+  is_fold = in_world.is_fold;
+  up_left = in_world.up_left;
+  down_left = in_world.down_left;
+  told_is = in_world.told_is;
+  fits = record {
+    front = in_world.fits.front;
+    is_fold = in_world.fits.is_fold;
+    fit = in_world.fits.fit;
+    up_whole = in_world.fits.up_whole;
+    down_whole = in_world.fits.down_whole;
+  };
+}
+
 -- ---- the start
 
 -- a page was loaded, and nothing was sent since the pipes had nothing left to give
-pub world-first : (up0 down0 : Pipe) (page : LoadedPage) (seat : Seat) (side : PageSide) → CanLoadPage page → PageHasTexts page
+pub world-first : (up0 down0 : Pipe) (kinds : List PanelKind) (page : LoadedPage) (seat : Seat) (side : PageSide) → CanLoadPage page
+    → PageHasTexts page
     → up0.given ≡ up0.sent → down0.given ≡ down0.sent → StandsFor seat side (loaded_state page)
-    → InWorld up0 down0 up0 down0 (loaded_world page) []
-    (record { seat = seat; side = side; back_rest = []; front = first_state; up_there = 0; down_there = 0; told = nothing_told })
+    → InWorld up0 down0 up0 down0 (loaded_world kinds page) []
+    (record { seat = seat; side = side; back_rest = []; front = first_state kinds; up_there = 0; down_there = 0; told = nothing_told })
 unfolding frames_of
-world-first up0 down0 page seat side can texts up_level down_level stands = record {
+world-first up0 down0 kinds page seat side can texts up_level down_level stands = record {
   up_is = carries-start up0 up_level;
   down_is = carries-start down0 down_level;
   stands = stands;
@@ -383,5 +419,5 @@ world-first up0 down0 page seat side can texts up_level down_level stands = reco
   up_left = refl;
   down_left = refl;
   told_is = refl;
-  fits = fits-loaded page can texts;
+  fits = fits-loaded kinds page can texts;
 }

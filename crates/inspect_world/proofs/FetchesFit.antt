@@ -36,7 +36,8 @@ use Rattle.front_mirror.specs.Laws.{Has}
 use Rattle.back_end.specs.States.{State, sheets_shown, view_of}
 use Rattle.back_end.specs.Laws.{HasRoom}
 use Rattle.inspect_world.specs.Stream.{sent}
-use Rattle.inspect_world.specs.World.{World, AlreadyTold, Spent, settled}
+use Rattle.front_mirror.specs.declared.panels.PanelKind.{PanelKind}
+use Rattle.inspect_world.specs.World.{World, Audience, Spent, settled}
 use Rattle.cdp_json.specs.Lookups.{then_ok}
 use Rattle.inspect_world.specs.Fold.{folded}
 use Rattle.inspect_world.specs.Fetches.{front_in, fetched, fetched_if, all_fetched, stale_in, IsDue, GivesText, FetchLaws}
@@ -255,16 +256,16 @@ refreshed-all = refreshed-shows front_fetcher IsPlainFrame fetch_laws plain-sent
 
 -- after any lines of an input, a settle shows the texts of the page
 pub inputs-show-texts : InputsShowTexts
-inputs-show-texts input page lines is few n =
+inputs-show-texts input page lines is few kinds n =
     let script : Script page lines (length input) = input-script input page lines is in
     let cost : lines_cost lines ≤ length input = script.rest.few in
-    let w = after_lines (take n lines) (loaded_world page) in
-    let v = fresh_lines front_fetcher (take n lines) (loaded_world page) in
-    let start : Together IsPlainFrame (lines_cost lines) (loaded_world page) (loaded_world page) =
-    together-loaded front_fetcher IsPlainFrame fetch_laws plain-sent plain-bare page (lines_cost lines) script.can script.texts
+    let w = after_lines (take n lines) (loaded_world kinds page) in
+    let v = fresh_lines front_fetcher (take n lines) (loaded_world kinds page) in
+    let start : Together IsPlainFrame (lines_cost lines) (loaded_world kinds page) (loaded_world kinds page) =
+    together-loaded front_fetcher IsPlainFrame fetch_laws plain-sent plain-bare kinds page (lines_cost lines) script.can script.texts
     (omega (arith, cost, few)) in
     let both : Together IsPlainFrame 0 w v =
-    lines-together front_fetcher IsPlainFrame fetch_laws plain-sent plain-bare n lines (loaded_world page) (loaded_world page)
+    lines-together front_fetcher IsPlainFrame fetch_laws plain-sent plain-bare n lines (loaded_world kinds page) (loaded_world kinds page)
     script.rest.later start in
     let shown : ShowsFresh front_fetcher (settled run_step w) (refreshes front_fetcher v) = refreshed-all w v both in
     record {
@@ -278,11 +279,11 @@ pub play-line : (line : LineForm) (k : ℕ) (w v : World RunState) → IsLater l
     → Together IsPlainFrame k (after_line line w) (fresh_line front_fetcher line v)
 play-line = together-line front_fetcher IsPlainFrame fetch_laws plain-sent plain-bare
 
-pub play-loaded : (page : LoadedPage) (k : ℕ) → CanLoadPage page → PageHasTexts page → k ≤ most_bytes
-    → Together IsPlainFrame k (loaded_world page) (loaded_world page)
+pub play-loaded : (kinds : List PanelKind) (page : LoadedPage) (k : ℕ) → CanLoadPage page → PageHasTexts page → k ≤ most_bytes
+    → Together IsPlainFrame k (loaded_world kinds page) (loaded_world kinds page)
 play-loaded = together-loaded front_fetcher IsPlainFrame fetch_laws plain-sent plain-bare
 
-pub play-told : (k : ℕ) (w v : World RunState) (n : AlreadyTold) → Together IsPlainFrame k w v
+pub play-told : (k : ℕ) (w v : World RunState) (n : Audience) → Together IsPlainFrame k w v
     → Together IsPlainFrame k w (record v { told = n })
 play-told = together-told front_fetcher IsPlainFrame fetch_laws plain-sent plain-bare
 

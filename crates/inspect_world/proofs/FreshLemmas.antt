@@ -8,7 +8,7 @@ use Rattle.pipe_frames.specs.Frames.{IsText, frames_of}
 use Rattle.cdp_messages.specs.Asked.{command_text}
 use Rattle.replay_script.specs.Forms as forms
 use Rattle.replay_script.specs.Forms.{AskForm, LineForm, load, ask, up, down, settle, show_front, show_page, show_sheets, show_replies}
-use Rattle.replay_script.specs.Forms.{show_pauses, show_styles}
+use Rattle.replay_script.specs.Forms.{show_pauses, show_panels, show_styles, close}
 use Rattle.front_mirror.specs.Front.{FrontValue, first_value, take_frame}
 use Rattle.front_mirror.specs.Laws.{Has}
 use Rattle.back_end.specs.States.{view_of}
@@ -16,7 +16,8 @@ use Rattle.back_end.specs.Steps.{Turn, acts, loads}
 use Rattle.inspect_world.specs.RunStates.{RunState, run_start, run_step, run_turn}
 use Rattle.inspect_world.proofs.Growing.{pauses-of}
 use Rattle.inspect_world.specs.Stream.{sent}
-use Rattle.inspect_world.specs.World.{World, AlreadyTold, one_ask, sent_up, turned, settled}
+use Rattle.front_mirror.specs.declared.panels.PanelKind.{PanelKind}
+use Rattle.inspect_world.specs.World.{World, Audience, one_ask, sent_up, turned, settled}
 use Rattle.inspect_world.specs.Costs.{ask_edits, least_line, line_cost, lines_cost}
 use Rattle.inspect_world.specs.Fold.{folded, asks_joined}
 use Rattle.inspect_world.specs.Fetches.{Fetcher, front_in, FetchLaws}
@@ -109,7 +110,7 @@ module _ (fetcher : Fetcher FrontValue) (IsPlain : List ℕ → Type 0)
       (room-fetches v least_line left) both
 
   -- what was told says nothing of the streams
-  both-told : (w v : World RunState) (told told1 : AlreadyTold) → BothRuns w v → BothRuns (telling told w) (telling told1 v)
+  both-told : (w v : World RunState) (told told1 : Audience) → BothRuns w v → BothRuns (telling told w) (telling told1 v)
   both-told w v told told1 both = record {
     fits = fits-told w _ both.fits;
     fits_fresh = fits-told v _ both.fits_fresh;
@@ -131,7 +132,7 @@ module _ (fetcher : Fetcher FrontValue) (IsPlain : List ℕ → Type 0)
   }
 
   -- in the run with fetches it may be anything
-  pub together-told : (k : ℕ) (w v : World RunState) (n : AlreadyTold) → Together IsPlain k w v
+  pub together-told : (k : ℕ) (w v : World RunState) (n : Audience) → Together IsPlain k w v
       → Together IsPlain k w (record v { told = n })
   together-told k w v n both = record {
     runs = record {
@@ -174,7 +175,9 @@ module _ (fetcher : Fetcher FrontValue) (IsPlain : List ℕ → Type 0)
   both-line show_sheets w v later left both = both-settled w v left both
   both-line show_replies w v later left both = both-told (settled run_step w) (refreshes fetcher v) _ _ (both-settled w v left both)
   both-line show_pauses w v later left both = both-told (settled run_step w) (refreshes fetcher v) _ _ (both-settled w v left both)
+  both-line show_panels w v later left both = both-settled w v left both
   both-line (show_styles i) w v later left both = both-settled w v left both
+  both-line (close i) w v later left both = both-told w v _ _ both
 
   -- ---- what a line spends
 
@@ -202,7 +205,9 @@ module _ (fetcher : Fetcher FrontValue) (IsPlain : List ℕ → Type 0)
   line-spends show_sheets w v one both = settle-spends w v both one
   line-spends show_replies w v one both = settle-spends w v both one
   line-spends show_pauses w v one both = settle-spends w v both one
+  line-spends show_panels w v one both = settle-spends w v both one
   line-spends (show_styles i) w v one both = settle-spends w v both one
+  line-spends (close i) w v one both = spends-nothing v.spent v.spent refl refl refl refl (omega arith)
 
   -- both runs are carried on by a line
   pub together-line : (line : LineForm) (k : ℕ) (w v : World RunState) → IsLater line → Together IsPlain (k + line_cost line) w v
@@ -234,25 +239,26 @@ module _ (fetcher : Fetcher FrontValue) (IsPlain : List ℕ → Type 0)
       (together-line line (lines_cost lines) w v later.0 both)
 
   -- both runs begin with the load
-  pub together-loaded : (page : LoadedPage) (k : ℕ) → CanLoadPage page → PageHasTexts page → k ≤ most_bytes
-      → Together IsPlain k (loaded_world page) (loaded_world page)
-  together-loaded page k can texts few = record {
+  pub together-loaded : (kinds : List PanelKind) (page : LoadedPage) (k : ℕ) → CanLoadPage page → PageHasTexts page → k ≤ most_bytes
+      → Together IsPlain k (loaded_world kinds page) (loaded_world kinds page)
+  together-loaded kinds page k can texts few = record {
     runs =
         together-first replay IsNext IsNextTurn IsFit world_laws fetcher unstyled most_sheets most_fetches fetching IsPlain
-        (first_value []) (run_start page)
+        kinds (first_value []) (run_start page)
         (fit-first page can texts);
-    left = left-first page k few;
+    left = left-first kinds page k few;
   }
 
   pub fresh-lines-fit : FreshLinesFit fetcher IsPlain
-  fresh-lines-fit page lines can texts later few n =
-      both-lines n lines (loaded_world page) (loaded_world page) later (together-loaded page (lines_cost lines) can texts few)
+  fresh-lines-fit page lines can texts later few kinds n =
+      both-lines n lines (loaded_world kinds page) (loaded_world kinds page) later
+      (together-loaded kinds page (lines_cost lines) can texts few)
 
   pub fresh-inputs-fit : FreshInputsFit fetcher IsPlain
-  fresh-inputs-fit input page lines is few n =
+  fresh-inputs-fit input page lines is few kinds n =
       let script : Script page lines (length input) = input-script input page lines is in
       let a : lines_cost lines ≤ length input = script.rest.few in
-      fresh-lines-fit page lines script.can script.texts script.rest.later (omega (arith, a, few)) n
+      fresh-lines-fit page lines script.can script.texts script.rest.later (omega (arith, a, few)) kinds n
 
   -- ---- after a settle
 

@@ -24,7 +24,7 @@ use Rattle.replay_script.specs.Lines.{lines_of}
 use Rattle.replay_script.specs.Kinds.{line_kind_name, all_line_kinds, sole_member, sole, styles_in, kind_said}
 use Rattle.replay_script.specs.Forms as forms
 use Rattle.replay_script.specs.Forms.{LineForm, load, ask, up, down, settle, show_front, show_page, show_sheets, show_replies, show_pauses}
-use Rattle.replay_script.specs.Forms.{show_styles, ask_in, show_from, form_by, form_of, line_form}
+use Rattle.replay_script.specs.Forms.{show_panels, show_styles, close, ask_in, show_from, form_by, form_of, line_form}
 use Rattle.std.specs.Option.{option_map_or}
 use Rattle.replay_script.specs.Faults.{is_no_frame, fault_of_data, line_fault}
 use Rattle.replay_script.specs.Script.{script_forms, good_lines}
@@ -104,15 +104,16 @@ later_raw v form clear is =
     let p = map_some forms.raw (as_str v) form is in
     subst IsLater p.2 (raw_is_frame p.0 (sym (ap (λ o. option_map_or is_no_frame o false) p.1) ∙ clear.frame))
 
-later_show : (b c s d p : Bool) (form : LineForm)
+later_show : (b c s d p q : Bool) (form : LineForm)
     → (if b then Some show_front else if c then Some show_page else if s then Some show_sheets else if d then Some show_replies else if p
-    then Some show_pauses else None) ≡ Some form → IsLater form
-later_show true c s d p form is = let same : show_front ≡ form = cc is in subst IsLater same tt
-later_show false true s d p form is = let same : show_page ≡ form = cc is in subst IsLater same tt
-later_show false false true d p form is = let same : show_sheets ≡ form = cc is in subst IsLater same tt
-later_show false false false true p form is = let same : show_replies ≡ form = cc is in subst IsLater same tt
-later_show false false false false true form is = let same : show_pauses ≡ form = cc is in subst IsLater same tt
-later_show false false false false false form is = absurd cc
+    then Some show_pauses else if q then Some show_panels else None) ≡ Some form → IsLater form
+later_show true c s d p q form is = let same : show_front ≡ form = cc is in subst IsLater same tt
+later_show false true s d p q form is = let same : show_page ≡ form = cc is in subst IsLater same tt
+later_show false false true d p q form is = let same : show_sheets ≡ form = cc is in subst IsLater same tt
+later_show false false false true p q form is = let same : show_replies ≡ form = cc is in subst IsLater same tt
+later_show false false false false true q form is = let same : show_pauses ≡ form = cc is in subst IsLater same tt
+later_show false false false false false true form is = let same : show_panels ≡ form = cc is in subst IsLater same tt
+later_show false false false false false false form is = absurd cc
 
 later_styles : (v : Data) (form : LineForm) → form_by kind.Styles v ≡ Some form → IsLater form
 later_styles v form is = let p = map_some show_styles (as_whole v) form is in subst IsLater p.2 tt
@@ -128,8 +129,8 @@ later_by kind.Settle v form clear read is = let p = map_some (λ _. settle) (as_
 later_by kind.Show v form clear read is =
     let p = and_then_some show_from (as_str v) form is in
     later_show (bytes_eq p.0 (codes "front")) (bytes_eq p.0 (codes "page")) (bytes_eq p.0 (codes "sheets"))
-    (bytes_eq p.0 (codes "replies")) (bytes_eq p.0 (codes "pauses")) form p.2
-later_by kind.Close v form clear read is = absurd cc
+    (bytes_eq p.0 (codes "replies")) (bytes_eq p.0 (codes "pauses")) (bytes_eq p.0 (codes "panels")) form p.2
+later_by kind.Close v form clear read is = let p = map_some close (as_whole v) form is in subst IsLater p.2 tt
 later_by kind.Styles v form clear read is = later_styles v form is
 
 -- a line that is read: plain but for floats, UTF-8, and not too deep

@@ -18,8 +18,8 @@ use Rattle.replay_script.specs.declared.line_kinds.LineKind.TheVariants as kind
 use Rattle.replay_script.specs.Kinds.{line_kind_name, all_line_kinds, sole, styles_in, kind_said}
 use Rattle.replay_script.specs.Forms as forms
 use Rattle.replay_script.specs.Forms.{AskForm, AskParts, LineForm, load, ask, up, down, settle, show_front, show_page, show_sheets}
-use Rattle.replay_script.specs.Forms.{show_replies, show_pauses, show_styles, ask_kind, ask_from, ask_in, show_from, form_by, form_of}
-use Rattle.replay_script.specs.Forms.{line_form}
+use Rattle.replay_script.specs.Forms.{show_replies, show_pauses, show_panels, show_styles, close, ask_kind, ask_from, ask_in, show_from}
+use Rattle.replay_script.specs.Forms.{form_by, form_of, line_form}
 use Rattle.back_end.proofs.FrameSizes.{data_size, read-long}
 use Rattle.back_end.proofs.EditSizes.{params_size, edits-params}
 use Rattle.inspect_world.specs.Costs.{edits_commanded, ask_edits, line_cost}
@@ -77,17 +77,22 @@ sole-size (object (member k d (member l e ms))) p h = absurd cc
 least : (form made : LineForm) (n : ℕ) → line_cost made ≤ 4 → 4 ≤ n → made ≡ form → line_cost form ≤ n
 least form made n low most is = subst (λ f. line_cost f ≤ n) is (omega (arith, low, most))
 
-show-cost : (b c s d p : Bool) (form : LineForm) (n : ℕ) → 4 ≤ n
+show-cost : (b c s d p q : Bool) (form : LineForm) (n : ℕ) → 4 ≤ n
     → (if b then Some show_front else if c then Some show_page else if s then Some show_sheets else if d then Some show_replies else if p
-    then Some show_pauses else None) ≡ Some form → line_cost form ≤ n
-show-cost true c s d p form n most is = let same : show_front ≡ form = cc is in least form show_front n (omega arith) most same
-show-cost false true s d p form n most is = let same : show_page ≡ form = cc is in least form show_page n (omega arith) most same
-show-cost false false true d p form n most is = let same : show_sheets ≡ form = cc is in least form show_sheets n (omega arith) most same
-show-cost false false false true p form n most is = let same : show_replies
-    ≡ form = cc is in least form show_replies n (omega arith) most same
-show-cost false false false false true form n most is = let same : show_pauses
-    ≡ form = cc is in least form show_pauses n (omega arith) most same
-show-cost false false false false false form n most is = absurd cc
+    then Some show_pauses else if q then Some show_panels else None) ≡ Some form → line_cost form ≤ n
+show-cost true c s d p q form n most is =
+    let same : show_front ≡ form = cc is in least form show_front n (omega arith) most same
+show-cost false true s d p q form n most is =
+    let same : show_page ≡ form = cc is in least form show_page n (omega arith) most same
+show-cost false false true d p q form n most is =
+    let same : show_sheets ≡ form = cc is in least form show_sheets n (omega arith) most same
+show-cost false false false true p q form n most is =
+    let same : show_replies ≡ form = cc is in least form show_replies n (omega arith) most same
+show-cost false false false false true q form n most is =
+    let same : show_pauses ≡ form = cc is in least form show_pauses n (omega arith) most same
+show-cost false false false false false true form n most is =
+    let same : show_panels ≡ form = cc is in least form show_panels n (omega arith) most same
+show-cost false false false false false false form n most is = absurd cc
 
 -- what a line costs, by its kind and its value
 kind-cost : (k : LineKind) (v : Data) (form : LineForm) (n : ℕ) → 4 + data_size v ≤ n → form_by k v ≡ Some form → line_cost form ≤ n
@@ -111,8 +116,9 @@ kind-cost kind.Settle v form n size is = let p = map_some (λ _. settle) (as_tru
 kind-cost kind.Show v form n size is =
     let p = and_then_some show_from (as_str v) form is in
     show-cost (bytes_eq p.0 (codes "front")) (bytes_eq p.0 (codes "page")) (bytes_eq p.0 (codes "sheets")) (bytes_eq p.0 (codes "replies"))
-    (bytes_eq p.0 (codes "pauses")) form n (omega (arith, size)) p.2
-kind-cost kind.Close v form n size is = absurd cc
+    (bytes_eq p.0 (codes "pauses")) (bytes_eq p.0 (codes "panels")) form n (omega (arith, size)) p.2
+kind-cost kind.Close v form n size is = let p = map_some close (as_whole v) form is in least form (close p.0) n (omega arith)
+    (omega (arith, size)) p.2
 kind-cost kind.Styles v form n size is = let p = map_some show_styles (as_whole v) form is in least form (show_styles p.0) n (omega arith)
     (omega (arith, size)) p.2
 

@@ -1,6 +1,6 @@
 -- The ends follow every link, whatever bytes it gives.
 use Rattle.std.proofs.Common.{◌≡◌, is_some, refl, true, false, ℕ, ◌+◌, ◌*◌, ◌^◌, ◌<◌, ◌≤◌, List, [], ◌∷◌, ◌++◌, length, map, drop}
-use Rattle.std.proofs.Common.{Some, None, sym, ◌∙◌, ap, subst, append_assoc, append-nil, length-append, Ok, Err, arith}
+use Rattle.std.proofs.Common.{Option, Some, None, sym, ◌∙◌, ap, subst, append_assoc, append-nil, length-append, Ok, Err, arith}
 use Rattle.std.specs.List.{All}
 use Rattle.std.proofs.lemmas.List.Elements.{All-nil, All-weaker}
 use Rattle.std.specs.Option.{option_to_list}
@@ -12,6 +12,7 @@ use Rattle.pipe_frames.specs.Frames.{IsText, Frames, framed, frames_of, frames_f
 use Rattle.pipe_frames.proofs.FrameLemmas.{frames_of-append, frames_of-one}
 use Rattle.cdp_messages.specs.Asked.{command_text}
 use Rattle.front_mirror.specs.declared.faults.FrontFault.{FrontFault}
+use Rattle.front_mirror.specs.declared.panels.PanelKind.{PanelKind}
 use Rattle.front_mirror.specs.Front as front
 use Rattle.front_mirror.specs.Front.{FrontValue, FrontState, Folded, first_value, first_state, fold, fold_frames, fold_result}
 use Rattle.front_mirror.specs.Front.{fetch_ask, after_ask, after_fetch, after_take}
@@ -26,7 +27,7 @@ use Rattle.page_tree.specs.Forms.{max_nodes}
 use Rattle.page_forms.specs.Sheets.{max_sheets}
 use Rattle.back_end.specs.Seats.{StandsFor, HasRoomLeft}
 use Rattle.inspect_world.specs.Fits.{ask_of_frame, ask_with, asks_among, most_bytes}
-use Rattle.inspect_world.specs.Held.{Ends, good_front}
+use Rattle.inspect_world.specs.Held.{Ends, good_front, with_panels}
 use Rattle.inspect_world.specs.Links.{fold_of, knows_styles, Happening, came, made, happening_step, happened, frames_among, made_among}
 use Rattle.inspect_world.specs.Links.{commands_among, bytes_among, Drew, Started, run_started, one_line_more, PipeGoesOn}
 use Rattle.inspect_world.specs.Links.{Follows}
@@ -54,15 +55,15 @@ use Rattle.inspect_world.proofs.StepSends.{goes-start, goes-put, goes-get, goes-
 -- ---- the start
 
 -- a page was loaded, and both ends are new
-pub follows-start : (up0 down0 : Pipe) (state0 : Started) (seat : Seat) (side : PageSide)
+pub follows-start : (up0 down0 : Pipe) (kinds : List PanelKind) (state0 : Started) (seat : Seat) (side : PageSide)
     → length up0.given ≤ length up0.sent → length down0.given ≤ length down0.sent → state0.shown ≡ []
-    → StandsFor seat side state0.state
+    → state0.panels ≡ map Some kinds → StandsFor seat side state0.state
     → state0.lines ≤ most_bytes → Drew state0.state 0 0 0 → state0.state.side.page.next ≤ (0 + 1) * (max_nodes + 1)
     → state0.state.side.next_sheet ≤ (0 + 1) * max_sheets + 1 → state0.state.client.searches.given ≤ 0
     → Follows state0 up0 down0 up0 down0 []
-    (record { seat = seat; side = side; back_rest = []; front = first_state; up_there = 0; down_there = 0; told = nothing_told })
+    (record { seat = seat; side = side; back_rest = []; front = first_state kinds; up_there = 0; down_there = 0; told = nothing_told })
 unfolding frames_of
-follows-start up0 down0 state0 seat side up_within down_within none stands few drew serials numbers searches = record {
+follows-start up0 down0 kinds state0 seat side up_within down_within none panels stands few drew serials numbers searches = record {
   sent_up = [];
   given_up = [];
   sent_down = [];
@@ -71,7 +72,7 @@ follows-start up0 down0 state0 seat side up_within down_within none stands few d
   down_is = goes-start down0 down_within;
   up_whole = refl;
   value = first_value [];
-  front_is = refl;
+  front_is = ap (λ ps. with_panels ps (good_front (first_value []) [] 1 0)) (sym panels);
   is_fold = refl;
   styled = subst (All (λ ask. knows_styles (first_value []) ask ≡ true)) (sym none)
       (All-nil (λ ask. knows_styles (first_value []) ask ≡ true));
@@ -131,7 +132,7 @@ follows-fewer state0 up0 down0 up down waiting e f = record {
 -- more matched styles were shown, which are there
 pub follows-showing : (state0 : Started) (shown : List ℕ) (up0 down0 up down : Pipe) (waiting : List (List ℕ)) (e : Ends)
     → (f : Follows state0 up0 down0 up down waiting e) → All (λ ask. knows_styles f.value ask ≡ true) shown
-    → Follows (run_started state0.state state0.lines shown) up0 down0 up down waiting e
+    → Follows (run_started state0.state state0.lines shown state0.panels) up0 down0 up down waiting e
 follows-showing state0 shown up0 down0 up down waiting e f all = record {
   sent_up = f.sent_up;
   given_up = f.given_up;
@@ -177,7 +178,7 @@ module _ (state0 : Started) (up0 down0 : Pipe) where
   follows-sent : (up down up1 : Pipe) (waiting : List (List ℕ)) (e : Ends) (text : List ℕ) (value1 : FrontValue) (front1 : FrontState)
       (there : ℕ)
       → (f : Follows state0 up0 down0 up down waiting e) → there ≡ e.up_there + length (framed text) → IsText text
-      → front1 ≡ good_front value1 (frames_of f.given_down).rest front1.next front1.fetches
+      → front1 ≡ with_panels state0.panels (good_front value1 (frames_of f.given_down).rest front1.next front1.fetches)
       → front1.next + front1.fetches ≤ e.front.next + e.front.fetches + 1 → value1.matched ≡ f.value.matched
       → fold (asks_among (frames_of f.sent_up).whole ++ option_to_list (ask_of_frame text)) f.given_down ≡ Ok value1
       → up1.sent ≡ up.sent ++ framed text → up1.given ≡ up.given
@@ -335,7 +336,8 @@ module _ (state0 : Started) (up0 down0 : Pipe) where
   follows-step : (lines : ℕ) (up down down1 : Pipe) (h : Happening) (waits waiting : List (List ℕ)) (e : Ends) (seat : Seat)
       (side : PageSide) (out : List ℕ) (there : ℕ)
       → made_among (h ∷ []) + state0.lines ≤ lines
-      → (f : Follows (run_started state0.state lines state0.shown) up0 down0 up down waits e) → waits ≡ frames_among (h ∷ []) ++ waiting
+      → (f : Follows (run_started state0.state lines state0.shown state0.panels) up0 down0 up down waits e) → waits ≡ frames_among
+      (h ∷ []) ++ waiting
       → there ≡ e.down_there + length out
       → Sends f.state h → StandsFor seat side (happening_step h f.state).state
       → out ≡ (happening_step h f.state).sent → down1.sent ≡ down.sent ++ out → down1.given ≡ down.given
@@ -447,6 +449,7 @@ module _ (state0 : Started) (up0 down0 : Pipe) where
         next = e.front.next;
         fetches = e.front.fetches;
         dead = false;
+        panels = state0.panels;
       }
   front-down up down waiting e piece f = ap (λ s. after_take s piece) f.front_is
 
@@ -479,11 +482,15 @@ module _ (state0 : Started) (up0 down0 : Pipe) where
               next = e.front.next;
               fetches = e.front.fetches;
               dead = false;
+              panels = state0.panels;
             }) none
-            ∙ ap (λ n. good_front end.value (held_after (frames_of f.given_down).rest piece) n e.front.fetches) (sym next)
-            ∙ ap (λ n. good_front end.value (held_after (frames_of f.given_down).rest piece) (after_take e.front piece).next n)
+            ∙ ap (λ n. with_panels state0.panels
+            (good_front end.value (held_after (frames_of f.given_down).rest piece) n e.front.fetches)) (sym next)
+            ∙ ap (λ n. with_panels state0.panels
+            (good_front end.value (held_after (frames_of f.given_down).rest piece) (after_take e.front piece).next n))
             (sym fetches)
-            ∙ ap (λ rest. good_front end.value rest (after_take e.front piece).next (after_take e.front piece).fetches)
+            ∙ ap (λ rest. with_panels state0.panels
+            (good_front end.value rest (after_take e.front piece).next (after_take e.front piece).fetches))
             (sym (ap (λ (fs : Frames). fs.rest) (frames_of-append f.given_down piece)));
         is_fold = fold-down up down waiting e piece f ∙ ap (fold_result end.value) none;
         styled = stay-all f.value end.value (frames_from (frames_of f.given_down).rest piece) state0.shown
@@ -636,6 +643,43 @@ module _ (state0 : Started) (up0 down0 : Pipe) where
     up_whole = f.up_whole;
     value = f.value;
     front_is = f.front_is;
+    is_fold = f.is_fold;
+    styled = f.styled;
+    events = f.events;
+    frames_are = f.frames_are;
+    back_is = f.back_is;
+    state = f.state;
+    side_is = f.side_is;
+    sent_is = f.sent_is;
+    replies_are = f.replies_are;
+    down_whole = f.down_whole;
+    stands = f.stands;
+    up_left = f.up_left;
+    down_left = f.down_left;
+    few_asked = f.few_asked;
+    few_made = f.few_made;
+    drew = f.drew;
+    few_serials = f.few_serials;
+    few_numbers = f.few_numbers;
+    few_searches = f.few_searches;
+  }
+
+  -- ---- the panels
+
+  -- nor do the panels
+  pub follows-panels : (up down : Pipe) (waiting : List (List ℕ)) (e : Ends) (panels : List (Option PanelKind))
+      → Follows state0 up0 down0 up down waiting e
+      → Follows (record state0 { panels = panels }) up0 down0 up down waiting (record e { front = with_panels panels e.front })
+  follows-panels up down waiting e panels f = record {
+    sent_up = f.sent_up;
+    given_up = f.given_up;
+    sent_down = f.sent_down;
+    given_down = f.given_down;
+    up_is = f.up_is;
+    down_is = f.down_is;
+    up_whole = f.up_whole;
+    value = f.value;
+    front_is = ap (with_panels panels) f.front_is;
     is_fold = f.is_fold;
     styled = f.styled;
     events = f.events;

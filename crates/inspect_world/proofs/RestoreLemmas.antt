@@ -6,5 +6,6 @@ use Rattle.inspect_world.proofs.Inputs.{inputs-fit}
 use Rattle.std.specs.Prelude.{take}
 
 pub restores-in-runs : UndoRestoresInRuns
-restores-in-runs input page lines is few n =
-    undo-restores (after_lines (take n lines) (loaded_world page)).state.back (inputs-fit input page lines is few n).fit.is_state
+restores-in-runs input page lines is few kinds n =
+    undo-restores (after_lines (take n lines) (loaded_world kinds page)).state.back
+    (inputs-fit input page lines is few kinds n).fit.is_state

@@ -19,11 +19,12 @@ use Rattle.dom_agent.specs.Laws.{RowsHaveUtf8}
 use Rattle.front_mirror.specs.Front.{first_value, take_frame}
 use Rattle.replay_script.specs.Forms as forms
 use Rattle.replay_script.specs.Forms.{AskForm, LineForm, load, ask, up, down, settle, show_front, show_page, show_sheets, show_replies}
-use Rattle.replay_script.specs.Forms.{show_pauses, show_styles}
+use Rattle.replay_script.specs.Forms.{show_pauses, show_panels, show_styles, close}
 use Rattle.pipe_frames.specs.Frames.{IsText, frames_of}
 use Rattle.inspect_world.specs.Stream.{sent, held, awaited}
 use Rattle.inspect_world.specs.Fold.{folded, asks_joined}
-use Rattle.inspect_world.specs.World.{World, AlreadyTold, Spent, nothing_spent, one_raw, raw, turned, delivered_up, settled}
+use Rattle.front_mirror.specs.declared.panels.PanelKind.{PanelKind}
+use Rattle.inspect_world.specs.World.{World, Audience, Spent, nothing_spent, one_raw, raw, turned, delivered_up, settled}
 use Rattle.back_end.proofs.WatchedLemmas.{none-set}
 use Rattle.back_end.specs.States.{page_nodes, loaded_state, HoldsNow, IsState}
 use Rattle.back_end.specs.Steps.{Turn, acts, loads}
@@ -124,9 +125,9 @@ fit-first page can texts = record {
   searches = omega arith;
 }
 
-pub fits-loaded : (page : LoadedPage) → CanLoadPage page → PageHasTexts page → Fits (loaded_world page)
-fits-loaded page can texts =
-    fits-first replay IsNext IsNextTurn IsFit world_laws (first_value []) (run_start page) (fit-first page can texts)
+pub fits-loaded : (kinds : List PanelKind) (page : LoadedPage) → CanLoadPage page → PageHasTexts page → Fits (loaded_world kinds page)
+fits-loaded kinds page can texts =
+    fits-first replay IsNext IsNextTurn IsFit world_laws kinds (first_value []) (run_start page) (fit-first page can texts)
 
 -- ---- a line
 
@@ -139,7 +140,7 @@ fits-sent a w can few few_edits fits =
     (IsText-sent (w.spent.asks + 1) a can (omega (arith, few))) (IsNext-sent w.spent a can few few_edits small) fits
 
 -- what was told says nothing of the streams
-pub fits-told : (w : World RunState) (n : AlreadyTold) → Fits w
+pub fits-told : (w : World RunState) (n : Audience) → Fits w
     → Fits (record w { told = n })
 fits-told w n fits = record {
   front = fits.front;
@@ -184,7 +185,9 @@ fits-line show_page w later left fits = fits
 fits-line show_sheets w later left fits = settled-fits w fits
 fits-line show_replies w later left fits = fits-told (settled run_step w) _ (settled-fits w fits)
 fits-line show_pauses w later left fits = fits-told (settled run_step w) _ (settled-fits w fits)
+fits-line show_panels w later left fits = settled-fits w fits
 fits-line (show_styles k) w later left fits = settled-fits w fits
+fits-line (close k) w later left fits = fits-told w _ fits
 
 -- what a line of so many bytes spends at most
 pub record Spends (n m : Spent) (cost : ℕ) : Type 0 where
@@ -249,7 +252,9 @@ spends-line show_page w = spends-nothing w.spent w.spent refl refl refl refl (om
 spends-line show_sheets w = spends-nothing w.spent w.spent refl refl refl refl (omega arith)
 spends-line show_replies w = spends-nothing w.spent w.spent refl refl refl refl (omega arith)
 spends-line show_pauses w = spends-nothing w.spent w.spent refl refl refl refl (omega arith)
+spends-line show_panels w = spends-nothing w.spent w.spent refl refl refl refl (omega arith)
 spends-line (show_styles k) w = spends-nothing w.spent w.spent refl refl refl refl (omega arith)
+spends-line (close k) w = spends-nothing w.spent w.spent refl refl refl refl (omega arith)
 
 pub left-after : (line : LineForm) (k : ℕ) (w : World RunState) → HasLeft w.spent (k + line_cost line) → HasLeft (after_line line w).spent k
 left-after line k w left = spent-on k (line_cost line) w.spent (after_line line w).spent (spends-line line w) left
@@ -283,7 +288,9 @@ cost-least show_page = omega arith
 cost-least show_sheets = omega arith
 cost-least show_replies = omega arith
 cost-least show_pauses = omega arith
+cost-least show_panels = omega arith
 cost-least (show_styles k) = omega arith
+cost-least (close k) = omega arith
 
 -- one line of some
 pub left-one : (n : Spent) (k cost : ℕ) → HasLeft n (k + cost) → HasLeft n cost
@@ -298,8 +305,8 @@ fits-lines (suc n) (line ∷ lines) w later left fits =
     (fits-line line w later.0 (left-one w.spent (lines_cost lines) (line_cost line) left) fits)
 
 -- nothing was spent at the start
-pub left-first : (page : LoadedPage) (k : ℕ) → k ≤ most_bytes → HasLeft (loaded_world page).spent k
-left-first page k few = record {
+pub left-first : (kinds : List PanelKind) (page : LoadedPage) (k : ℕ) → k ≤ most_bytes → HasLeft (loaded_world kinds page).spent k
+left-first kinds page k few = record {
   frames = omega (arith, few);
   fetches = omega (arith, few);
   turns = omega (arith, few);
@@ -307,8 +314,8 @@ left-first page k few = record {
 }
 
 pub lines-fit : LinesFit
-lines-fit page lines can texts later few n = fits-lines n lines (loaded_world page) later (left-first page (lines_cost lines) few)
-    (fits-loaded page can texts)
+lines-fit page lines can texts later few kinds n = fits-lines n lines (loaded_world kinds page) later
+    (left-first kinds page (lines_cost lines) few) (fits-loaded kinds page can texts)
 
 -- ---- frames that name no ask
 

@@ -4,6 +4,7 @@ use Rattle.std.specs.List.{All}
 use Rattle.std.proofs.lemmas.List.Elements.{All-nil, All-cons, All-append}
 use Rattle.pipe_frames.specs.Frames.{IsText, frames_of}
 use Rattle.inspect_world.specs.Stream.{sent}
+use Rattle.front_mirror.specs.declared.panels.PanelKind.{PanelKind}
 use Rattle.inspect_world.specs.World.{World, Spent, nothing_spent, one_ask, one_raw, first_world, ask_sent, raw, sent_up, turned}
 use Rattle.inspect_world.specs.World.{delivered_up, delivered_down, settled}
 use Rattle.inspect_world.specs.Fold.{Machine, Laws, Fits}
@@ -20,11 +21,12 @@ module _ {S F E X A : Type 0} (machine : Machine S F E X) (IsNext : Spent → Li
     (fetcher : Fetcher F) (seen : F → A) (sheets most : ℕ) (fetching : FetchLaws machine IsNext Fit fetcher seen sheets most)
     (IsPlain : List ℕ → Type 0) where
   -- a run that is at its start goes together with itself
-  pub together-first : (start : F) (state : S) → Fit nothing_spent start state []
-      → RunTogether machine Fit start seen IsPlain (first_world state) (first_world state)
+  pub together-first : (kinds : List PanelKind) (start : F) (state : S) → Fit nothing_spent start state []
+      → RunTogether machine Fit start seen IsPlain (first_world kinds state) (first_world kinds state)
   unfolding frames_of
-  together-first start state fit =
-      let fits : Fits machine.take machine.join Fit start (first_world state) = fits-first machine IsNext IsTurn Fit laws start state fit in
+  together-first kinds start state fit =
+      let fits : Fits machine.take machine.join Fit start (first_world kinds state) =
+      fits-first machine IsNext IsTurn Fit laws kinds start state fit in
       record {
         fits = fits;
         fits_fresh = fits;

@@ -4,6 +4,7 @@ use Rattle.pipe_frames.specs.Frames.{IsText, framed, frames_of, frames_from, hel
 use Rattle.pipe_frames.proofs.FrameLemmas.{frames_of-append, frames_of-one, frames_from-append}
 use Rattle.inspect_world.specs.Stream.{Stream, sent, put_last, passed, held, arriving, awaited}
 use Rattle.back_end.specs.Steps.{Stepped}
+use Rattle.front_mirror.specs.declared.panels.PanelKind.{PanelKind}
 use Rattle.inspect_world.specs.World.{World, Spent, nothing_spent, one_ask, one_turn, first_world, steps, sent_up, ask_sent, turned}
 use Rattle.inspect_world.specs.World.{answered, given_up, delivered_up, delivered_down, settled}
 use Rattle.cdp_json.specs.Lookups.{then_ok}
@@ -50,9 +51,10 @@ answered-cons step frame frames w =
 module _ {S F E X : Type 0} (machine : Machine S F E X) (IsNext : Spent → List ℕ → Spent → Type 0)
     (IsTurn : Spent → X → Type 0) (Fit : Spent → F → S → List (List ℕ) → Type 0) (laws : Laws machine IsNext IsTurn Fit) where
   -- before anything was sent
-  pub fits-first : (start : F) (state : S) → Fit nothing_spent start state [] → Fits machine.take machine.join Fit start (first_world state)
+  pub fits-first : (kinds : List PanelKind) (start : F) (state : S) → Fit nothing_spent start state []
+      → Fits machine.take machine.join Fit start (first_world kinds state)
   unfolding frames_of
-  fits-first start state fit = record { front = start; is_fold = refl; fit = fit; up_whole = refl; down_whole = refl }
+  fits-first kinds start state fit = record { front = start; is_fold = refl; fit = fit; up_whole = refl; down_whole = refl }
 
   -- a frame is sent
   pub fits-sent_up : (start : F) (ask : List ℕ) (more : Spent → Spent) (w : World S) → IsText ask → IsNext w.spent ask (more w.spent)

@@ -6,7 +6,7 @@ use Rattle.cdp_messages.specs.Asked.{command_of}
 use Rattle.back_end.specs.Laws.{most_edits}
 use Rattle.replay_script.specs.Forms as forms
 use Rattle.replay_script.specs.Forms.{AskForm, LineForm, load, ask, up, down, settle, show_front, show_page, show_sheets, show_replies}
-use Rattle.replay_script.specs.Forms.{show_pauses, show_styles}
+use Rattle.replay_script.specs.Forms.{show_pauses, show_panels, show_styles, close}
 
 -- how many edits a command comes to at most; a refusal comes to none
 abbrev pub edits_commanded : Result Command Why → ℕ
@@ -39,7 +39,9 @@ line_cost show_page = least_line
 line_cost show_sheets = least_line
 line_cost show_replies = least_line
 line_cost show_pauses = least_line
+line_cost show_panels = least_line
 line_cost (show_styles k) = least_line
+line_cost (close k) = least_line
 
 -- how many bytes lines have at least
 abbrev pub lines_cost : List LineForm → ℕ

@@ -11,6 +11,7 @@ use Rattle.replay_script.specs.Script.{script_forms}
 use Rattle.front_mirror.specs.declared.replies.Ask.{Ask}
 use Rattle.front_mirror.specs.declared.replies.Kept.{Kept}
 use Rattle.front_mirror.specs.declared.pauses.SeenPause.{SeenPause}
+use Rattle.front_mirror.specs.declared.panels.PanelKind.{PanelKind}
 use Rattle.front_mirror.specs.declared.replies.MatchedReply.{MatchedReply}
 use Rattle.front_mirror.specs.Front.{FrontValue, first_value, fetch_params, take_frame, seen_pause}
 use Rattle.front_mirror.specs.Sheets.{has_sheet, stale_of}
@@ -78,16 +79,17 @@ pub record Together (IsPlain : List ℕ → Type 0) (bytes : ℕ) (w v : World R
 abbrev pub FreshLinesFit : Fetcher FrontValue → (List ℕ → Type 0) → Type 0
 FreshLinesFit fetcher IsPlain =
     (page : LoadedPage) (lines : List LineForm) → CanLoadPage page → PageHasTexts page → AreLater lines → lines_cost lines ≤ most_bytes
-    → (n : ℕ)
-    → RunTogether replay IsFit (first_value []) unstyled IsPlain (after_lines (take n lines) (loaded_world page))
-    (fresh_lines fetcher (take n lines) (loaded_world page))
+    → (kinds : List PanelKind) (n : ℕ)
+    → RunTogether replay IsFit (first_value []) unstyled IsPlain (after_lines (take n lines) (loaded_world kinds page))
+    (fresh_lines fetcher (take n lines) (loaded_world kinds page))
 
 -- with each input that a replay reads
 abbrev pub FreshInputsFit : Fetcher FrontValue → (List ℕ → Type 0) → Type 0
 FreshInputsFit fetcher IsPlain =
     (input : List ℕ) (page : LoadedPage) (lines : List LineForm) → script_forms input ≡ load page ∷ lines → length input ≤ most_bytes
-    → (n : ℕ) → RunTogether replay IsFit (first_value []) unstyled IsPlain (after_lines (take n lines) (loaded_world page))
-    (fresh_lines fetcher (take n lines) (loaded_world page))
+    → (kinds : List PanelKind) (n : ℕ)
+    → RunTogether replay IsFit (first_value []) unstyled IsPlain (after_lines (take n lines) (loaded_world kinds page))
+    (fresh_lines fetcher (take n lines) (loaded_world kinds page))
 
 -- After a settle of both, the front end of the run with fetches shows exactly what the client sees, no text of a sheet is old,
 -- and it has kept just the replies and the pauses that came down in the run without, and the matched styles that the client was
@@ -117,8 +119,8 @@ pub record ShowsTexts (w v : World RunState) : Type 0 where
 abbrev pub InputsShowTexts : Type 0
 InputsShowTexts =
     (input : List ℕ) (page : LoadedPage) (lines : List LineForm) → script_forms input ≡ load page ∷ lines → length input ≤ most_bytes
-    → (n : ℕ) → ShowsTexts (settled run_step (after_lines (take n lines) (loaded_world page)))
-    (refreshes front_fetcher (fresh_lines front_fetcher (take n lines) (loaded_world page)))
+    → (kinds : List PanelKind) (n : ℕ) → ShowsTexts (settled run_step (after_lines (take n lines) (loaded_world kinds page)))
+    (refreshes front_fetcher (fresh_lines front_fetcher (take n lines) (loaded_world kinds page)))
 
 -- once all that is on its way has come, and the texts that were old were fetched
 abbrev pub RefreshedShows : Fetcher FrontValue → (List ℕ → Type 0) → Type 0

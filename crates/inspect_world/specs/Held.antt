@@ -1,8 +1,9 @@
 -- What the two ends hold while a script is carried out over a link, and that they follow the run.
-use Rattle.std.specs.Prelude.{◌≡◌, ℕ, ◌+◌, false, List, [], length, None, Ok}
+use Rattle.std.specs.Prelude.{◌≡◌, ℕ, ◌+◌, false, List, [], length, Option, None, Ok}
 use Rattle.pipe_frames.specs.Pipe.{Pipe}
 use Rattle.pipe_frames.specs.Frames.{frames_of}
 use Rattle.front_mirror.specs.Front.{FrontValue, FrontState, first_value, take_frame}
+use Rattle.front_mirror.specs.declared.panels.PanelKind.{PanelKind}
 use Rattle.inspect_world.specs.Stream.{sent, held}
 use Rattle.inspect_world.specs.World.{World, AlreadyTold}
 use Rattle.inspect_world.specs.RunStates.{RunState}
@@ -24,9 +25,14 @@ pub record Ends : Type 0 where
   pub down_there : ℕ
   pub told : AlreadyTold
 
--- a front end that has met no fault, by the id of its next ask and by how many fetches it has made
+-- a front end without panels that has met no fault, by the id of its next ask and by how many fetches it has made
 abbrev pub good_front : FrontValue → List ℕ → ℕ → ℕ → FrontState
-good_front value rest next fetches = record { value = value; rest = rest; fault = None; next = next; fetches = fetches; dead = false }
+good_front value rest next fetches =
+    record { value = value; rest = rest; fault = None; next = next; fetches = fetches; dead = false; panels = [] }
+
+-- the same front end with panels of these kinds, none where one was dropped
+abbrev pub with_panels : List (Option PanelKind) → FrontState → FrontState
+with_panels panels front = record front { panels = panels }
 
 -- Since the pipes were as `up0` and `down0`, the link and the ends have come to where the run is, the fetches of its settles
 -- included; `frames` are whole at the back end and not yet answered, or on their way to it.
@@ -36,10 +42,10 @@ pub record InWorld (up0 down0 up down : Pipe) (w : World RunState) (frames : Lis
   pub stands : StandsFor e.seat e.side w.state.back
   pub back_is : e.back_rest ≡ held w.up
   pub value : FrontValue
-  pub front_is : e.front ≡ good_front value (held w.down) (w.spent.asks + 1) w.spent.fetches
+  pub front_is : e.front ≡ with_panels w.told.panels (good_front value (held w.down) (w.spent.asks + 1) w.spent.fetches)
   pub is_fold : folded take_frame (asks_joined join (first_value []) (frames_of (sent w.up)).whole) (frames_of
       w.down.given).whole ≡ Ok value
   pub up_left : e.up_there ≡ length w.up.flying
   pub down_left : e.down_there ≡ length w.down.flying
-  pub told_is : e.told ≡ w.told
+  pub told_is : e.told ≡ w.told.so_far
   pub fits : FitsWith w frames

@@ -13,6 +13,7 @@ pub mod ShownPauses
 pub mod ActTexts
 pub mod SheetTexts
 pub mod StylesTexts
+pub mod PanelTexts
 pub mod Costs
 pub mod Scripts
 pub mod ScriptsFit

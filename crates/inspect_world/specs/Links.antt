@@ -1,11 +1,13 @@
 -- What holds over every link, whatever bytes it gives.
-use Rattle.std.specs.Prelude.{◌≡◌, ◌≤◌, ℕ, ◌+◌, ◌*◌, List, [], ◌∷◌, ◌++◌, length, map, All, Bool, true, false, is_some, Result, Ok, Err}
+use Rattle.std.specs.Prelude.{◌≡◌, ◌≤◌, ℕ, ◌+◌, ◌*◌, List, [], ◌∷◌, ◌++◌, length, map, All, Bool, true, false, Option, is_some, Result, Ok}
+use Rattle.std.specs.Prelude.{Err}
 use Rattle.pipe_frames.specs.Pipe.{Pipe}
 use Rattle.pipe_frames.specs.Frames.{frames_of}
 use Rattle.cdp_messages.specs.declared.command.Asked.{Asked}
 use Rattle.cdp_messages.specs.declared.command.Refused.{Refused}
 use Rattle.cdp_messages.specs.Asked.{asked}
 use Rattle.front_mirror.specs.declared.faults.FrontFault.{FrontFault}
+use Rattle.front_mirror.specs.declared.panels.PanelKind.{PanelKind}
 use Rattle.front_mirror.specs.Front.{FrontValue, matched_in, fold}
 use Rattle.back_end.specs.States.{State}
 use Rattle.back_end.specs.Steps.{Turn, Stepped, step, turn}
@@ -14,7 +16,7 @@ use Rattle.back_end.specs.Seats.{StandsFor}
 use Rattle.page_tree.specs.Forms.{max_nodes}
 use Rattle.page_forms.specs.Sheets.{max_sheets}
 use Rattle.inspect_world.specs.Fits.{most_bytes, asks_among}
-use Rattle.inspect_world.specs.Held.{Ends, good_front}
+use Rattle.inspect_world.specs.Held.{Ends, good_front, with_panels}
 use Rattle.inspect_world.specs.ShownReplies.{ShownReply, replies_in, reply_id}
 
 -- The front end that sent these bytes up, and was given those bytes down: what it shows, or the first message that it refuses.
@@ -91,20 +93,30 @@ pub record Drew (state : State) (commands made bytes : ℕ) : Type 0 where
 
 -- ---- the ends over a link
 
--- where a run began; how many lines more it may carry out, each of which makes one step of the script at most; and the asks whose
--- matched styles it has shown
+-- where a run begins: the state, and the kinds of the panels
+pub record Begun : Type 0 where
+  pub state : State
+  pub panels : List (Option PanelKind)
+
+-- so it begins
+abbrev pub begun : State → List (Option PanelKind) → Begun
+begun state panels = record { state = state; panels = panels }
+
+-- where a run began; how many lines more it may carry out, each of which makes one step of the script at most; the asks whose
+-- matched styles it has shown; and the kinds of its panels, none where one was dropped
 pub record Started : Type 0 where
   pub state : State
   pub lines : ℕ
   pub shown : List ℕ
+  pub panels : List (Option PanelKind)
 
 -- a run that has shown the matched styles of these asks
-abbrev pub run_started : State → ℕ → List ℕ → Started
-run_started state lines shown = record { state = state; lines = lines; shown = shown }
+abbrev pub run_started : State → ℕ → List ℕ → List (Option PanelKind) → Started
+run_started state lines shown panels = record { state = state; lines = lines; shown = shown; panels = panels }
 
 -- one line more may be carried out
 abbrev pub one_line_more : Started → Started
-one_line_more start = run_started start.state (start.lines + 1) start.shown
+one_line_more start = run_started start.state (start.lines + 1) start.shown start.panels
 
 -- how a pipe goes on from an earlier moment, when no more was given than sent
 pub record PipeGoesOn (start now : Pipe) (sent given : List ℕ) : Type 0 where
@@ -126,7 +138,7 @@ pub record Follows (state0 : Started) (up0 down0 up down : Pipe) (waiting : List
   pub down_is : PipeGoesOn down0 down sent_down given_down
   pub up_whole : (frames_of sent_up).rest ≡ []
   pub value : FrontValue
-  pub front_is : e.front ≡ good_front value (frames_of given_down).rest e.front.next e.front.fetches
+  pub front_is : e.front ≡ with_panels state0.panels (good_front value (frames_of given_down).rest e.front.next e.front.fetches)
   pub is_fold : fold_of sent_up given_down ≡ Ok value
   pub styled : All (λ ask. knows_styles value ask ≡ true) state0.shown
   pub events : List Happening

@@ -2,23 +2,25 @@
 use Rattle.std.specs.Prelude.{ℕ, ◌+◌, Bool, List, [], ◌∷◌, ◌++◌, length, drop, codes, Option, Some, None, is_some}
 use Rattle.page_tree.specs.Pages.{PageRow}
 use Rattle.cdp_messages.specs.Asked.{command_text}
+use Rattle.front_mirror.specs.declared.panels.PanelKind.{PanelKind}
 use Rattle.front_mirror.specs.Outline.{outline_text, seen_line, node_line}
 use Rattle.replay_script.specs.declared.faults.LineFault.{LineFault}
 use Rattle.page_forms.specs.Pages.{LoadedPage}
 use Rattle.replay_script.specs.Forms as forms
 use Rattle.replay_script.specs.Forms.{AskForm, LineForm, load, ask, up, down, settle, show_front, show_page, show_sheets, show_replies}
-use Rattle.replay_script.specs.Forms.{show_pauses, show_styles}
+use Rattle.replay_script.specs.Forms.{show_pauses, show_panels, show_styles, close}
 use Rattle.node_tree.specs.Keys.{first_of}
 use Rattle.css_objects.specs.declared.rules.Matched.{Matched}
 use Rattle.cdp_messages.specs.declared.down.PauseData.{PauseData}
-use Rattle.replay_script.specs.Script.{numbered_or, unless_bad, styles_fault, script_fault, script_forms}
+use Rattle.replay_script.specs.Script.{numbered_or, unless_bad, dropped, want_fault, script_fault, script_forms}
 use Rattle.inspect_world.specs.Costs.{ask_edits}
-use Rattle.inspect_world.specs.World.{World, AlreadyTold, first_world, ask_sent, raw, turned, delivered_up, delivered_down, settled}
+use Rattle.inspect_world.specs.World.{World, Audience, first_world, ask_sent, raw, turned, delivered_up, delivered_down, settled}
 use Rattle.inspect_world.specs.ShownReplies.{ShownReply, replies_in, told_lines}
 use Rattle.inspect_world.specs.ActTexts.{act_text}
 use Rattle.inspect_world.specs.SheetTexts.{sheet_lines}
 use Rattle.inspect_world.specs.ShownPauses.{pauses_in, pause_lines}
 use Rattle.inspect_world.specs.StylesTexts.{styles_text}
+use Rattle.inspect_world.specs.PanelTexts.{panels_text}
 use Rattle.inspect_world.specs.RunStates.{RunState, run_start, styles_under, run_step, run_turn}
 use Rattle.back_end.specs.States.{State, page_nodes, book_in, sheets_shown, view_of}
 use Rattle.back_end.specs.Steps.{acts, loads}
@@ -31,16 +33,22 @@ abbrev pub sends : AskForm → World RunState → World RunState
 sends a w = ask_sent (ask_edits a) (command_text (w.spent.asks + 1) a.method a.params a.session) w
 
 -- the run after something was told
-abbrev pub telling : AlreadyTold → World RunState → World RunState
+abbrev pub telling : Audience → World RunState → World RunState
 telling told w = record w { told = told }
 
 -- the replies that came are told
 abbrev pub replies_told : World RunState → World RunState
-replies_told w = telling (record { replies = length (replies_in w.down.given); pauses = w.told.pauses }) w
+replies_told w =
+    telling (record w.told { so_far = record { replies = length (replies_in w.down.given); pauses = w.told.so_far.pauses } }) w
 
 -- the pauses that came are told
 abbrev pub pauses_told : World RunState → World RunState
-pauses_told w = telling (record { replies = w.told.replies; pauses = length (pauses_in w.down.given) }) w
+pauses_told w =
+    telling (record w.told { so_far = record { replies = w.told.so_far.replies; pauses = length (pauses_in w.down.given) } }) w
+
+-- the panel at that place is dropped
+abbrev pub panel_dropped : ℕ → World RunState → World RunState
+panel_dropped place w = telling (record w.told { panels = dropped place w.told.panels }) w
 
 -- The run after a line, by what a settle does to a run; an act that is refused leaves the state as it is.
 abbrev pub after_line_by : (World RunState → World RunState) → LineForm → World RunState → World RunState
@@ -56,7 +64,9 @@ after_line_by settles show_page w = w
 after_line_by settles show_sheets w = settles w
 after_line_by settles show_replies w = replies_told (settles w)
 after_line_by settles show_pauses w = pauses_told (settles w)
+after_line_by settles show_panels w = settles w
 after_line_by settles (show_styles k) w = settles w
+after_line_by settles (close k) w = panel_dropped k w
 
 -- the run after some lines
 abbrev pub after_lines_by : (World RunState → World RunState) → List LineForm → World RunState → World RunState
@@ -71,9 +81,9 @@ after_line line w = after_line_by (settled run_step) line w
 abbrev pub after_lines : List LineForm → World RunState → World RunState
 after_lines lines w = after_lines_by (settled run_step) lines w
 
--- before the line after the load
-abbrev pub loaded_world : LoadedPage → World RunState
-loaded_world page = first_world (run_start page)
+-- before the line after the load, with panels of these kinds
+abbrev pub loaded_world : List PanelKind → LoadedPage → World RunState
+loaded_world kinds page = first_world kinds (run_start page)
 
 -- ---- what a line prints
 
@@ -109,6 +119,10 @@ styles_at k w = styles_under k w.state.styles
 abbrev pub has_styles : World RunState → ℕ → Bool
 has_styles w k = is_some (styles_at k w)
 
+-- what the panels show that stand open
+abbrev pub panels_of : World RunState → List ℕ
+panels_of w = panels_text w.told.panels (view_of w.state.back).tree
+
 -- a show of matched styles prints nothing where there are none
 abbrev pub styles_shown : ℕ → Option Matched → List ℕ
 styles_shown k None = []
@@ -126,9 +140,11 @@ line_text number settle w = []
 line_text number show_front w = codes "# front" ++ 10 ∷ outline_of (settled run_step w)
 line_text number show_page w = codes "# page" ++ 10 ∷ page_outline w.state.back
 line_text number show_sheets w = codes "# sheets" ++ 10 ∷ sheets_of (settled run_step w)
-line_text number show_replies w = codes "# replies" ++ 10 ∷ told_lines (replies_after w.told.replies (settled run_step w))
-line_text number show_pauses w = codes "# pauses" ++ 10 ∷ pause_lines (pauses_since w.told.pauses (settled run_step w))
+line_text number show_replies w = codes "# replies" ++ 10 ∷ told_lines (replies_after w.told.so_far.replies (settled run_step w))
+line_text number show_pauses w = codes "# pauses" ++ 10 ∷ pause_lines (pauses_since w.told.so_far.pauses (settled run_step w))
+line_text number show_panels w = codes "# panels" ++ 10 ∷ panels_of (settled run_step w)
 line_text number (show_styles k) w = styles_shown k (styles_at k (settled run_step w))
+line_text number (close k) w = []
 
 -- what some lines print, the first of which has that number
 abbrev pub lines_text : ℕ → List LineForm → World RunState → List ℕ
@@ -141,11 +157,11 @@ closing_text w = codes "# end" ++ 10 ∷ outline_of (settled run_step w)
 
 -- ---- the report of a script
 
--- the fault of a line that shows what did not come
+-- the fault of a line that drops a panel where none stands open, or shows what did not come
 abbrev pub lacking : LineForm → World RunState → Option LineFault
-lacking line w = styles_fault (has_styles (settled run_step w)) line
+lacking line w = want_fault (has_styles (settled run_step w)) w.told.panels line
 
--- the lines before the first that shows what did not come
+-- the lines before the first with such a fault
 abbrev pub shown_lines : List LineForm → World RunState → List LineForm
 shown_lines [] w = []
 shown_lines (line ∷ lines) w = unless_bad (lacking line w) (line ∷ shown_lines lines (after_line line w))
@@ -172,44 +188,48 @@ rest_text bad lines w =
     lines_text 2 good w ++ closing_unless (rest_refused bad lines w) (after_lines good w)
 
 -- what the lines of a script print, by the first that is refused
-abbrev pub text_by_refusal : Option (ℕ × LineFault) → List LineForm → List ℕ
-text_by_refusal bad [] = []
-text_by_refusal bad (load page ∷ lines) = rest_text bad lines (loaded_world page)
-text_by_refusal bad (forms.act a ∷ lines) = []
-text_by_refusal bad (ask a ∷ lines) = []
-text_by_refusal bad (forms.raw text ∷ lines) = []
-text_by_refusal bad (up n ∷ lines) = []
-text_by_refusal bad (down n ∷ lines) = []
-text_by_refusal bad (settle ∷ lines) = []
-text_by_refusal bad (show_front ∷ lines) = []
-text_by_refusal bad (show_page ∷ lines) = []
-text_by_refusal bad (show_sheets ∷ lines) = []
-text_by_refusal bad (show_replies ∷ lines) = []
-text_by_refusal bad (show_pauses ∷ lines) = []
-text_by_refusal bad (show_styles k ∷ lines) = []
+abbrev pub text_by_refusal : List PanelKind → Option (ℕ × LineFault) → List LineForm → List ℕ
+text_by_refusal kinds bad [] = []
+text_by_refusal kinds bad (load page ∷ lines) = rest_text bad lines (loaded_world kinds page)
+text_by_refusal kinds bad (forms.act a ∷ lines) = []
+text_by_refusal kinds bad (ask a ∷ lines) = []
+text_by_refusal kinds bad (forms.raw text ∷ lines) = []
+text_by_refusal kinds bad (up n ∷ lines) = []
+text_by_refusal kinds bad (down n ∷ lines) = []
+text_by_refusal kinds bad (settle ∷ lines) = []
+text_by_refusal kinds bad (show_front ∷ lines) = []
+text_by_refusal kinds bad (show_page ∷ lines) = []
+text_by_refusal kinds bad (show_sheets ∷ lines) = []
+text_by_refusal kinds bad (show_replies ∷ lines) = []
+text_by_refusal kinds bad (show_pauses ∷ lines) = []
+text_by_refusal kinds bad (show_panels ∷ lines) = []
+text_by_refusal kinds bad (show_styles k ∷ lines) = []
+text_by_refusal kinds bad (close k ∷ lines) = []
 
--- What a replay of the input writes: what each line before the first that is refused prints, and after the last line, where
--- none is refused, the closing outline. No front end takes part in it.
-abbrev pub report : List ℕ → List ℕ
-report input = text_by_refusal (script_fault input) (script_forms input)
+-- What a replay of the input writes, with panels of these kinds: what each line before the first that is refused prints, and after the
+-- last line, where none is refused, the closing outline. No front end takes part in it.
+abbrev pub report : List PanelKind → List ℕ → List ℕ
+report kinds input = text_by_refusal kinds (script_fault input) (script_forms input)
 
 -- The first line that is refused, by the run of the script.
-abbrev pub refused_of : Option (ℕ × LineFault) → List LineForm → Option (ℕ × LineFault)
-refused_of bad [] = bad
-refused_of bad (load page ∷ lines) = rest_refused bad lines (loaded_world page)
-refused_of bad (forms.act a ∷ lines) = bad
-refused_of bad (ask a ∷ lines) = bad
-refused_of bad (forms.raw text ∷ lines) = bad
-refused_of bad (up n ∷ lines) = bad
-refused_of bad (down n ∷ lines) = bad
-refused_of bad (settle ∷ lines) = bad
-refused_of bad (show_front ∷ lines) = bad
-refused_of bad (show_page ∷ lines) = bad
-refused_of bad (show_sheets ∷ lines) = bad
-refused_of bad (show_replies ∷ lines) = bad
-refused_of bad (show_pauses ∷ lines) = bad
-refused_of bad (show_styles k ∷ lines) = bad
+abbrev pub refused_of : List PanelKind → Option (ℕ × LineFault) → List LineForm → Option (ℕ × LineFault)
+refused_of kinds bad [] = bad
+refused_of kinds bad (load page ∷ lines) = rest_refused bad lines (loaded_world kinds page)
+refused_of kinds bad (forms.act a ∷ lines) = bad
+refused_of kinds bad (ask a ∷ lines) = bad
+refused_of kinds bad (forms.raw text ∷ lines) = bad
+refused_of kinds bad (up n ∷ lines) = bad
+refused_of kinds bad (down n ∷ lines) = bad
+refused_of kinds bad (settle ∷ lines) = bad
+refused_of kinds bad (show_front ∷ lines) = bad
+refused_of kinds bad (show_page ∷ lines) = bad
+refused_of kinds bad (show_sheets ∷ lines) = bad
+refused_of kinds bad (show_replies ∷ lines) = bad
+refused_of kinds bad (show_pauses ∷ lines) = bad
+refused_of kinds bad (show_panels ∷ lines) = bad
+refused_of kinds bad (show_styles k ∷ lines) = bad
+refused_of kinds bad (close k ∷ lines) = bad
 
 -- the number and the fault of the first line of an input that is refused
-abbrev pub report_refused : List ℕ → Option (ℕ × LineFault)
-report_refused input = refused_of (script_fault input) (script_forms input)
+abbrev pub report_refused : List PanelKind → List ℕ → Option (ℕ × LineFault)
+report_refused kinds input = refused_of kinds (script_fault input) (script_forms input)

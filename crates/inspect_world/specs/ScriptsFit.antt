@@ -4,10 +4,11 @@ use Rattle.std.specs.Prelude.{◌≡◌, ℕ, ◌≤◌, List, [], ◌∷◌, le
 use Rattle.page_forms.specs.Pages.{LoadedPage, CanLoadPage}
 use Rattle.replay_script.specs.Forms as forms
 use Rattle.replay_script.specs.Forms.{LineForm, load, ask, up, down, settle, show_front, show_page, show_sheets, show_replies}
-use Rattle.replay_script.specs.Forms.{show_pauses, show_styles}
+use Rattle.replay_script.specs.Forms.{show_pauses, show_panels, show_styles, close}
 use Rattle.replay_script.specs.Script.{script_forms}
 use Rattle.pipe_frames.specs.Frames.{IsText, frames_of}
 use Rattle.front_mirror.specs.Front.{FrontValue, first_value, take_frame}
+use Rattle.front_mirror.specs.declared.panels.PanelKind.{PanelKind}
 use Rattle.front_mirror.specs.Laws.{Has}
 use Rattle.inspect_world.specs.Stream.{held}
 use Rattle.inspect_world.specs.World.{World, raw, turned, delivered_up, delivered_down, settled}
@@ -39,16 +40,18 @@ IsLater show_page = ⊤
 IsLater show_sheets = ⊤
 IsLater show_replies = ⊤
 IsLater show_pauses = ⊤
+IsLater show_panels = ⊤
 IsLater (show_styles k) = ⊤
+IsLater (close k) = ⊤
 
 -- lines that may come after the load
 abbrev pub AreLater : List LineForm → Type 0
 AreLater [] = ⊤
 AreLater (line ∷ lines) = IsLater line × AreLater lines
 
--- after any number of lines, the two whole streams fit the state of the page
+-- with panels of any kinds, and after any number of lines, the two whole streams fit the state of the page
 abbrev pub FitThroughout : LoadedPage → List LineForm → Type 0
-FitThroughout page lines = (n : ℕ) → Fits (after_lines (take n lines) (loaded_world page))
+FitThroughout page lines = (kinds : List PanelKind) (n : ℕ) → Fits (after_lines (take n lines) (loaded_world kinds page))
 
 -- with any page and any lines that a script can have
 abbrev pub LinesFit : Type 0
@@ -64,7 +67,8 @@ InputsFit = (input : List ℕ) (page : LoadedPage) (lines : List LineForm) → s
 -- newest group of a client's edits that is kept, and a redo those after the group that was taken back last; without a fault.
 abbrev pub UndoRestoresInRuns : Type 0
 UndoRestoresInRuns = (input : List ℕ) (page : LoadedPage) (lines : List LineForm) → script_forms input ≡ load page ∷ lines
-    → length input ≤ most_bytes → (n : ℕ) → Restores (after_lines (take n lines) (loaded_world page)).state.back
+    → length input ≤ most_bytes → (kinds : List PanelKind) (n : ℕ)
+    → Restores (after_lines (take n lines) (loaded_world kinds page)).state.back
 
 -- a frame that names no ask is sent, whatever is on its way
 abbrev pub BareFramesFit : Type 0

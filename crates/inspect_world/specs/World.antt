@@ -1,8 +1,9 @@
 -- The run of a script over a link that gives what was sent: the page's state, and the two streams between the ends.
 -- A step of the state on one frame gives the state after it, and the bytes that it sends down.
-use Rattle.std.specs.Prelude.{ℕ, ◌+◌, List, [], ◌∷◌, ◌++◌, length}
+use Rattle.std.specs.Prelude.{ℕ, ◌+◌, List, [], ◌∷◌, ◌++◌, length, map, Option, Some}
 use Rattle.pipe_frames.specs.Frames.{framed}
 use Rattle.back_end.specs.Steps.{Stepped}
+use Rattle.front_mirror.specs.declared.panels.PanelKind.{PanelKind}
 use Rattle.inspect_world.specs.Stream.{Stream, no_stream, put_last, passed, arriving}
 
 -- What a run has spent: how many asks, how many fetches and how many other frames the front end has sent, how many steps the
@@ -43,17 +44,26 @@ pub record AlreadyTold : Type 0 where
 abbrev pub nothing_told : AlreadyTold
 nothing_told = record { replies = 0; pauses = 0 }
 
--- the state, the two streams, what was spent, and what was told
+-- how much was told so far, and the kinds of the panels that are told of each change of the mirror: none where one was dropped
+pub record Audience : Type 0 where
+  pub so_far : AlreadyTold
+  pub panels : List (Option PanelKind)
+
+-- panels of these kinds, and nothing told so far
+abbrev pub audience : List PanelKind → Audience
+audience kinds = record { so_far = nothing_told; panels = map Some kinds }
+
+-- the state, the two streams, what was spent, and who was told what
 pub record World (S : Type 0) : Type 0 where
   pub state : S
   pub up : Stream
   pub down : Stream
   pub spent : Spent
-  pub told : AlreadyTold
+  pub told : Audience
 
--- before anything was sent
-abbrev pub first_world : {S : Type 0} → S → World S
-first_world state = record { state = state; up = no_stream; down = no_stream; spent = nothing_spent; told = nothing_told }
+-- before anything was sent, with panels of these kinds
+abbrev pub first_world : {S : Type 0} → List PanelKind → S → World S
+first_world kinds state = record { state = state; up = no_stream; down = no_stream; spent = nothing_spent; told = audience kinds }
 
 -- the steps on frames, one after the other
 abbrev pub steps : {S : Type 0} → (S → List ℕ → Stepped S) → S → List (List ℕ) → Stepped S

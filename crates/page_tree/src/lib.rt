@@ -8,8 +8,8 @@
 //! `insert_fault`, `move_fault`, `copy_fault`, `grow` and `copy` for acts of several edits.
 //!
 //! Laws: `flat_law` (src/flat.rt); `after_law`, `back_law`, `insert_law`, `copy_law`, `move_law` (src/edit_laws.rt) and
-//! `relation_law` (src/relations.rt), over pages alone. The page and what makes it valid stand in specs/Pages, edits in specs/Edits. The slab that keeps the nodes
-//! is in no clause of a caller.
+//! `relation_law` (src/relations.rt), over pages alone. The page and what makes it valid stand in specs/Pages, edits in
+//! specs/Edits. The slab that keeps the nodes is in no clause of a caller.
 #![tactic(auto)]
 
 mod arenas;

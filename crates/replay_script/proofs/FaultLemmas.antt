@@ -12,12 +12,12 @@ use Rattle.page_tree.specs.declared.faults.LoadFault.{LoadFault}
 use Rattle.page_forms.specs.Pages.{LoadedPage, page_in, first_page_fault, page_fault}
 use Rattle.cdp_messages.specs.Asked.{json_of}
 use Rattle.replay_script.specs.declared.faults.LineFault.{LineFault}
-use Rattle.replay_script.specs.declared.faults.LineFault.TheVariants.{NotJson, NotLoad, BadForm, BadLoad, BadRaw, NotBuilt}
+use Rattle.replay_script.specs.declared.faults.LineFault.TheVariants.{NotJson, NotLoad, BadForm, BadLoad, BadRaw}
 use Rattle.replay_script.specs.declared.line_kinds.LineKind.{LineKind}
 use Rattle.replay_script.specs.declared.line_kinds.LineKind.TheVariants as kind
 use Rattle.replay_script.specs.Kinds.{is_load, said}
 use Rattle.replay_script.specs.Forms.{LineForm, load, form_by, form_of, line_form}
-use Rattle.replay_script.specs.Faults.{is_later, has_form, is_no_frame, page_by, raw_by, fault_by, fault_of_data, line_fault}
+use Rattle.replay_script.specs.Faults.{has_form, is_no_frame, page_by, raw_by, fault_by, fault_of_data, line_fault}
 
 -- ---- a line's JSON
 
@@ -46,10 +46,6 @@ pub true_from_not : (b : Bool) → not b ≡ false → b ≡ true
 true_from_not true e = refl
 true_from_not false e = absurd cc
 
-or_second : (a b : Bool) → (a || b) ≡ true → b ≡ false → a ≡ true
-or_second true b e f = refl
-or_second false b e f = absurd cc
-
 or_neither : (a b : Bool) → (a || b) ≡ false → (a ≡ false) × (b ≡ false)
 or_neither true b e = absurd cc
 or_neither false b e = (refl, e)
@@ -63,7 +59,6 @@ some_there (Some x) e = (x, refl)
 -- the value of a line of that kind has no fault
 pub record IsClear (k : LineKind) (v : Data) : Type 0 where
   pub formed : has_form k v ≡ true
-  pub built : is_later k v ≡ false
   pub page : option_and_then page_fault (page_by k v) ≡ None
   pub frame : option_map_or is_no_frame (raw_by k v) false ≡ false
 
@@ -73,13 +68,11 @@ map_none (Some x) e = absurd cc
 
 pub is_clear : (k : LineKind) (v : Data) → fault_by k v ≡ None → IsClear k v
 is_clear k v e =
-    let halves = first_none (first_true ((BadForm, not (has_form k v)) ∷ (NotBuilt, is_later k v) ∷ [])) _ e in
-    let forms = none_true BadForm (not (has_form k v)) ((NotBuilt, is_later k v) ∷ []) halves.0 in
-    let later = none_true NotBuilt (is_later k v) [] forms.1 in
+    let halves = first_none (first_true ((BadForm, not (has_form k v)) ∷ [])) _ e in
+    let forms = none_true BadForm (not (has_form k v)) [] halves.0 in
     let others = first_none (option_map BadLoad (option_and_then page_fault (page_by k v))) _ halves.1 in
     record {
       formed = true_from_not _ forms.0;
-      built = later.0;
       page = map_none _ others.0;
       frame = (none_true BadRaw (option_map_or is_no_frame (raw_by k v) false) [] others.1).0;
     }
@@ -88,21 +81,18 @@ page_there : (o : Option LoadedPage) → first_page_fault o ≡ None → (page :
 page_there None e = absurd cc
 page_there (Some page) e = (page, refl)
 
-form_other : (o : Option LineForm) (later : Bool) → (is_some o || later) ≡ true → later ≡ false → (form : LineForm) × (o ≡ Some form)
-form_other o later e f = some_there o (or_second (is_some o) later e f)
-
 -- what has no fault has a form
 pub clear_form : (k : LineKind) (v : Data) → IsClear k v → (form : LineForm) × (form_by k v ≡ Some form)
 clear_form kind.Load v c = let p = page_there (page_in v) c.page in (load p.0, ap (option_map load) p.1)
-clear_form kind.Act v c = form_other (form_by kind.Act v) (is_later kind.Act v) c.formed c.built
-clear_form kind.Ask v c = form_other (form_by kind.Ask v) (is_later kind.Ask v) c.formed c.built
-clear_form kind.Raw v c = form_other (form_by kind.Raw v) (is_later kind.Raw v) c.formed c.built
-clear_form kind.Up v c = form_other (form_by kind.Up v) (is_later kind.Up v) c.formed c.built
-clear_form kind.Down v c = form_other (form_by kind.Down v) (is_later kind.Down v) c.formed c.built
-clear_form kind.Settle v c = form_other (form_by kind.Settle v) (is_later kind.Settle v) c.formed c.built
-clear_form kind.Show v c = form_other (form_by kind.Show v) (is_later kind.Show v) c.formed c.built
-clear_form kind.Close v c = form_other (form_by kind.Close v) (is_later kind.Close v) c.formed c.built
-clear_form kind.Styles v c = form_other (form_by kind.Styles v) (is_later kind.Styles v) c.formed c.built
+clear_form kind.Act v c = some_there (form_by kind.Act v) c.formed
+clear_form kind.Ask v c = some_there (form_by kind.Ask v) c.formed
+clear_form kind.Raw v c = some_there (form_by kind.Raw v) c.formed
+clear_form kind.Up v c = some_there (form_by kind.Up v) c.formed
+clear_form kind.Down v c = some_there (form_by kind.Down v) c.formed
+clear_form kind.Settle v c = some_there (form_by kind.Settle v) c.formed
+clear_form kind.Show v c = some_there (form_by kind.Show v) c.formed
+clear_form kind.Close v c = some_there (form_by kind.Close v) c.formed
+clear_form kind.Styles v c = some_there (form_by kind.Styles v) c.formed
 
 -- ---- whole lines
 
@@ -134,25 +124,23 @@ abbrev fault_from : ℕ → Bool → Option (LineKind × Data) → Option LineFa
 fault_from number float s =
     first_of (first_true ((NotLoad, number == 1 && is_none (option_and_then (λ t. page_by t.0 t.1) s))
     ∷ (BadForm, float || not (option_map_or (λ t. has_form t.0 t.1) s false))
-    ∷ (NotBuilt, option_map_or (λ t. is_later t.0 t.1) s false) ∷ []))
+    ∷ []))
     (first_of (option_map BadLoad (option_and_then page_fault (option_and_then (λ t. page_by t.0 t.1) s)))
     (first_true ((BadRaw, option_map_or is_no_frame (option_and_then (λ t. raw_by t.0 t.1) s) false) ∷ [])))
 
-good_kind : (n float loads formed later : Bool) (k : LineKind) (v : Data) (rest : Option LineFault) → is_load k ≡ loads
-    → has_form k v ≡ formed → is_later k v ≡ later
-    → first_of (first_true ((NotLoad, n && is_none (page_by k v)) ∷ (BadForm, float || not formed) ∷ (NotBuilt, later) ∷ [])) rest ≡ None
-    → (float ≡ false) × ((n && not loads) ≡ false) × (first_of (first_true ((BadForm, not formed) ∷ (NotBuilt, later) ∷ [])) rest ≡ None)
-good_kind n float loads formed later k v rest is_l is_f is_t e =
+good_kind : (n float loads formed : Bool) (k : LineKind) (v : Data) (rest : Option LineFault) → is_load k ≡ loads
+    → has_form k v ≡ formed
+    → first_of (first_true ((NotLoad, n && is_none (page_by k v)) ∷ (BadForm, float || not formed) ∷ [])) rest ≡ None
+    → (float ≡ false) × ((n && not loads) ≡ false) × (first_of (first_true ((BadForm, not formed) ∷ [])) rest ≡ None)
+good_kind n float loads formed k v rest is_l is_f e =
     let halves = first_none (first_true
-    ((NotLoad, n && is_none (page_by k v)) ∷ (BadForm, float || not formed) ∷ (NotBuilt, later) ∷ [])) rest e in
-    let paged = none_true NotLoad (n && is_none (page_by k v)) ((BadForm, float || not formed) ∷ (NotBuilt, later) ∷ []) halves.0 in
-    let forms = none_true BadForm (float || not formed) ((NotBuilt, later) ∷ []) paged.1 in
-    let both = or_neither float (not formed) forms.0 in
-    let built = none_true NotBuilt later [] forms.1 in (
+    ((NotLoad, n && is_none (page_by k v)) ∷ (BadForm, float || not formed) ∷ [])) rest e in
+    let paged = none_true NotLoad (n && is_none (page_by k v)) ((BadForm, float || not formed) ∷ []) halves.0 in
+    let forms = none_true BadForm (float || not formed) [] paged.1 in
+    let both = or_neither float (not formed) forms.0 in (
       both.0,
       first_page n loads (subst (λ b. (n && is_none (if b then Some v else None)) ≡ false) is_l paged.0),
-      rw
-          (both.1, built.0) halves.1,
+      rw both.1 halves.1,
     ) where
       first_page : (n b : Bool) → (n && is_none (if b then Some v else None)) ≡ false → (n && not b) ≡ false
       first_page true true e = refl
@@ -161,13 +149,13 @@ good_kind n float loads formed later k v rest is_l is_f is_t e =
 
 good_from : (number : ℕ) (float : Bool) (s : Option (LineKind × Data)) → fault_from number float s ≡ None → IsGood number float s
 good_from number float None e = absurd (no_kind (number == 1) float e) where
-  no_kind : (n float : Bool) → first_of (first_true ((NotLoad, n && true) ∷ (BadForm, float || true) ∷ (NotBuilt, false) ∷ [])) None ≡ None
+  no_kind : (n float : Bool) → first_of (first_true ((NotLoad, n && true) ∷ (BadForm, float || true) ∷ [])) None ≡ None
       → ⊥
   no_kind true float e = cc
   no_kind false true e = cc
   no_kind false false e = cc
 good_from number float (Some (k, v)) e =
-    let p = good_kind (number == 1) float (is_load k) (has_form k v) (is_later k v) k v _ refl refl refl e in
+    let p = good_kind (number == 1) float (is_load k) (has_form k v) k v _ refl refl e in
     record { kind = k; value = v; is = refl; whole = p.0; first = p.1; clear = p.2 }
 
 -- what a line without a fault says

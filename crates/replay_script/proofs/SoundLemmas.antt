@@ -41,8 +41,8 @@ use Rattle.replay_script.specs.declared.line_kinds.LineKind.{LineKind}
 use Rattle.replay_script.specs.declared.line_kinds.LineKind.TheVariants as kind
 use Rattle.replay_script.specs.Kinds.{line_kind_name, all_line_kinds, is_load, sole_member, sole, styles_in, kind_said, said}
 use Rattle.replay_script.specs.Forms.{AskForm, LineForm, load, act, ask, raw, up, down, settle, show_front, show_page, show_sheets}
-use Rattle.replay_script.specs.Forms.{show_replies, show_pauses, show_styles, AskParts, ask_kind, ask_from, ask_in, show_from, form_by}
-use Rattle.replay_script.specs.Forms.{form_of, line_form}
+use Rattle.replay_script.specs.Forms.{show_replies, show_pauses, show_panels, show_styles, close, AskParts, ask_kind, ask_from, ask_in, show_from}
+use Rattle.replay_script.specs.Forms.{form_by, form_of, line_form}
 use Rattle.replay_script.specs.Faults.{is_zero, is_whole_number, has_whole_id, is_no_frame, fault_of_data, line_fault}
 use Rattle.replay_script.specs.Seen.{seen, seen_ask, RefusesLine}
 use Rattle.replay_script.specs.Sound.{IsSoundLoad, IsSoundAct, CanSend, NamesNoAsk, IsSoundFrame, IsSound, FormsAreSound, FirstIsLoad}
@@ -208,16 +208,17 @@ raw_sound text e = let p = parts
 
 -- ---- a form by the kind of its line
 
-show_sound : (a b c d e : Bool) (form : LineForm)
+show_sound : (a b c d e f : Bool) (form : LineForm)
     → (if a then Some show_front else if b then Some show_page else if c then Some show_sheets else if d then Some show_replies else if e
-    then Some show_pauses else None) ≡ Some form
+    then Some show_pauses else if f then Some show_panels else None) ≡ Some form
     → IsSound form
-show_sound true b c d e form is = let same : ◌≡◌ {A = LineForm} show_front form = cc in subst IsSound same tt
-show_sound false true c d e form is = let same : ◌≡◌ {A = LineForm} show_page form = cc in subst IsSound same tt
-show_sound false false true d e form is = let same : ◌≡◌ {A = LineForm} show_sheets form = cc in subst IsSound same tt
-show_sound false false false true e form is = let same : ◌≡◌ {A = LineForm} show_replies form = cc in subst IsSound same tt
-show_sound false false false false true form is = let same : ◌≡◌ {A = LineForm} show_pauses form = cc in subst IsSound same tt
-show_sound false false false false false form is = absurd cc
+show_sound true b c d e f form is = let same : ◌≡◌ {A = LineForm} show_front form = cc in subst IsSound same tt
+show_sound false true c d e f form is = let same : ◌≡◌ {A = LineForm} show_page form = cc in subst IsSound same tt
+show_sound false false true d e f form is = let same : ◌≡◌ {A = LineForm} show_sheets form = cc in subst IsSound same tt
+show_sound false false false true e f form is = let same : ◌≡◌ {A = LineForm} show_replies form = cc in subst IsSound same tt
+show_sound false false false false true f form is = let same : ◌≡◌ {A = LineForm} show_pauses form = cc in subst IsSound same tt
+show_sound false false false false false true form is = let same : ◌≡◌ {A = LineForm} show_panels form = cc in subst IsSound same tt
+show_sound false false false false false false form is = absurd cc
 
 -- a show of styles has no condition
 styles_sound : (v : Data) (form : LineForm) → form_by kind.Styles v ≡ Some form → IsSound form
@@ -238,8 +239,8 @@ form_sound kind.Settle v form r c e = let p = map_some (λ _. settle) (as_true v
 form_sound kind.Show v form r c e =
     let p = and_then_some show_from (as_str v) form e in
     show_sound (bytes_eq p.0 (codes "front")) (bytes_eq p.0 (codes "page")) (bytes_eq p.0 (codes "sheets"))
-    (bytes_eq p.0 (codes "replies")) (bytes_eq p.0 (codes "pauses")) form p.2
-form_sound kind.Close v form r c e = absurd cc
+    (bytes_eq p.0 (codes "replies")) (bytes_eq p.0 (codes "pauses")) (bytes_eq p.0 (codes "panels")) form p.2
+form_sound kind.Close v form r c e = let p = map_some close (as_whole v) form e in subst IsSound p.2 tt
 form_sound kind.Styles v form r c e = styles_sound v form e
 
 -- ---- whole lines
@@ -331,7 +332,9 @@ fits_line line.ShowPage s = tt
 fits_line line.ShowSheets s = tt
 fits_line line.ShowReplies s = tt
 fits_line line.ShowPauses s = tt
+fits_line line.ShowPanels s = tt
 fits_line (line.ShowStyles k) s = tt
+fits_line (line.Close k) s = tt
 
 whole_line : (read : Line) → IsSound (seen read) → AreWhole read
 whole_line (line.Load page) s = tt
@@ -346,7 +349,9 @@ whole_line line.ShowPage s = tt
 whole_line line.ShowSheets s = tt
 whole_line line.ShowReplies s = tt
 whole_line line.ShowPauses s = tt
+whole_line line.ShowPanels s = tt
 whole_line (line.ShowStyles k) s = tt
+whole_line (line.Close k) s = tt
 
 -- each line that is read has a form that is sound
 pub sound_ok : (n : ℕ) (text : List ℕ) (r : Result Line LineErr) → RefusesLine r (line_fault n text)

@@ -1,12 +1,11 @@
 -- Why a line is refused: the first that applies, in the order of the lists here.
 use Rattle.std.specs.Prelude.{ℕ, ◌==◌, List, [], ◌∷◌, Bool, false, ◌&&◌, ◌||◌, not, Option, Some, None, is_none, is_some, option_map}
-use Rattle.std.specs.Prelude.{option_and_then, bytes_eq, codes, if◌then◌else◌}
+use Rattle.std.specs.Prelude.{option_and_then, codes, if◌then◌else◌}
 use Rattle.std.specs.Option.{option_map_or}
 use Rattle.std.specs.List.{list_any}
 use Rattle.serde_json.specs.Data.{Data}
 use Rattle.serde_json.specs.Find.{get, as_number, as_str}
 use Rattle.serde_json.specs.Written.{has_float}
-use Rattle.cdp_json.specs.Kinds.{as_whole}
 use Rattle.node_tree.specs.Keys.{first_of, first_true}
 use Rattle.page_tree.specs.declared.faults.LoadFault.{LoadFault}
 use Rattle.page_forms.specs.Pages.{page_fault}
@@ -16,30 +15,11 @@ use Rattle.replay_script.specs.declared.line_kinds.LineKind.TheVariants as kind
 use Rattle.replay_script.specs.Kinds.{is_load, said}
 use Rattle.replay_script.specs.Forms.{form_by}
 use Rattle.replay_script.specs.declared.faults.LineFault.{LineFault}
-use Rattle.replay_script.specs.declared.faults.LineFault.TheVariants.{NotJson, NotLoad, BadForm, BadLoad, BadRaw, NotBuilt}
+use Rattle.replay_script.specs.declared.faults.LineFault.TheVariants.{NotJson, NotLoad, BadForm, BadLoad, BadRaw}
 
--- ---- the forms that are not carried out yet
-
--- what a show may tell besides
-abbrev pub is_later_word : List ℕ → Bool
-is_later_word word = bytes_eq word (codes "panels")
-
--- the value of a line of that kind is in a form that is not carried out yet
-abbrev pub is_later : LineKind → Data → Bool
-is_later kind.Load page = false
-is_later kind.Act v = false
-is_later kind.Ask v = false
-is_later kind.Raw v = false
-is_later kind.Up v = false
-is_later kind.Down v = false
-is_later kind.Settle v = false
-is_later kind.Show v = option_map_or is_later_word (as_str v) false
-is_later kind.Close v = is_some (as_whole v)
-is_later kind.Styles v = false
-
--- a line has a form at all; each load has one, and its page's own faults come later
+-- a line has a form; each load has one, and its page's own faults come later
 abbrev pub has_form : LineKind → Data → Bool
-has_form kind v = is_load kind || (is_some (form_by kind v) || is_later kind v)
+has_form kind v = is_load kind || is_some (form_by kind v)
 
 -- ---- frames that a line may not send
 
@@ -81,10 +61,7 @@ raw_by kind.Styles v = None
 -- the first fault of what a line says, where all its numbers are whole
 abbrev pub fault_by : LineKind → Data → Option LineFault
 fault_by kind v =
-    first_of (first_true
-    ((BadForm, not (has_form kind v))
-    ∷ (NotBuilt, is_later kind v)
-    ∷ []))
+    first_of (first_true ((BadForm, not (has_form kind v)) ∷ []))
     (first_of (option_map BadLoad (option_and_then page_fault (page_by kind v)))
     (first_true ((BadRaw, option_map_or is_no_frame (raw_by kind v) false) ∷ [])))
 
@@ -102,10 +79,6 @@ load_fault d = option_and_then page_fault (page_of d)
 abbrev pub is_formed : Data → Bool
 is_formed d = option_map_or (λ s. has_form s.0 s.1) (said d) false
 
--- a line has a form that is not carried out yet
-abbrev pub is_unbuilt : Data → Bool
-is_unbuilt d = option_map_or (λ s. is_later s.0 s.1) (said d) false
-
 -- a line sends a text that may not be sent
 abbrev pub sends_no_frame : Data → Bool
 sends_no_frame d = option_map_or is_no_frame (option_and_then (λ s. raw_by s.0 s.1) (said d)) false
@@ -116,7 +89,6 @@ fault_of_data number d =
     first_of (first_true
     ((NotLoad, number == 1 && is_none (page_of d))
     ∷ (BadForm, has_float d || not (is_formed d))
-    ∷ (NotBuilt, is_unbuilt d)
     ∷ []))
     (first_of (option_map BadLoad (load_fault d))
     (first_true ((BadRaw, sends_no_frame d) ∷ [])))

@@ -18,7 +18,7 @@ pub record AskForm : Type 0 where
   pub params : Option Data
   pub session : Option Data
 
--- what a line says that is carried out
+-- what a line says
 pub data LineForm : Type 0 where
   -- a new page
   load : LoadedPage → LineForm
@@ -37,8 +37,11 @@ pub data LineForm : Type 0 where
   show_sheets : LineForm
   show_replies : LineForm
   show_pauses : LineForm
+  show_panels : LineForm
   -- the matched styles that the reply to this ask told
   show_styles : ℕ → LineForm
+  -- the panel at this place of those handed in, counted from 1, is dropped
+  close : ℕ → LineForm
 
 -- ---- `{"ask":{"method":TEXT,"params":ANY,"sessionId":ANY}}`, where `params` and `sessionId` may be absent
 
@@ -68,9 +71,10 @@ show_from word =
     else if bytes_eq word (codes "sheets") then Some show_sheets
     else if bytes_eq word (codes "replies") then Some show_replies
     else if bytes_eq word (codes "pauses") then Some show_pauses
+    else if bytes_eq word (codes "panels") then Some show_panels
     else None
 
--- ---- the form of a line, if it is carried out
+-- ---- the form of a line
 
 -- The form that the value of a line has by the line's kind. A number is a whole one from 0 to 2^53-1.
 abbrev pub form_by : LineKind → Data → Option LineForm
@@ -82,7 +86,7 @@ form_by kind.Up v = option_map up (as_whole v)
 form_by kind.Down v = option_map down (as_whole v)
 form_by kind.Settle v = option_map (λ _. settle) (as_true v)
 form_by kind.Show v = option_and_then show_from (as_str v)
-form_by kind.Close v = None
+form_by kind.Close v = option_map close (as_whole v)
 form_by kind.Styles v = option_map show_styles (as_whole v)
 
 -- the form of a line by its JSON

@@ -6,7 +6,7 @@ use Rattle.serde_json.specs.View.{view}
 use Rattle.serde_json.specs.declared.value.Value.{Value}
 use Rattle.page_forms.specs.Pages.{loaded_page}
 use Rattle.replay_script.specs.Forms.{AskForm, LineForm, load, act, ask, raw, up, down, settle, show_front, show_page, show_sheets}
-use Rattle.replay_script.specs.Forms.{show_replies, show_pauses, show_styles}
+use Rattle.replay_script.specs.Forms.{show_replies, show_pauses, show_panels, show_styles, close}
 use Rattle.replay_script.specs.declared.line_kinds.LineKind.{LineKind}
 use Rattle.replay_script.specs.declared.faults.LineErr.{LineErr}
 use Rattle.replay_script.specs.declared.faults.LineErr.TheVariants.{Fault, Memory}
@@ -50,7 +50,9 @@ seen line.ShowPage = show_page
 seen line.ShowSheets = show_sheets
 seen line.ShowReplies = show_replies
 seen line.ShowPauses = show_pauses
+seen line.ShowPanels = show_panels
 seen (line.ShowStyles k) = show_styles k
+seen (line.Close k) = close k
 
 -- Ok comes where there is no fault, and else the fault; want of memory is free.
 abbrev pub RefusesLine : {T : Type 0} → Result T LineErr → Option LineFault → Type 0

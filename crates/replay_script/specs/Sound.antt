@@ -15,7 +15,7 @@ use Rattle.cdp_messages.specs.declared.command.Why.{Why}
 use Rattle.replay_script.specs.declared.forms.Line.{Line}
 use Rattle.replay_script.specs.declared.forms.Line.TheVariants as line
 use Rattle.replay_script.specs.Forms.{AskForm, LineForm, load, act, ask, raw, up, down, settle, show_front, show_page, show_sheets}
-use Rattle.replay_script.specs.Forms.{show_replies, show_pauses, show_styles, line_form}
+use Rattle.replay_script.specs.Forms.{show_replies, show_pauses, show_panels, show_styles, close, line_form}
 use Rattle.replay_script.specs.Faults.{line_fault}
 
 -- ---- a load and an act
@@ -72,7 +72,9 @@ IsSound show_page = ⊤
 IsSound show_sheets = ⊤
 IsSound show_replies = ⊤
 IsSound show_pauses = ⊤
+IsSound show_panels = ⊤
 IsSound (show_styles k) = ⊤
+IsSound (close k) = ⊤
 
 -- each line that is not refused has such a form
 abbrev pub FormsAreSound : Type 0
@@ -100,7 +102,9 @@ FitsPage line.ShowPage = ⊤
 FitsPage line.ShowSheets = ⊤
 FitsPage line.ShowReplies = ⊤
 FitsPage line.ShowPauses = ⊤
+FitsPage line.ShowPanels = ⊤
 FitsPage (line.ShowStyles k) = ⊤
+FitsPage (line.Close k) = ⊤
 
 -- each number in the JSON of an ask is whole
 abbrev pub AreWhole : Line → Type 0
@@ -118,4 +122,6 @@ AreWhole line.ShowPage = ⊤
 AreWhole line.ShowSheets = ⊤
 AreWhole line.ShowReplies = ⊤
 AreWhole line.ShowPauses = ⊤
+AreWhole line.ShowPanels = ⊤
 AreWhole (line.ShowStyles k) = ⊤
+AreWhole (line.Close k) = ⊤

@@ -5,7 +5,7 @@ use page_tree::LoadFault;
 use std::alloc::AllocError;
 use thiserror::Error;
 
-/// Why a line is refused. The first that applies is answered, in the order NotJson, NotLoad, BadForm, NotBuilt, BadLoad, BadRaw, NoStyles.
+/// Why a line is refused. The first that applies is answered, in the order NotJson, NotLoad, BadForm, BadLoad, BadRaw, NoPanel, NoStyles.
 #[derive(Clone, Copy, Debug, Error)]
 pub enum LineFault {
     /// `serde_json` does not read the line; bytes that are not UTF-8 are no JSON.
@@ -23,12 +23,12 @@ pub enum LineFault {
     /// A raw text holds U+0000, or reads as an object whose `id` is a whole number.
     #[error("BadRaw")]
     BadRaw,
+    /// No panel stands open at the place that the line names. Reading a line never gives it: it comes as the line is carried out.
+    #[error("NoPanel")]
+    NoPanel,
     /// No reply told the matched styles that the line shows. Reading a line never gives it: it comes as the line is carried out.
     #[error("NoStyles")]
     NoStyles,
-    /// The line has a form that is not carried out yet.
-    #[error("NotBuilt")]
-    NotBuilt,
 }
 
 #[derive(Clone, Copy, Debug, Error)]
@@ -71,7 +71,7 @@ pub fn fault_name(fault: LineFault) -> &'static str
         LineFault::BadForm => "BadForm",
         LineFault::BadLoad(fault) => load_fault_name(fault),
         LineFault::BadRaw => "BadRaw",
+        LineFault::NoPanel => "NoPanel",
         LineFault::NoStyles => "NoStyles",
-        LineFault::NotBuilt => "NotBuilt",
     }
 }

@@ -2,7 +2,7 @@
 ghost use Rattle.std.specs.Prelude.{◌≡◌, option_map, IfOk};
 ghost use Rattle.serde_json.specs.View.{view};
 ghost use Rattle.replay_script.specs.Forms.{ask_in};
-ghost use Rattle.replay_script.specs.Script.{styles_ask};
+ghost use Rattle.replay_script.specs.Script.{closed_by, styles_ask};
 ghost use Rattle.replay_script.specs.Seen.{parts_form, seen, seen_ask};
 
 use cdp_json::Cursor;
@@ -11,7 +11,7 @@ use page_forms::{Act, PageForm};
 use serde_json::Value;
 use std::alloc::{AllocError, Global};
 
-/// A line that is carried out.
+/// A line of a script.
 #[derive(Drop)]
 pub enum Line {
     /// A new page in place of the old one.
@@ -32,8 +32,11 @@ pub enum Line {
     ShowSheets,
     ShowReplies,
     ShowPauses,
+    ShowPanels,
     /// The matched styles that the reply to the ask of this number told.
     ShowStyles(u64),
+    /// The panel at this place of those handed in, counted from 1, is dropped.
+    Close(u64),
 }
 
 impl Line {
@@ -54,7 +57,32 @@ impl Line {
             | Line::ShowPage
             | Line::ShowSheets
             | Line::ShowReplies
-            | Line::ShowPauses => None,
+            | Line::ShowPauses
+            | Line::ShowPanels
+            | Line::Close(_) => None,
+        }
+    }
+
+    /// The place of the panel that the line drops.
+    pub fn closed_by(&self) -> Option<u64>
+        ensures { result ≡ closed_by (seen self.now) }
+    {
+        match self {
+            Line::Close(place) => Some(*place),
+            Line::Load(_)
+            | Line::Act(_)
+            | Line::Ask(_)
+            | Line::Raw(_)
+            | Line::Up(_)
+            | Line::Down(_)
+            | Line::Settle
+            | Line::ShowFront
+            | Line::ShowPage
+            | Line::ShowSheets
+            | Line::ShowReplies
+            | Line::ShowPauses
+            | Line::ShowPanels
+            | Line::ShowStyles(_) => None,
         }
     }
 }

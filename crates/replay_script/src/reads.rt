@@ -2,7 +2,7 @@
 ghost use Rattle.std.specs.Prelude.{◌≡◌, ◌==◌, ◌&&◌, not, Some, IfOk};
 ghost use Rattle.serde_json.specs.View.{view};
 ghost use Rattle.replay_script.specs.declared.line_kinds.LineKind.TheVariants as kind;
-ghost use Rattle.replay_script.specs.Faults.{is_later_word, fault_by, fault_of_data, line_fault};
+ghost use Rattle.replay_script.specs.Faults.{fault_by, fault_of_data, line_fault};
 ghost use Rattle.replay_script.specs.Forms.{form_by, form_of, line_form};
 ghost use Rattle.replay_script.specs.Kinds.{is_load};
 ghost use Rattle.replay_script.specs.Seen.{seen, RefusesLine};
@@ -95,12 +95,6 @@ fn read_settle(value: &Value) -> Result<Line, LineErr>
     }
 }
 
-fn is_later_word(word: &str) -> bool
-    ensures { result ≡ is_later_word word.now }
-{
-    word == "panels"
-}
-
 fn read_show(value: &Value) -> Result<Line, LineErr>
     ensures fault { RefusesLine result (fault_by kind.Show (view value.now)) }
     ensures form { IfOk result (λ line. form_by kind.Show (view value.now) ≡ Some (seen line)) }
@@ -123,8 +117,8 @@ fn read_show(value: &Value) -> Result<Line, LineErr>
     if word == "pauses" {
         return Ok(Line::ShowPauses);
     }
-    if is_later_word(word) {
-        return Err(LineErr::Fault(LineFault::NotBuilt));
+    if word == "panels" {
+        return Ok(Line::ShowPanels);
     }
     Err(LineErr::Fault(LineFault::BadForm))
 }
@@ -139,13 +133,13 @@ fn read_styles(value: &Value) -> Result<Line, LineErr>
     }
 }
 
-// The fault of a line that drops a panel, which is not carried out yet.
-fn close_fault(value: &Value) -> LineFault
-    ensures { fault_by kind.Close (view value.now) ≡ Some result }
+fn read_close(value: &Value) -> Result<Line, LineErr>
+    ensures fault { RefusesLine result (fault_by kind.Close (view value.now)) }
+    ensures form { IfOk result (λ line. form_by kind.Close (view value.now) ≡ Some (seen line)) }
 {
     match whole_of(value) {
-        Some(_) => LineFault::NotBuilt,
-        None => LineFault::BadForm,
+        Some(place) => Ok(Line::Close(place)),
+        None => Err(LineErr::Fault(LineFault::BadForm)),
     }
 }
 
@@ -162,7 +156,7 @@ fn read_by(alloc: Global, kind: LineKind, value: &Value) -> Result<Line, LineErr
         LineKind::Down => read_down(value),
         LineKind::Settle => read_settle(value),
         LineKind::Show => read_show(value),
-        LineKind::Close => Err(LineErr::Fault(close_fault(value))),
+        LineKind::Close => read_close(value),
         LineKind::Styles => read_styles(value),
     }
 }

@@ -1,5 +1,6 @@
 -- Places of a text of which a part is replaced.
-use Rattle.std.specs.Prelude.{ℕ, ◌+◌, ◌-◌, ◌<◌, ◌≤◌, ◌^◌, nat_le, if◌then◌else◌}
+use Rattle.std.specs.Prelude.{ℕ, ◌+◌, ◌-◌, ◌<◌, ◌≤◌, nat_le, if◌then◌else◌}
+use Rattle.node_tree.specs.Numbers.{number_limit}
 use Rattle.css_tokens.specs.declared.token.Range.{Range}
 use Rattle.selectors.specs.Forms.{SelectorForm}
 
@@ -28,7 +29,7 @@ placed_selector f s = record { compounds = s.compounds; pseudo_element = s.pseud
 -- the place is not inside the cut, and where it is moved to is a place
 pub record CanPlace (c : Cut) (place : ℕ) : Type 0 where
   pub outside : c.start < place → c.end ≤ place
-  pub fits : moved_place c place < 2 ^ 64
+  pub fits : moved_place c place < number_limit
 
 -- so for both ends of a range
 pub record CanPlaceRange (c : Cut) (r : Range) : Type 0 where

@@ -3,22 +3,28 @@
 //! An example begins with a line `## WORD NAME`; the lines up to the next are what `inspect WORD` reads. To `serve` each
 //! line is a frame, whose line feed stands for its zero byte. A last line that ends in `..` is cut off there: no line feed
 //! and no zero byte stands behind it. A line `#! PART N` says that the N-th call of a part of the outside fails, `source`,
-//! `sink` or `link`.
+//! `sink` or `link`. Lines `#! outline`, `#! counts` and `#! watch S` say which panels are handed in; without one they are the program's,
+//! an outline, the counts and a watch on the node with serial 2.
 //!
 //! Behind the line of its beginning stands what was written, each zero byte as a line feed, and how a run ended that is
 //! not done.
 #![tactic(auto)]
 
+use front_mirror::{Panel, PanelKind};
 use inspect_replay::{Status, inspect, status_line};
+use panels::{CountsPanel, OutlinePanel, WatchPanel};
 use pipe_frames::{MemLink, MemSink, MemSource};
 use std::alloc::Global;
 use std::io::{Read, Write};
 use std::{io, str};
 
+/// The serial of the node that a panel watches.
+const WATCHED: u64 = 2;
+
 /// The bytes that a source gives at a time.
 const PIECE: usize = 50;
 
-/// An example as far as it is read, with the calls of the outside that fail in it.
+/// An example as far as it is read, with the calls of the outside that fail in it and the panels that it names.
 #[derive(Drop)]
 struct Example<'a> {
     word: &'a str,
@@ -26,6 +32,7 @@ struct Example<'a> {
     source: Vec<u64>,
     sink: Vec<u64>,
     link: Vec<u64>,
+    panels: Vec<PanelKind>,
 }
 
 fn main(rt: HostRuntime) -> io::Result<()> {
@@ -42,7 +49,7 @@ fn main(rt: HostRuntime) -> io::Result<()> {
             out.write_all(b"\n")?;
             example = begun(alloc, text_of(heading));
         } else if let Some(fault) = line.strip_prefix(b"#! ") {
-            fail(&mut example, text_of(fault))?;
+            set(&mut example, text_of(fault))?;
         } else {
             append(&mut example, line)?;
         }
@@ -67,11 +74,22 @@ fn begun<'a>(alloc: Global, heading: &'a str) -> Example<'a> {
         source: Vec::new(alloc),
         sink: Vec::new(alloc),
         link: Vec::new(alloc),
+        panels: Vec::new(alloc),
     }
 }
 
-/// One more call of the outside that fails: a part, and the number of its call. Any other text says nothing.
-fn fail(example: &mut Example<'_>, fault: &str) -> io::Result<()> {
+/// One more panel without a number, or what has one.
+fn set(example: &mut Example<'_>, said: &str) -> io::Result<()> {
+    match said {
+        "outline" => example.panels.push(PanelKind::Outline)?,
+        "counts" => example.panels.push(PanelKind::Counts)?,
+        _ => set_numbered(example, said)?,
+    }
+    Ok(())
+}
+
+/// One more call of the outside that fails: a part, and the number of its call; or a watch on a node. Any other text says nothing.
+fn set_numbered(example: &mut Example<'_>, fault: &str) -> io::Result<()> {
     let Some((part, number)) = fault.split_once(" ") else {
         return Ok(());
     };
@@ -82,6 +100,7 @@ fn fail(example: &mut Example<'_>, fault: &str) -> io::Result<()> {
         "source" => example.source.push(call)?,
         "sink" => example.sink.push(call)?,
         "link" => example.link.push(call)?,
+        "watch" => example.panels.push(PanelKind::Watch(call))?,
         _ => {}
     }
     Ok(())
@@ -99,7 +118,7 @@ fn append(example: &mut Example<'_>, line: &[u8]) -> io::Result<()> {
     Ok(())
 }
 
-/// Runs the example over an honest link, and prints what was written and how the run ended.
+/// Runs the example over an honest link, with the panels of the program, and prints what was written and how the run ended.
 fn tell<W: Write>(alloc: Global, out: &mut W, example: Example<'_>) -> io::Result<()> {
     if example.word.is_empty() {
         return Ok(());
@@ -109,7 +128,27 @@ fn tell<W: Write>(alloc: Global, out: &mut W, example: Example<'_>) -> io::Resul
     let mut source = MemSource::new(example.input, PIECE, example.source);
     let mut sink = MemSink::new(alloc, example.sink);
     let mut link = MemLink::new(alloc, example.link);
-    let status = inspect(alloc, &words, &mut source, &mut sink, &mut link);
+    let mut panels: Vec<Box<dyn Panel>> = Vec::new(alloc);
+    let usual = [
+        PanelKind::Outline,
+        PanelKind::Counts,
+        PanelKind::Watch(WATCHED),
+    ];
+    let kinds = if example.panels.is_empty() {
+        &usual[..]
+    } else {
+        example.panels.as_slice()
+    };
+    for kind in kinds {
+        match *kind {
+            PanelKind::Outline => panels.push(Box::new(alloc, OutlinePanel::new(alloc))?)?,
+            PanelKind::Counts => panels.push(Box::new(alloc, CountsPanel::new(alloc))?)?,
+            PanelKind::Watch(serial) => {
+                panels.push(Box::new(alloc, WatchPanel::new(alloc, serial))?)?
+            }
+        }
+    }
+    let status = inspect(alloc, &words, &mut source, &mut sink, &mut link, panels);
     print(alloc, out, sink.bytes())?;
     end(alloc, out, &status)
 }

@@ -29,7 +29,7 @@ loop-text-init g c = (
     worlds = refl;
     refused = refl;
   },
-  λ state0 up0 down0 run. carried-first state0 up0 down0 _ _ c.args.lines c.args.ends.now run,
+  λ begun up0 down0 run. carried-first begun up0 down0 _ _ c.args.lines c.args.ends.now run,
   record { written = []; printed = Appends-nil (g.K.Sink.taken c.args.out.now) },
 )
 
@@ -41,17 +41,17 @@ pub returns-in-Err : goal.returns-in-Err
 returns-in-Err g c = record {
   honest = search rules;
   cause = search rules;
-  follows = λ state0 up0 down0 run.
-      let before = carried-lines state0 up0 down0 (g.L.Link.up c.loop-text.link)
+  follows = λ begun up0 down0 run.
+      let before = carried-lines begun up0 down0 (g.L.Link.up c.loop-text.link)
       (g.L.Link.down c.loop-text.link) c.args.lines c.loop-text.number c.loop-text.lines
       (c.in-Some.text.now ∷ c.next_line.new.lines) c.loop-text.ends
-      c.in-Some.ensures.some (c.loop-text.invariant.6 state0 up0 down0 run) in (
+      c.in-Some.ensures.some (c.loop-text.invariant.6 begun up0 down0 run) in (
         tt,
         read-folds c.in-Err.stop c.loop-text.number _
             (fold_since up0 down0 (g.L.Link.up c.loop-text.link) (g.L.Link.down c.loop-text.link)) c.in-Err.ensures.bad
-            (run-good (run_started state0 (length (c.in-Some.text.now ∷ c.next_line.new.lines)) before.shown) up0 down0
+            (run-good (run_started begun.state (length (c.in-Some.text.now ∷ c.next_line.new.lines)) before.shown before.panels) up0 down0
             (g.L.Link.up c.loop-text.link) (g.L.Link.down c.loop-text.link) c.loop-text.ends before.run),
-        read-tells c.in-Err.stop state0 up0 down0 _ _ c.args.lines c.loop-text.number c.in-Some.text.now c.next_line.new.lines
+        read-tells c.in-Err.stop begun up0 down0 _ _ c.args.lines c.loop-text.number c.in-Some.text.now c.next_line.new.lines
             c.loop-text.ends before c.in-Err.ensures.bad,
       );
   some = tt;
@@ -68,21 +68,21 @@ pub returns-in-Err-carried : goal.returns-in-Err-carried
 returns-in-Err-carried g c = record {
   honest = search rules;
   cause = search rules;
-  follows = λ state0 up0 down0 run.
+  follows = λ begun up0 down0 run.
       let more = c.next_line.new.lines in
-      let before = carried-lines state0 up0 down0 (g.L.Link.up c.loop-text.link)
+      let before = carried-lines begun up0 down0 (g.L.Link.up c.loop-text.link)
       (g.L.Link.down c.loop-text.link) c.args.lines c.loop-text.number c.loop-text.lines (c.in-Some.text.now ∷ more) c.loop-text.ends
-      c.in-Some.ensures.some (c.loop-text.invariant.6 state0 up0 down0 run) in
-      let line = run-line state0 before.shown up0 down0 _ _ c.loop-text.ends
+      c.in-Some.ensures.some (c.loop-text.invariant.6 begun up0 down0 run) in
+      let line = run-line begun before.shown before.panels up0 down0 _ _ c.loop-text.ends
       (c.in-Some.text.now ∷ more) c.in-Some.text.now more refl before.run in
       let stops = c.in-Err-carried.ensures {u = tt} in (
         tt,
-        (stops.plays.follows (run_started state0 (length more) before.shown) up0 down0 line).1,
-        line-stops c.in-Err-carried.stop state0 up0 down0 _ _
+        (stops.plays.follows (run_started begun.state (length more) before.shown before.panels) up0 down0 line).1,
+        line-stops c.in-Err-carried.stop begun up0 down0 _ _
             (fold_since up0 down0 (g.L.Link.up c.carry_out-carried.new.link)
             (g.L.Link.down c.carry_out-carried.new.link)) c.args.lines c.loop-text.number
             c.in-Some.text.now more (seen c.in-Ok.line) c.loop-text.ends before c.in-Ok.ensures.good c.in-Ok.ensures.form
-            (stops.tells (run_started state0 (length more) before.shown) up0 down0 line),
+            (stops.tells (run_started begun.state (length more) before.shown before.panels) up0 down0 line),
       );
   some = tt;
   runs = λ up0 down0 w play.
@@ -124,20 +124,21 @@ loop-text-preserved g c =
           (with_lines _ up0 down0 _ _ _ _ _ c.loop-text.number c.loop-text.lines
           (c.in-Some.text.now ∷ more) c.loop-text.ends c.in-Some.ensures.some (c.loop-text.invariant.5 up0 down0 w play))
           c.in-Ok.ensures.good c.in-Ok.ensures.form carried.plays.runs,
-      λ state0 up0 down0 run.
-          let before = carried-lines state0 up0 down0 (g.L.Link.up c.loop-text.link)
+      λ begun up0 down0 run.
+          let before = carried-lines begun up0 down0 (g.L.Link.up c.loop-text.link)
           (g.L.Link.down c.loop-text.link) c.args.lines c.loop-text.number c.loop-text.lines
           (c.in-Some.text.now ∷ more) c.loop-text.ends
-          c.in-Some.ensures.some (c.loop-text.invariant.6 state0 up0 down0 run) in
-          let line = run-line state0 before.shown up0 down0 _ _ c.loop-text.ends
+          c.in-Some.ensures.some (c.loop-text.invariant.6 begun up0 down0 run) in
+          let line = run-line begun before.shown before.panels up0 down0 _ _ c.loop-text.ends
           (c.in-Some.text.now ∷ more) c.in-Some.text.now more refl before.run in
-          carried-on state0 up0 down0 _ _
+          carried-on begun up0 down0 _ _
           (moment (g.L.Link.honest c.loop-text.link) (g.L.Link.up c.loop-text.link) (g.L.Link.down c.loop-text.link) c.loop-text.ends)
           (moment (g.L.Link.honest c.carry_out-carried.new.link) (g.L.Link.up c.carry_out-carried.new.link)
           (g.L.Link.down c.carry_out-carried.new.link) c.carry_out-carried.new.ends)
           c.args.lines c.loop-text.number c.in-Some.text.now more form before c.in-Ok.ensures.good c.in-Ok.ensures.form
-          (carried.plays.follows (run_started state0 (length more) before.shown) up0 down0 line).0
-          (ok-lacks c.loop-text.number _ (carried.tells (run_started state0 (length more) before.shown) up0 down0 line).0),
+          (carried.plays.follows (run_started begun.state (length more) before.shown before.panels) up0 down0 line).0
+          (ok-lacks c.loop-text.number _
+          (carried.tells (run_started begun.state (length more) before.shown before.panels) up0 down0 line).0),
       more-printed _ (g.K.Sink.taken c.loop-text.out) _ c.loop-text.invariant.7 carried.plays.some,
     )
 
@@ -145,15 +146,15 @@ pub returns : goal.returns
 returns g c = record {
   honest = search rules;
   cause = search rules;
-  follows = λ state0 up0 down0 run.
+  follows = λ begun up0 down0 run.
       let new = record (moment (g.L.Link.honest c.loop-text.link) (g.L.Link.up c.loop-text.link) (g.L.Link.down c.loop-text.link)
       c.loop-text.ends) { faults = g.L.Link.faults c.loop-text.link } in
-      let all = carried-all state0 up0 down0 new c.args.lines c.loop-text.number c.loop-text.lines
-      ((c.in_default.ensures {u = tt}).none refl) (c.loop-text.invariant.6 state0 up0 down0 run) in (
+      let all = carried-all begun up0 down0 new c.args.lines c.loop-text.number c.loop-text.lines
+      ((c.in_default.ensures {u = tt}).none refl) (c.loop-text.invariant.6 begun up0 down0 run) in (
         all,
-        run-good (run_started state0 0 all.shown) up0 down0 (g.L.Link.up c.loop-text.link)
+        run-good (run_started begun.state 0 all.shown all.panels) up0 down0 (g.L.Link.up c.loop-text.link)
             (g.L.Link.down c.loop-text.link) c.loop-text.ends all.run,
-        carried-tells state0 up0 down0 new c.args.lines all,
+        carried-tells begun up0 down0 new c.args.lines all,
       );
   some = c.loop-text.invariant.7;
   runs = λ up0 down0 w play.

@@ -4,8 +4,7 @@ use Rattle.pipe_frames.specs.Pipe.{Pipe}
 use Rattle.inspect_world.specs.Costs.{line_bytes}
 use Rattle.inspect_world.specs.World.{World}
 use Rattle.inspect_world.specs.RunStates.{RunState}
-use Rattle.back_end.specs.States.{State}
-use Rattle.inspect_world.specs.Links.{run_started}
+use Rattle.inspect_world.specs.Links.{Begun, run_started}
 use Rattle.inspect_replay.specs.Followed.{FollowsRun, PrintedSome}
 use Rattle.inspect_replay.specs.Runs.{InPlay}
 use Rattle.inspect_replay.proofs.LinesRun.{Running, whole_of}
@@ -25,10 +24,10 @@ invariant-loop-text g l =
     → Running (g.L.Link.honest l.link) up0 down0 (g.L.Link.up l.link) (g.L.Link.down l.link) (g.K.Sink.taken l.initial.out)
     (g.K.Sink.taken l.out)
     (whole_of l.initial.lines w) l.number l.lines l.ends)
-    × ((state0 : State) (up0 down0 : Pipe)
-    → FollowsRun (run_started state0 (length l.initial.lines) []) up0 down0 (g.L.Link.up l.initial.link)
+    × ((begun : Begun) (up0 down0 : Pipe)
+    → FollowsRun (run_started begun.state (length l.initial.lines) [] begun.panels) up0 down0 (g.L.Link.up l.initial.link)
     (g.L.Link.down l.initial.link) l.initial.ends
-    → Carried state0 up0 down0 (g.L.Link.up l.link) (g.L.Link.down l.link) l.initial.lines l.number l.lines l.ends)
+    → Carried begun up0 down0 (g.L.Link.up l.link) (g.L.Link.down l.link) l.initial.lines l.number l.lines l.ends)
     × PrintedSome (g.K.Sink.taken l.initial.out) (g.K.Sink.taken l.out)
 
 abbrev pub decreases-loop-text : goal.decreases-loop-text

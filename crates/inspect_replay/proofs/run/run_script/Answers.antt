@@ -1,5 +1,5 @@
 -- A whole script is carried out.
-use Rattle.std.proofs.Common.{◌≡◌, refl, sym, subst, ◌∙◌, ◌∷◌, ◌^◌, Some}
+use Rattle.std.proofs.Common.{◌≡◌, refl, sym, subst, ◌∙◌, ◌∷◌, ◌^◌, map, Some}
 use Rattle.page_forms.specs.Pages.{loaded_page}
 use Rattle.replay_script.specs.Forms.{load, line_form}
 use Rattle.replay_script.specs.Lines.{lines_of}
@@ -45,7 +45,8 @@ returns-in-Ok-clause-took g c = λ honest up_level down_level.
     let nodes = loaded_page c.in-Ok.form in
     let form : line_form c.in-Some.first.now ≡ Some (load nodes) = read.form in
     subst (λ text. RunTook c.run_loaded.result (g.K.Sink.taken c.args.out.now) (g.K.Sink.taken c.run_loaded.new.out) text)
-    (sym (report-loads c.args.input.now c.in-Some.first.now c.next_line.new.lines nodes lines read.good form))
+    (sym (report-loads (map g.P.Panel.kind_of c.args.panels.items) c.args.input.now c.in-Some.first.now c.next_line.new.lines nodes lines
+    read.good form))
     (c.run_loaded.ensures.took honest up_level down_level)
 
 pub returns-in_default-clause-refused : goal.returns-in_default-clause-refused
@@ -64,7 +65,7 @@ returns-in-Ok-clause-tells g c =
     let there = came_styles (fold_since (g.L.Link.up c.args.link.now) (g.L.Link.down c.args.link.now) (g.L.Link.up c.run_loaded.new.link)
     (g.L.Link.down c.run_loaded.new.link)).fold in
     subst (λ bad. RunTells c.run_loaded.result bad)
-    (sym (script-refused there c.args.input.now c.in-Some.first.now c.next_line.new.lines
+    (sym (script-refused there (map g.P.Panel.kind_of c.args.panels.items) c.args.input.now c.in-Some.first.now c.next_line.new.lines
     (loaded_page c.in-Ok.form) lines read.good read.form))
     c.run_loaded.ensures.tells
 
@@ -74,22 +75,24 @@ returns-in-Ok-clause-stops g c = λ honest up_level down_level.
     ≡ c.in-Some.first.now ∷ c.next_line.new.lines = sym c.new-lines.ensures ∙ c.in-Some.ensures.some in
     let read = c.in-Ok.ensures {u = tt} in
     subst (λ bad. RunTells c.run_loaded.result bad)
-    (sym (refused-loads c.args.input.now c.in-Some.first.now c.next_line.new.lines (loaded_page c.in-Ok.form) lines read.good read.form))
+    (sym (refused-loads (map g.P.Panel.kind_of c.args.panels.items) c.args.input.now c.in-Some.first.now c.next_line.new.lines
+    (loaded_page c.in-Ok.form) lines read.good read.form))
     (c.run_loaded.ensures.stops honest up_level down_level)
 
 pub returns-in-Err-clause-tells : goal.returns-in-Err-clause-tells
 returns-in-Err-clause-tells g c =
-    unread-tells c.in-Err.stop _ c.args.input.now c.in-Some.first.now c.next_line.new.lines
+    unread-tells c.in-Err.stop _ _ c.args.input.now c.in-Some.first.now c.next_line.new.lines
     (sym c.new-lines.ensures ∙ c.in-Some.ensures.some) c.in-Err.ensures.bad
 
 pub returns-in-Err-clause-stops : goal.returns-in-Err-clause-stops
 returns-in-Err-clause-stops g c = λ honest up_level down_level.
-    unread-stops c.in-Err.stop c.args.input.now c.in-Some.first.now c.next_line.new.lines
+    unread-stops c.in-Err.stop _ c.args.input.now c.in-Some.first.now c.next_line.new.lines
     (sym c.new-lines.ensures ∙ c.in-Some.ensures.some) c.in-Err.ensures.bad
 
 pub returns-in_default-clause-tells : goal.returns-in_default-clause-tells
-returns-in_default-clause-tells g c = no-lines-tell _ c.args.input.now (sym c.new-lines.ensures ∙ (c.in_default.ensures {u = tt}).none refl)
+returns-in_default-clause-tells g c = no-lines-tell _ _ c.args.input.now
+    (sym c.new-lines.ensures ∙ (c.in_default.ensures {u = tt}).none refl)
 
 pub returns-in_default-clause-stops : goal.returns-in_default-clause-stops
-returns-in_default-clause-stops g c = λ honest up_level down_level. no-lines-stop c.args.input.now
+returns-in_default-clause-stops g c = λ honest up_level down_level. no-lines-stop _ c.args.input.now
     (sym c.new-lines.ensures ∙ (c.in_default.ensures {u = tt}).none refl)

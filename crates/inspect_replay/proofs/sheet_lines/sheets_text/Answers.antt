@@ -5,7 +5,7 @@ use Rattle.inspect_replay.proofs.SheetLineLemmas.{lines-turn}
 use Rattle.inspect_replay.proofs.sheet_lines.sheets_text.Goals as goal
 
 pub loop-i-preserved : goal.loop-i-preserved
-loop-i-preserved c =
+loop-i-preserved g c =
     lines-turn c.loop-i.text.items c.write_known.new.out.items
     (codes "# sheets" ++ 10 ∷ known_lines c.args.front.now.value.sheets) c.args.front.now.value.sheets c.loop-i.i
     c.in_ok-write_known.ensures c.loop-i.invariant

@@ -5,7 +5,7 @@ use Rattle.inspect_replay.proofs.RunLemmas.{seated-first}
 use Rattle.inspect_replay.proofs.ends.Ends.new.Goals as goal
 
 pub invariant_of-result : goal.invariant_of-result
-invariant_of-result c = record {
+invariant_of-result g c = record {
   seated = seated-first (loaded_page c.args.form) c.new-2.result c.in_ok-new.field-0 c.requires.can c.requires.texts (record {
     page_is = (c.in_ok-new.ensures {u = tt}).page;
     sheets_are = (c.in_ok-new.ensures {u = tt}).sheets;
@@ -21,7 +21,7 @@ invariant_of-result c = record {
 }
 
 pub returns : goal.returns
-returns c = record {
+returns g c = record {
   side = record {
     page_is = (c.in_ok-new.ensures {u = tt}).page;
     sheets_are = (c.in_ok-new.ensures {u = tt}).sheets;
