@@ -8,8 +8,8 @@ use Rattle.back_end.proofs.desk.Desk.discard_search_results.Goals as goal
 pub returns-in_default-clause-sent : goal.returns-in_default-clause-sent
 returns-in_default-clause-sent c = λ state stands.
     on_ok c.refuse.result _ _ (c.refuse.ensures state)
-    (unknown-search-sent c.args.self.now c.args.side.now state c.args.id c.args.search.now stands c.args.out.now.items c.refuse.new.out.items
-    c.in_default.ensures)
+    (unknown-search-sent c.args.self.now c.args.side.now state c.args.id c.args.search.now stands c.args.out.now.items
+    c.refuse.new.out.items c.in_default.ensures)
 
 pub returns-in-Err-clause-sent : goal.returns-in-Err-clause-sent
 returns-in-Err-clause-sent c = λ state stands.

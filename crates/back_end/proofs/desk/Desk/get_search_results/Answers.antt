@@ -17,7 +17,8 @@ returns-then-not-has_document-clause-sent c = λ state stands.
     on_ok c.refuse.result _ _ (c.refuse.ensures state)
     (unlisted-sent c.args.self.now c.args.side.now state c.args.id stands (results_asked c.args.search.now c.args.from c.args.to state)
     NotPushed c.args.out.now.items c.refuse.new.out.items
-    (unpushed c.args.self.now c.args.side.now state c.args.id stands c.page-page.result.now c.page-page.ensures c.args.search.now c.args.from
+    (unpushed c.args.self.now c.args.side.now state c.args.id stands c.page-page.result.now c.page-page.ensures
+    c.args.search.now c.args.from
     c.args.to c.has_document.result c.has_document.ensures c.if-not-has_document.true))
 
 pub returns-in_default-clause-sent : goal.returns-in_default-clause-sent
