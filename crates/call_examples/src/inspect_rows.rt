@@ -2,10 +2,13 @@
 //
 // `replay` has a list of a script and of the numbers of the calls of the source, the sink and the link that fail; 0 is none. `deep`
 // has the number of levels of a page's elements, which is a script with a load alone. `words` has a list of a script and a list of the
-// program's words. `lie` has a list of a script, a place in what the link gives, and the byte that the link gives there instead.
+// program's words. `lie` has a list of a script, a place in what the link gives, and the byte that the link gives there instead. `brief`
+// has a list of a script, which runs with a panel that shows a lie before it is told of anything, and gives up at its second call.
+use crate::brief_panels::BriefPanel;
 use crate::row_parts::{Answer, list_at, number_or_zero, push_layers, text_or_empty};
 use cdp_json::texts_of;
-use inspect_replay::{exit_code, inspect, status_line};
+use front_mirror::Panel;
+use inspect_replay::{Status, exit_code, inspect, status_line};
 use pipe_frames::{Link, LyingLink, MemLink, MemSink, MemSource};
 use serde_json::Value;
 use std::alloc::{AllocError, Global};
@@ -21,6 +24,7 @@ pub(crate) fn told(
         "replay" => replay(alloc, args, answer),
         "deep" => deep(alloc, args.as_u64().unwrap_or(0), answer),
         "words" => other_words(alloc, args, answer),
+        "brief" => brief(alloc, args, answer),
         _ => lie(alloc, args, answer),
     }
 }
@@ -78,6 +82,26 @@ fn lie(alloc: Global, args: &Value, answer: &mut Answer) -> Result<(), AllocErro
     run(alloc, text_or_empty(args, 0), [0, 0], &mut link, answer)
 }
 
+/// Replays with a panel that has memory for one call.
+fn brief(alloc: Global, args: &Value, answer: &mut Answer) -> Result<(), AllocError> {
+    let mut words = Vec::new(alloc);
+    words.push(String::from_str(alloc, "replay")?)?;
+    let mut panels: Vec<Box<dyn Panel>> = Vec::new(alloc);
+    panels.push(Box::new(alloc, BriefPanel::new())?)?;
+    let mut source = source_of(alloc, text_or_empty(args, 0), 0)?;
+    let mut sink = MemSink::new(alloc, Vec::new(alloc));
+    let mut link = MemLink::new(alloc, Vec::new(alloc));
+    let status = inspect(
+        alloc,
+        words.as_slice(),
+        &mut source,
+        &mut sink,
+        &mut link,
+        panels,
+    );
+    push_end(alloc, &status, sink.bytes(), answer)
+}
+
 /// Runs the word of a replay.
 fn run<L: Link>(
     alloc: Global,
@@ -104,11 +128,21 @@ fn push_replay<L: Link>(
     let mut source = source_of(alloc, input, faults[0])?;
     let mut sink = MemSink::new(alloc, Vec::from_slice(alloc, &[faults[1]])?);
     let status = inspect(alloc, words, &mut source, &mut sink, link, Vec::new(alloc));
-    answer.push_shown(&exit_code(&status));
+    push_end(alloc, &status, sink.bytes(), answer)
+}
+
+/// How a run ended: the exit status, the status line, and below them what was written.
+fn push_end(
+    alloc: Global,
+    status: &Status,
+    written: &[u8],
+    answer: &mut Answer,
+) -> Result<(), AllocError> {
+    answer.push_shown(&exit_code(status));
     answer.push(" ");
-    answer.push(status_line(alloc, &status)?.as_str());
+    answer.push(status_line(alloc, status)?.as_str());
     answer.push("\n");
-    answer.push_bytes(sink.bytes());
+    answer.push_bytes(written);
     Ok(())
 }
 

@@ -4,6 +4,7 @@
 //! word for a call and a list of what it takes.
 #![tactic(auto)]
 
+mod brief_panels;
 mod cascade_rows;
 mod frame_rows;
 mod front_rows;
