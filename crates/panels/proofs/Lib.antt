@@ -4,7 +4,9 @@ pub mod RowLemmas
 pub mod WatchLemmas
 pub mod RootLemmas
 pub mod NumberLemmas
+pub mod NumberTexts
 pub mod TextLemmas
 pub mod LineLemmas
 pub mod SpliceLemmas
+pub mod CountLemmas
 pub mod OutlineLemmas

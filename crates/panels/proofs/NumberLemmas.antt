@@ -13,7 +13,7 @@ use Rattle.front_mirror.proofs.ChildLemmas.{ChildFound, child_is}
 use Rattle.panels.proofs.ListLemmas.{from-tree}
 use Rattle.panels.proofs.RootLemmas.{root_alone}
 
-same_numbers : (n m : Numbers) → n.elements ≡ m.elements → n.texts ≡ m.texts → n.comments ≡ m.comments → n.doctypes ≡ m.doctypes
+pub same_numbers : (n m : Numbers) → n.elements ≡ m.elements → n.texts ≡ m.texts → n.comments ≡ m.comments → n.doctypes ≡ m.doctypes
     → n.unopened ≡ m.unopened → n ≡ m
 same_numbers n m a b c d e = λ i. record { elements = a i; texts = b i; comments = c i; doctypes = d i; unopened = e i }
 

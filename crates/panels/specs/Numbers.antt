@@ -1,8 +1,11 @@
 -- Numbers of nodes as code holds them, and their sums.
-use Rattle.std.specs.Prelude.{ℕ, ◌+◌, Bool, cond}
+use Rattle.std.specs.Prelude.{◌≡◌, ◌<◌, ℕ, ◌+◌, ◌^◌, Bool, true, cond, List, [], ◌∷◌, ◌++◌, codes, Option, Some, None, Result, IfOk}
+use Rattle.std.specs.declared.alloc.AllocError.{AllocError}
+use Rattle.node_tree.specs.Nodes.{Nodes}
 use Rattle.node_tree.specs.Labels.{is_element, is_doctype}
 use Rattle.node_tree.specs.Seen.{Seen, shows_count}
-use Rattle.front_mirror.specs.Panels.{Numbers, is_text, is_comment}
+use Rattle.front_mirror.specs.declared.panels.Change.{Change}
+use Rattle.front_mirror.specs.Panels.{Numbers, numbers_of, numbers_text, is_text, is_comment, Turns}
 use Rattle.panels.specs.declared.numbers.Tally.{Tally}
 
 -- the numbers that code holds
@@ -42,3 +45,21 @@ plus n m = record {
   doctypes = n.doctypes + m.doctypes;
   unopened = n.unopened + m.unopened;
 }
+
+-- numbers below 2 ^ 64
+pub record AreSmall (n : Numbers) : Type 0 where
+  pub elements : n.elements < 2 ^ 64
+  pub texts : n.texts < 2 ^ 64
+  pub comments : n.comments < 2 ^ 64
+  pub doctypes : n.doctypes < 2 ^ 64
+  pub unopened : n.unopened < 2 ^ 64
+
+-- what is shown of the numbers, if there is a document
+abbrev pub tally_text : Option Tally → List ℕ
+tally_text None = codes "no document" ++ 10 ∷ []
+tally_text (Some t) = numbers_text (numbers_in t)
+
+-- the numbers after a change, where those before were the mirror's and the call says that it is done
+abbrev pub NumbersTurned : Change → Numbers → Numbers → Nodes Seen → Result Bool AllocError → Type 0
+NumbersTurned change old new after result =
+    (before : Nodes Seen) → Turns before change after → old ≡ numbers_of before → IfOk result (λ done. done ≡ true → new ≡ numbers_of after)

@@ -1,8 +1,12 @@
-ghost use Rattle.std.specs.Prelude.{◌≡◌, ◌++◌, [], IfOk, OnOk, string_bytes, decimal};
-ghost use Rattle.front_mirror.specs.Panels.{numbers_text, counts_text};
-ghost use Rattle.panels.specs.Numbers.{numbers_in};
+ghost use Rattle.std.specs.Prelude.{◌≡◌, ◌++◌, [], ℕ, List, true, Some, IfOk, OnOk, string_bytes, decimal};
+ghost use Rattle.std.specs.Option.{ForSome};
+ghost use Rattle.node_tree.specs.Nodes.{Nodes};
+ghost use Rattle.node_tree.specs.Seen.{Seen};
+ghost use Rattle.front_mirror.specs.Panels.{numbers_text, counts_text, Turns, MayShow};
+ghost use Rattle.front_mirror.specs.declared.panels.PanelKind.TheVariants as kind;
+ghost use Rattle.panels.specs.Numbers.{numbers_in, tally_text};
 
-use crate::numbers::{Tally, count_all};
+use crate::numbers::{Tally, count_all, few_known, numbers_fit};
 use front_mirror::{Change, Mirror, Panel, PanelKind};
 use std::alloc::{AllocError, Global};
 
@@ -30,25 +34,93 @@ fn numbers_line(alloc: Global, tally: Tally) -> Result<String, AllocError>
     Ok(line)
 }
 
-/// The line of the numbers of the mirror, or the one which says that it is empty.
-#[tactic(auto, using(crate::proofs::RootLemmas::counts_there))]
-fn counts_line(alloc: Global, mirror: &Mirror) -> Result<String, AllocError>
-    ensures { IfOk result (λ line. string_bytes line ≡ counts_text mirror.now) }
+/// The line of the numbers, or the one which says that there is no document.
+fn tally_line(alloc: Global, tally: Option<Tally>) -> Result<String, AllocError>
+    ensures { IfOk result (λ line. string_bytes line ≡ tally_text tally) }
 {
-    if mirror.is_empty() {
-        let mut line = String::new(alloc);
-        line.push_str("no document\n")?;
-        return Ok(line);
+    match tally {
+        Some(tally) => numbers_line(alloc, tally),
+        None => {
+            let mut line = String::new(alloc);
+            line.push_str("no document\n")?;
+            Ok(line)
+        }
     }
-    let tally = count_all(mirror)?;
-    numbers_line(alloc, tally)
 }
 
-/// A panel that shows how many known nodes of each kind there are. It counts anew at each change.
+/// The numbers of the mirror; `None` where it is empty.
+#[tactic(auto, using(crate::proofs::RootLemmas::counts_there))]
+fn tally_of(mirror: &Mirror) -> Result<Option<Tally>, AllocError>
+    ensures { IfOk result (λ tally. tally_text tally ≡ counts_text mirror.now) }
+{
+    if mirror.is_empty() {
+        return Ok(None);
+    }
+    Ok(Some(count_all(mirror)?))
+}
+
+/// Whether the numbers are as they were before the change.
+fn stays(change: &Change) -> bool
+    ensures { (before after : Nodes Seen) (shown : List ℕ) → Turns before change.now after → MayShow change.now kind.Counts shown before
+        → result ≡ true → shown ≡ counts_text after }
+{
+    match *change {
+        Change::Cleared
+        | Change::Document
+        | Change::Opened { .. }
+        | Change::Inserted { .. }
+        | Change::Removed { .. } => false,
+        Change::Changed { .. } => true,
+    }
+}
+
+/// Adds what the change brings. Tells whether the numbers are those after: they are not where all has to be counted anew.
+fn turn(tally: &mut Tally, change: &Change, mirror: &Mirror) -> Result<bool, AllocError>
+    ensures { (before : Nodes Seen) (shown : List ℕ) → Turns before change.now mirror.now → MayShow change.now kind.Counts shown before
+        → shown ≡ numbers_text (numbers_in tally.old)
+        → IfOk result (λ done. done ≡ true → numbers_text (numbers_in tally.new) ≡ counts_text mirror.now) }
+{
+    few_known(mirror);
+    numbers_fit(tally);
+    match *change {
+        Change::Cleared | Change::Document | Change::Removed { .. } | Change::Changed { .. } => {
+            Ok(false)
+        }
+        Change::Opened { node } => tally.open(mirror, node),
+        Change::Inserted { parent, node } => {
+            let _parent = parent;
+            tally.insert(mirror, node)
+        }
+    }
+}
+
+/// The numbers after the change: those that were kept with what it brings, or all counted anew. `None` where there is no document.
+fn tally_after(
+    kept: Option<Tally>,
+    change: &Change,
+    mirror: &Mirror,
+) -> Result<Option<Tally>, AllocError>
+    ensures { (before : Nodes Seen) (shown : List ℕ) → Turns before change.now mirror.now → MayShow change.now kind.Counts shown before
+        → ForSome kept (λ tally. shown ≡ numbers_text (numbers_in tally))
+        → IfOk result (λ tally. tally_text tally ≡ counts_text mirror.now) }
+{
+    if let Some(tally) = kept {
+        let mut after = tally;
+        if turn(&mut after, change, mirror)? {
+            return Ok(Some(after));
+        }
+    }
+    tally_of(mirror)
+}
+
+/// A panel that shows how many known nodes of each kind there are. It keeps the numbers, and adds those of the nodes that a change brings.
+/// Where nodes leave, it counts anew.
 #[derive(Drop)]
 pub struct CountsPanel {
     alloc: Global,
+    tally: Option<Tally>,
     text: String,
+    ghost told: { ForSome tally (λ t. string_bytes text ≡ numbers_text (numbers_in t)) },
 }
 
 impl CountsPanel {
@@ -58,6 +130,7 @@ impl CountsPanel {
     {
         CountsPanel {
             alloc,
+            tally: None,
             text: String::new(alloc),
         }
     }
@@ -76,8 +149,13 @@ impl Panel for CountsPanel {
     }
 
     fn note(&mut self, change: &Change, mirror: &Mirror) -> Result<(), AllocError> {
-        let _change = change;
-        self.text = counts_line(self.alloc, mirror)?;
+        if stays(change) {
+            return Ok(());
+        }
+        let tally = tally_after(self.tally, change, mirror)?;
+        let text = tally_line(self.alloc, tally)?;
+        self.tally = tally;
+        self.text = text;
         Ok(())
     }
 

@@ -1,13 +1,14 @@
 // How many known nodes there are of each kind.
-ghost use Rattle.std.specs.Prelude.{◌≡◌, ◌+◌, IsSome, IfOk, OnOk, OnErr};
+ghost use Rattle.std.specs.Prelude.{◌≡◌, ◌+◌, ◌<◌, ◌^◌, ℕ, IsSome, IfOk, OnOk, OnErr};
 ghost use Rattle.node_tree.specs.Numbers.{number_limit};
-ghost use Rattle.node_tree.specs.Nodes.{alone};
+ghost use Rattle.node_tree.specs.Nodes.{alone, node_count};
 ghost use Rattle.node_tree.specs.Labels.{is_element, is_doctype};
 ghost use Rattle.node_tree.specs.Keys.{find};
 ghost use Rattle.node_tree.specs.Seen.{seen_id};
 ghost use Rattle.front_mirror.specs.Shown.{known_at};
 ghost use Rattle.front_mirror.specs.Panels.{numbers_of, is_text, is_comment};
-ghost use Rattle.panels.specs.Numbers.{numbers_in, no_numbers, one_where, row_numbers, plus};
+ghost use Rattle.front_mirror.specs.declared.panels.Change.TheVariants as change;
+ghost use Rattle.panels.specs.Numbers.{numbers_in, no_numbers, one_where, row_numbers, plus, AreSmall, NumbersTurned};
 
 use front_mirror::Mirror;
 use node_tree::Kind;
@@ -105,6 +106,62 @@ impl Tally {
         };
         Ok(())
     }
+
+    /// The node of that id was opened: it is unopened no longer, and all below it came in. Tells whether the numbers are those after.
+    pub(crate) fn open(&mut self, mirror: &Mirror, node: u64) -> Result<bool, AllocError>
+        ensures { NumbersTurned (change.Opened node) (numbers_in self.old) (numbers_in self.new) mirror.now result }
+    {
+        if !mirror.known(node) {
+            return Ok(false);
+        }
+        let Some(unopened) = self.unopened.checked_sub(1) else {
+            return Ok(false);
+        };
+        self.unopened = unopened;
+        count_children(mirror, node, self)?;
+        Ok(true)
+    }
+
+    /// The node of that id came in. Tells whether the numbers are those after.
+    pub(crate) fn insert(&mut self, mirror: &Mirror, node: u64) -> Result<bool, AllocError>
+        ensures { (parent : ℕ) → NumbersTurned (change.Inserted parent node) (numbers_in self.old) (numbers_in self.new) mirror.now result }
+    {
+        if !mirror.known(node) {
+            return Ok(false);
+        }
+        count_node(mirror, node, self)?;
+        Ok(true)
+    }
+}
+
+/// A number that code holds is below 2^64.
+fn number_fits(number: u64)
+    ensures { number < 2 ^ 64 }
+{
+    let _number = number;
+}
+
+/// The numbers of a tally are each below 2^64.
+pub(crate) fn numbers_fit(tally: &Tally)
+    ensures { AreSmall (numbers_in tally.now) }
+{
+    number_fits(tally.elements);
+    number_fits(tally.texts);
+    number_fits(tally.comments);
+    number_fits(tally.doctypes);
+    number_fits(tally.unopened);
+}
+
+/// A mirror has fewer than 2^64 known nodes.
+#[tactic(auto, using(crate::proofs::CountLemmas::root_size))]
+pub(crate) fn few_known(mirror: &Mirror)
+    ensures { node_count mirror.now < 2 ^ 64 }
+{
+    if mirror.is_empty() {
+        return;
+    }
+    mirror.valid();
+    let _size = mirror.size(mirror.document());
 }
 
 /// Counts a known node and all below it.
