@@ -1,5 +1,5 @@
 -- The lines of an outline, one for each known node.
-use Rattle.std.specs.Prelude.{◌≡◌, ℕ, suc, ◌+◌, ◌==◌, ◌&&◌, nat_le, Bool, true, false, List, [], ◌∷◌, ◌++◌, codes, Result, IfOk}
+use Rattle.std.specs.Prelude.{◌≡◌, ℕ, suc, ◌+◌, ◌==◌, ◌^◌, ◌&&◌, nat_le, Bool, true, false, List, [], ◌∷◌, ◌++◌, codes, Result, IfOk}
 use Rattle.std.specs.declared.alloc.AllocError.{AllocError}
 use Rattle.node_tree.specs.Nodes.{Nodes, none, node}
 use Rattle.node_tree.specs.Seen.{Seen, seen_id}
@@ -8,6 +8,10 @@ use Rattle.front_mirror.specs.Outline.{indent, seen_line, outline_text}
 use Rattle.front_mirror.specs.Panels.{Turns}
 use Rattle.front_mirror.specs.Shown.{known_at}
 use Rattle.front_mirror.specs.Walks.{walk, rank_of, count_first}
+
+-- the level of a line stays below this, so that the next one is a number too
+abbrev pub level_limit : ℕ
+level_limit = 2 ^ 60
 
 -- the line of a node in an outline, with its end
 abbrev pub outline_line : ℕ → Seen → List ℕ

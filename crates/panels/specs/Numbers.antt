@@ -1,6 +1,7 @@
 -- Numbers of nodes as code holds them, and their sums.
-use Rattle.std.specs.Prelude.{◌≡◌, ◌<◌, ℕ, ◌+◌, ◌^◌, Bool, true, cond, List, [], ◌∷◌, ◌++◌, codes, Option, Some, None, Result, IfOk}
+use Rattle.std.specs.Prelude.{◌≡◌, ◌<◌, ℕ, ◌+◌, Bool, true, cond, List, [], ◌∷◌, ◌++◌, codes, Option, Some, None, Result, IfOk}
 use Rattle.std.specs.declared.alloc.AllocError.{AllocError}
+use Rattle.node_tree.specs.Numbers.{number_limit}
 use Rattle.node_tree.specs.Nodes.{Nodes}
 use Rattle.node_tree.specs.Labels.{is_element, is_doctype}
 use Rattle.node_tree.specs.Seen.{Seen, shows_count}
@@ -46,13 +47,13 @@ plus n m = record {
   unopened = n.unopened + m.unopened;
 }
 
--- numbers below 2 ^ 64
+-- numbers that code can hold
 pub record AreSmall (n : Numbers) : Type 0 where
-  pub elements : n.elements < 2 ^ 64
-  pub texts : n.texts < 2 ^ 64
-  pub comments : n.comments < 2 ^ 64
-  pub doctypes : n.doctypes < 2 ^ 64
-  pub unopened : n.unopened < 2 ^ 64
+  pub elements : n.elements < number_limit
+  pub texts : n.texts < number_limit
+  pub comments : n.comments < number_limit
+  pub doctypes : n.doctypes < number_limit
+  pub unopened : n.unopened < number_limit
 
 -- what is shown of the numbers, if there is a document
 abbrev pub tally_text : Option Tally → List ℕ

@@ -1,5 +1,5 @@
 // The lines of an outline, one for each known node.
-ghost use Rattle.std.specs.Prelude.{◌≡◌, ◌+◌, ◌^◌, ◌<◌, ◌++◌, IsSome, IfOk, OnOk, string_bytes};
+ghost use Rattle.std.specs.Prelude.{◌≡◌, ◌+◌, ◌<◌, ◌++◌, IsSome, IfOk, OnOk, string_bytes};
 ghost use Rattle.std.specs.List.{concat};
 ghost use Rattle.node_tree.specs.Nodes.{height};
 ghost use Rattle.node_tree.specs.Keys.{find};
@@ -7,7 +7,7 @@ ghost use Rattle.node_tree.specs.Seen.{seen_id};
 ghost use Rattle.front_mirror.specs.Shown.{known_at};
 ghost use Rattle.front_mirror.specs.Outline.{indent};
 ghost use Rattle.front_mirror.specs.Walks.{walk, walk_in};
-ghost use Rattle.panels.specs.Lines.{outline_line, shown_lines};
+ghost use Rattle.panels.specs.Lines.{level_limit, outline_line, shown_lines};
 
 use front_mirror::{Mirror, mirror_line};
 use node_tree::Text;
@@ -52,7 +52,7 @@ pub(crate) fn push_node(
     out: &mut Vec<Text>,
 ) -> Result<(), AllocError>
     requires known { IsSome (find seen_id id mirror.now) }
-    requires low { level + height (known_at id mirror.now).children < 2 ^ 60 }
+    requires low { level + height (known_at id mirror.now).children < level_limit }
     ensures { OnOk result (out.new.items ≡ out.old.items ++ walk_in outline_line level (known_at id mirror.now)) }
 {
     out.push(line_on(alloc, mirror, id, level)?)?;
@@ -69,7 +69,7 @@ fn push_children(
     out: &mut Vec<Text>,
 ) -> Result<(), AllocError>
     requires known { IsSome (find seen_id id mirror.now) }
-    requires low { level + height (known_at id mirror.now).children < 2 ^ 60 }
+    requires low { level + height (known_at id mirror.now).children < level_limit }
     ensures { OnOk result (out.new.items ≡ out.old.items ++ walk outline_line (level + 1) (known_at id mirror.now).children) }
 {
     mirror.valid();

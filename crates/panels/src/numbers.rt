@@ -1,5 +1,5 @@
 // How many known nodes there are of each kind.
-ghost use Rattle.std.specs.Prelude.{◌≡◌, ◌+◌, ◌<◌, ◌^◌, ℕ, IsSome, IfOk, OnOk, OnErr};
+ghost use Rattle.std.specs.Prelude.{◌≡◌, ◌+◌, ◌<◌, ℕ, IsSome, IfOk, OnOk, OnErr};
 ghost use Rattle.node_tree.specs.Numbers.{number_limit};
 ghost use Rattle.node_tree.specs.Nodes.{alone, node_count};
 ghost use Rattle.node_tree.specs.Labels.{is_element, is_doctype};
@@ -136,7 +136,7 @@ impl Tally {
 
 /// A number that code holds is below 2^64.
 fn number_fits(number: u64)
-    ensures { number < 2 ^ 64 }
+    ensures { number < number_limit }
 {
     let _number = number;
 }
@@ -155,7 +155,7 @@ pub(crate) fn numbers_fit(tally: &Tally)
 /// A mirror has fewer than 2^64 known nodes.
 #[tactic(auto, using(crate::proofs::CountLemmas::root_size))]
 pub(crate) fn few_known(mirror: &Mirror)
-    ensures { node_count mirror.now < 2 ^ 64 }
+    ensures { node_count mirror.now < number_limit }
 {
     if mirror.is_empty() {
         return;
