@@ -16,7 +16,8 @@ use Rattle.replay_script.specs.Sound.{CanSend, IsSound}
 use Rattle.drill_script.specs.Draws.{next_number, drawn}
 use Rattle.drill_script.specs.Divs.{after_divs}
 use Rattle.drill_script.specs.DrillNodes.{class_text}
-use Rattle.drill_script.specs.DrillLines.{asks_document, asks_styles, asks_watch, sets_class, asks_title, asks_matched, puts_text, div_drawn}
+use Rattle.drill_script.specs.DrillLines.{asks_document, asks_styles, asks_watch, sets_class, asks_title}
+use Rattle.drill_script.specs.DrillLines.{asks_matched, puts_text, div_drawn}
 use Rattle.drill_script.specs.DrillLines.{turn_lines, after_turn, turns, turns_from, most_turns, drill_lines}
 use Rattle.drill_script.specs.Given.{is_drill}
 use Rattle.drill_script.specs.LineKinds.{IsDrillLine, document, styles, watch, settling, class, title, matched, text, rising, falling}

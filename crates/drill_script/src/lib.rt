@@ -5,8 +5,8 @@
 //!
 //! Way in: those two. `is_drill` says which numbers of divs there are.
 //!
-//! Laws: none in code. proofs/LineLaws has for crates above what each line is, how many there are and that each may be carried out.
-//! What is drawn stands in specs/Draws, the page in specs/Divs and specs/DrillPages, the lines in specs/DrillLines.
+//! Laws: none in code. proofs/LineKindLaws has for crates above which lines there are (specs/LineKinds), how many, and that each may be
+//! carried out. What is drawn stands in specs/Draws, the page in specs/Divs, DrillNodes and DrillPages, the lines in specs/DrillLines.
 #![tactic(auto)]
 
 mod asks;
