@@ -1,5 +1,5 @@
 -- What the calls on the link and on the ends keep over every link.
-use Rattle.std.proofs.Common.{◌≡◌, is_some, ◌+◌, ◌*◌, ◌≤◌, ℕ, suc, ◌<◌, ◌^◌, List, [], ◌∷◌, ◌++◌, length, drop, codes, Option, Some, None}
+use Rattle.std.proofs.Common.{◌≡◌, is_some, ◌+◌, ◌*◌, ◌≤◌, ℕ, suc, ◌<◌, ◌^◌, List, [], ◌∷◌, ◌++◌, length, map, drop, codes, Option, Some, None}
 use Rattle.std.proofs.Common.{true, false, refl, sym, ◌∙◌, ap, subst, arith, append_assoc, length-append, Result, Ok, Err}
 use Rattle.std.proofs.Math.Seq.{drop-append_seam}
 use Rattle.std.proofs.lemmas.List.{drop_all}
@@ -488,8 +488,7 @@ pub input-folds : (stop : Stop) (before after : ℕ) (passed : Passed) → IsInp
 input-folds stop before after passed is good = let s : Says = says (status_of stop) in at-input s.phase s.lie
     (PartRose (source_counts before after) s.failed) is
   where
-    at-input : (phase : Phase) (lie : Option Lie) (P : Type 0) (g : Ghosts P) → InReadOnly phase P
-    → FoldsAt phase lie passed × LessAt phase passed
+    at-input : (phase : Phase) (lie : Option Lie) (P : Type 0) → InReadOnly phase P → FoldsAt phase lie passed × LessAt phase passed
     at-input untouched lie P is = absurd is
     at-input reading lie P is = good
     at-input underway lie P is = absurd is

@@ -67,8 +67,8 @@ closed-tells (Err stop) sink0 sink1 link0 link1 bad none cause = part-tells stop
 -- a line that drops no panel and shows no matched styles lacks nothing
 pub plain-lacking : (there : ℕ → Bool) (panels : List (Option PanelKind)) (form : LineForm) → closed_by form ≡ None
     → styles_ask form ≡ None → want_fault there panels form ≡ None
-plain-lacking there panels form open none =
-    ap (λ o. first_of (option_and_then (λ k. panel_missing (stands_open k panels)) o) (styles_fault there form)) open
+plain-lacking there panels form keeps none =
+    ap (λ o. first_of (option_and_then (λ k. panel_missing (stands_open k panels)) o) (styles_fault there form)) keeps
     ∙ ap (option_and_then (λ k. styles_missing (there k))) none
 
 pub plain-line : {P : Type 0} {g : Ghosts P} (result : Result (Unit {0}) Stop) (honest honest1 : Type 0) (up down up1 down1 : Pipe)
@@ -77,13 +77,13 @@ pub plain-line : {P : Type 0} {g : Ghosts P} (result : Result (Unit {0}) Stop) (
     (sink0 sink1 link0 link1 : ℕ) → closed_by form ≡ None → styles_ask form ≡ None → HasStopCause sink0 sink1 link0 link1 result
     → CarriesOut (scene (moment honest up down e) taken) (scene (moment honest1 up1 down1 e1) taken1) (numbered_line number form) result
     → CarriesLine (scene (moment honest up down e) taken) (scene (moment honest1 up1 down1 e1) taken1) (numbered_line number form) result
-plain-line result honest honest1 up down up1 down1 taken taken1 e e1 number form sink0 sink1 link0 link1 open none cause carries = λ up0 down0
+plain-line result honest honest1 up down up1 down1 taken taken1 e e1 number form sink0 sink1 link0 link1 keeps none cause carries = λ up0 down0
     more w play.
     let all = carries up0 down0 more w play in (
       all.1,
       prints-took result sink0 sink1 link0 link1 taken taken1 (line_text number form w) cause all.0 all.2,
       closed-tells result sink0 sink1 link0 link1 (numbered_or number (lacking form w) None)
-          (ap (λ o. numbered_or number o None) (plain-lacking (has_styles (settled run_step w)) w.told.panels form open none)) cause,
+          (ap (λ o. numbered_or number o None) (plain-lacking (has_styles (settled run_step w)) w.told.panels form keeps none)) cause,
     )
 
 -- the line that shows the matched styles of an ask

@@ -36,7 +36,7 @@ use Rattle.inspect_replay.proofs.FollowLemmas.{run-came}
 
 -- ---- one line
 
-pub at-end : (phase : Phase) (P : Type 0) (g : Ghosts P) → P → AtEnd phase P
+pub at-end : (phase : Phase) (P : Type 0) → P → AtEnd phase P
 at-end untouched P p = tt
 at-end reading P p = tt
 at-end underway P p = tt
@@ -52,7 +52,7 @@ not-ended ended P Q amid = absurd amid
 not-ended anywhen P Q amid = tt
 
 -- a call that came to its end, or not
-pub tells-came : (result : Result (Unit {0}) Stop) (sink0 sink1 link0 link1 : ℕ) (P : Type 0) (g : Ghosts P)
+pub tells-came : (result : Result (Unit {0}) Stop) (sink0 sink1 link0 link1 : ℕ) (P : Type 0)
     → HasStopCause sink0 sink1 link0 link1 result
     → OnOk result P → AtEnd (says_of result).phase P
 tells-came (Ok value) sink0 sink1 link0 link1 P cause p = p
@@ -72,10 +72,10 @@ pub plain-tells : {P : Type 0} {g : Ghosts P} (result : Result (Unit {0}) Stop) 
     (sink0 sink1 link0 link1 : ℕ)
     → closed_by form ≡ None → styles_ask form ≡ None → HasStopCause sink0 sink1 link0 link1 result → LineFollows old new result
     → LineTells old new (numbered_line number form) result
-plain-tells result old new number form sink0 sink1 link0 link1 open none cause follows = λ state0 up0 down0 run.
+plain-tells result old new number form sink0 sink1 link0 link1 keeps none cause follows = λ state0 up0 down0 run.
     let passed = fold_since up0 down0 new.up new.down in (
       closed-tells result sink0 sink1 link0 link1 (numbered_or number (want_fault (came_styles passed.fold) state0.panels form) None)
-          (ap (λ o. numbered_or number o None) (plain-lacking (came_styles passed.fold) state0.panels form open none)) cause,
+          (ap (λ o. numbered_or number o None) (plain-lacking (came_styles passed.fold) state0.panels form keeps none)) cause,
       tells-came result sink0 sink1 link0 link1 (AllCame passed state0.shown) cause
           (ok-came result state0 up0 down0 new.up new.down new.ends (follows state0 up0 down0 run).0),
     )
@@ -84,10 +84,10 @@ plain-tells result old new number form sink0 sink1 link0 link1 open none cause f
 pub keeps-passing : {P : Type 0} {g : Ghosts P} (result : Result (Unit {0}) Stop) (old new : Moment P g) (form : LineForm)
     → closed_by form ≡ None
     → LineFollows old new result → LinePasses old new form result
-keeps-passing result old new form open follows = λ state0 up0 down0 run.
+keeps-passing result old new form keeps follows = λ state0 up0 down0 run.
     let all = follows state0 up0 down0 run in (
       subst (λ o. OnOk result (FollowsRun (run_started state0.state state0.lines state0.shown
-          (option_map_or (λ k. dropped k state0.panels) o state0.panels)) up0 down0 new.up new.down new.ends)) (sym open) all.0,
+          (option_map_or (λ k. dropped k state0.panels) o state0.panels)) up0 down0 new.up new.down new.ends)) (sym keeps) all.0,
       all.1,
     )
 

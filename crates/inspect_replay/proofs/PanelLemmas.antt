@@ -63,9 +63,9 @@ dropped-is (suc i) panels = without-is i panels
 -- ---- a line that drops a panel
 
 -- it fails nothing outside
-pub panel-cause : (result : Result (Unit {0}) Stop) (number sink link : ℕ) (open : Bool) → result ≡ drops number open
+pub panel-cause : (result : Result (Unit {0}) Stop) (number sink link : ℕ) (there : Bool) → result ≡ drops number there
     → HasRunCause sink sink link link result
-panel-cause result number sink link open is = subst (λ r. HasRunCause sink sink link link r) (sym is) (at open) where
+panel-cause result number sink link there is = subst (λ r. HasRunCause sink sink link link r) (sym is) (at there) where
   at : (b : Bool) → HasRunCause sink sink link link (drops number b)
   at true = record { sink_later = omega arith; link_later = omega arith; rose = tt }
   at false = record { sink_later = omega arith; link_later = omega arith; rose = tt }
@@ -76,7 +76,7 @@ panel-printed (Ok value) taken = record { written = []; printed = Appends-nil ta
 panel-printed (Err stop) taken = tt
 
 -- it is refused where none stands open, and tells nothing else
-dropped-tells : (number : ℕ) (open : Bool) → RunTells (drops number open) (numbered_or number (first_of (panel_missing open) None) None)
+dropped-tells : (number : ℕ) (there : Bool) → RunTells (drops number there) (numbered_or number (first_of (panel_missing there) None) None)
 dropped-tells number true = refl
 dropped-tells number false = refl
 
@@ -104,8 +104,8 @@ module _ {P : Type 0} {g : Ghosts P} (result : Result (Unit {0}) Stop) (number p
       (at (stands_open place e.front.panels) (FollowsRun (record state0 { panels = dropped place state0.panels }) up0 down0 up down e1)
       (fold_since up0 down0 up down) gone (run-good state0 up0 down0 up down e here))
     where
-      at : (open : Bool) (Q : Type 0) (passed : Passed) → Q → IsWell passed
-          → OnOk (drops number open) Q × StopFolds (drops number open) passed
+      at : (there : Bool) (Q : Type 0) (passed : Passed) → Q → IsWell passed
+          → OnOk (drops number there) Q × StopFolds (drops number there) passed
       at true Q passed q good = (q, good)
       at false Q passed q good = (tt, stop-folds (Line number NoPanel) passed tt good)
 
@@ -160,11 +160,11 @@ module _ {P : Type 0} {g : Ghosts P} (result : Result (Unit {0}) Stop) (number p
         tells-drop w.told.panels (has_styles (settled run_step w)) (ap (stands_open place) same),
       )
     where
-      on-drop : {Q : Type 0} (open : Bool) → Q → OnOk (drops number open) Q
+      on-drop : {Q : Type 0} (there : Bool) → Q → OnOk (drops number there) Q
       on-drop true q = q
       on-drop false q = tt
 
-      took : (open : Bool) → RunTook (drops number open) taken taken []
+      took : (there : Bool) → RunTook (drops number there) taken taken []
       took true = Appends-nil taken
       took false = Appends-nil taken
 

@@ -91,7 +91,7 @@ prints-nothing (Ok value) taken = Appends-nil taken
 prints-nothing (Err stop) taken = record { part = []; rest = []; whole = refl; wrote = Appends-nil taken }
 
 -- an error by which a part of a run stops is one by which the run stops
-took-at : (phase : Phase) (lie : Option Lie) (P : Type 0) (g : Ghosts P) (before after : Option (List ℕ)) (text : List ℕ)
+took-at : (phase : Phase) (lie : Option Lie) (P : Type 0) (before after : Option (List ℕ)) (text : List ℕ)
     → AmidRun phase P → Absent lie → WrotePart before after text → InRunOnly phase (TookAt phase lie before after text)
 took-at untouched lie P before after text amid well wrote = absurd amid
 took-at reading lie P before after text amid well wrote = absurd amid

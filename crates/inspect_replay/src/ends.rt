@@ -139,7 +139,7 @@ impl<P: Panel> Ends<P> {
 
     /// Drops the panel at that place, counted from 1; false where none stands open there.
     pub(crate) fn close(&mut self, place: u64) -> bool
-        ensures open { result ≡ stands_open place self.old.front.panels }
+        ensures stood { result ≡ stands_open place self.old.front.panels }
         ensures dropped { self.new
             ≡ record self.old { front = with_panels (dropped place self.old.front.panels) self.old.front } }
     {

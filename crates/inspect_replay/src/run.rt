@@ -216,7 +216,7 @@ fn carry_plain<P: Panel, K: Sink, L: Link>(
 ) -> Result<(), Stop>
     requires later { IsLater (seen line) }
     requires plain { styles_ask (seen line) ≡ None }
-    requires open { closed_by (seen line) ≡ None }
+    requires keeps { closed_by (seen line) ≡ None }
     ensures { Plays (carrying (numbered_line number (seen line)))
         (seen_by (⟦<L as Watched>⟧.at link.old ends.old) (⟦<K as Printed>⟧.at out.old))
         (seen_by (⟦<L as Watched>⟧.at link.new ends.new) (⟦<K as Printed>⟧.at out.new)) result }
@@ -251,7 +251,7 @@ fn carry_open<P: Panel, K: Sink, L: Link>(
     link: &mut L,
 ) -> Result<(), Stop>
     requires later { IsLater (seen line) }
-    requires open { closed_by (seen line) ≡ None }
+    requires keeps { closed_by (seen line) ≡ None }
     ensures plays { Plays (carrying_line (numbered_line number (seen line)))
         (seen_by (⟦<L as Watched>⟧.at link.old ends.old) (⟦<K as Printed>⟧.at out.old))
         (seen_by (⟦<L as Watched>⟧.at link.new ends.new) (⟦<K as Printed>⟧.at out.new)) result }

@@ -206,8 +206,8 @@ text_by_refusal kinds bad (show_panels ∷ lines) = []
 text_by_refusal kinds bad (show_styles k ∷ lines) = []
 text_by_refusal kinds bad (close k ∷ lines) = []
 
--- What a replay of the input writes, with panels of these kinds: what each line before the first that is refused prints, and after the last line, where
--- none is refused, the closing outline. No front end takes part in it.
+-- What a replay of the input writes, with panels of these kinds: what each line before the first that is refused prints, and after the
+-- last line, where none is refused, the closing outline. No front end takes part in it.
 abbrev pub report : List PanelKind → List ℕ → List ℕ
 report kinds input = text_by_refusal kinds (script_fault input) (script_forms input)
 

@@ -9,8 +9,8 @@ use Rattle.inspect_replay.proofs.LinesRun.{drops-panel}
 use Rattle.inspect_replay.proofs.PanelLemmas.{panel-cause, panel-carries, panel-passes, panel-tells, panel-printed}
 use Rattle.inspect_replay.proofs.run.carry_out.Goals as goal
 
-pub carry_open-requires-clause-open : goal.carry_open-requires-clause-open
-carry_open-requires-clause-open g c = sym c.closed_by.ensures ∙ c.in-None.is
+pub carry_open-requires-clause-keeps : goal.carry_open-requires-clause-keeps
+carry_open-requires-clause-keeps g c = sym c.closed_by.ensures ∙ c.in-None.is
 
 pub returns-in-Some-clause-plays : goal.returns-in-Some-clause-plays
 returns-in-Some-clause-plays g c =

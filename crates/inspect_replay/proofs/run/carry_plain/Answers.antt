@@ -1,8 +1,9 @@
--- A line that shows no matched styles is carried out, and prints what it prints.
+-- A line that shows no matched styles and drops no panel is carried out, and prints what it prints.
 use Rattle.std.proofs.Common.{rules, refl, ap, subst}
 use Rattle.page_forms.specs.Pages.{loaded_page}
 use Rattle.replay_script.specs.Forms as forms
 use Rattle.replay_script.specs.Forms.{load, ask, up, down, settle, show_front, show_page, show_sheets, show_replies, show_pauses}
+use Rattle.replay_script.specs.Forms.{show_panels}
 use Rattle.replay_script.specs.Seen.{seen, seen_ask}
 use Rattle.inspect_world.specs.World.{raw, turned, delivered_up, delivered_down}
 use Rattle.inspect_world.specs.FreshRuns.{front_fetcher, refreshes}
@@ -12,7 +13,7 @@ use Rattle.inspect_world.specs.ScriptsFit.{IsLater}
 use Rattle.back_end.specs.Steps.{loads}
 use Rattle.inspect_world.specs.RunStates.{run_step, run_turn}
 use Rattle.std.proofs.Common.{◌≡◌, ℕ, Option, Some, None, sym, ◌∙◌}
-use Rattle.replay_script.specs.Script.{styles_ask}
+use Rattle.replay_script.specs.Script.{styles_ask, closed_by}
 use Rattle.inspect_replay.proofs.RunLemmas.{spend-carries, move-carries, settles-spend, same-carries, page-carries}
 use Rattle.inspect_replay.proofs.FollowLemmas.{none-printed, some-printed, kept-run, run-fewer}
 use Rattle.inspect_replay.proofs.run.carry_plain.Goals as goal
@@ -195,3 +196,8 @@ pub unreachable-requires : goal.unreachable-requires
 unreachable-requires g c =
     let shows : ◌≡◌ {A = Option ℕ} (Some c.in-ShowStyles.field-0) None = sym
     (ap (λ line. styles_ask (seen line)) c.in-ShowStyles.is) ∙ c.requires.plain in absurd cc
+
+pub unreachable-in-Close-requires : goal.unreachable-in-Close-requires
+unreachable-in-Close-requires g c =
+    let drops : ◌≡◌ {A = Option ℕ} (Some c.in-Close.field-0) None = sym
+    (ap (λ line. closed_by (seen line)) c.in-Close.is) ∙ c.requires.keeps in absurd cc

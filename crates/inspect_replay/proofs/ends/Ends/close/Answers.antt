@@ -4,8 +4,8 @@ use Rattle.inspect_world.specs.Held.{with_panels}
 use Rattle.inspect_replay.proofs.PanelLemmas.{stands-open, dropped-is}
 use Rattle.inspect_replay.proofs.ends.Ends.close.Goals as goal
 
-pub returns-clause-open : goal.returns-clause-open
-returns-clause-open g c = c.close.ensures.closed ∙ stands-open c.args.place c.args.self.now.front.panels
+pub returns-clause-stood : goal.returns-clause-stood
+returns-clause-stood g c = c.close.ensures.closed ∙ stands-open c.args.place c.args.self.now.front.panels
 
 pub returns-clause-dropped : goal.returns-clause-dropped
 returns-clause-dropped g c =
