@@ -1,6 +1,7 @@
 pub mod EndLemmas
 pub mod FirstLine
 pub mod RunLemmas
+pub mod DrillLemmas
 pub mod LinesRun
 pub mod LinesTell
 pub mod PanelLemmas

@@ -11,6 +11,7 @@
 //! and specs/Moments.
 #![tactic(auto)]
 
+mod drills;
 mod ends;
 mod moments;
 mod page_lines;
