@@ -347,7 +347,7 @@ clear_change v t s e =
 low_levels : (level h : ℕ) → level < most_levels → nat_le h (most_levels - 1 - level) ≡ true → suc (level + h) ≤ most_levels
 low_levels level h below e = let k : h ≤ most_levels - 1 - level = grind arith in omega arith
 
-edit_added : (e : NodeChange) → seen_nodes (edit_nodes e) ≡ added (edit_change e)
+pub edit_added : (e : NodeChange) → seen_nodes (edit_nodes e) ≡ added (edit_change e)
 edit_added (edit.Show nodes) = refl
 edit_added (edit.Insert previous n) = refl
 edit_added (edit.Remove id) = refl

@@ -1,7 +1,7 @@
 -- What panels are told of an edit that nothing is wrong with.
 use Rattle.std.proofs.Common.{◌≡◌, ℕ, true, false, Option, Some, None, IsSome, List, refl, sym, ap, ◌∙◌, subst, unwrap_or}
 use Rattle.std.specs.Option.{option_map_or}
-use Rattle.node_tree.specs.Nodes.{Nodes, node, Branch, branch_count, tree_at}
+use Rattle.node_tree.specs.Nodes.{Nodes, Branch, branch_count, tree_at}
 use Rattle.node_tree.specs.Keys.{find}
 use Rattle.node_tree.specs.Labels.{is_formed_label}
 use Rattle.node_tree.specs.Seen.{Seen, seen_id}

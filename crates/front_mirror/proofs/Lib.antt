@@ -25,6 +25,14 @@ pub mod ReadLemmas
 pub mod EditTableLemmas
 mod PanelTurns
 mod EditTurns
-mod CountLemmas
 mod PanelsTold
 mod PlaceLemmas
+pub mod OrderLemmas
+pub mod GrowLemmas
+pub mod ChildLemmas
+pub mod RankLemmas
+mod SizeLemmas
+mod PathLemmas
+mod CountedLemmas
+mod RecountLemmas
+mod EditCounts

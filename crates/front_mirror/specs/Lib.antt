@@ -12,3 +12,5 @@ pub mod TableEdits
 pub mod Panels
 pub mod Places
 pub mod PanelTold
+pub mod Walks
+pub mod Sizes

@@ -1,7 +1,7 @@
 -- What panels are told of a change of one node.
 use Rattle.std.specs.Prelude.{ℕ}
 use Rattle.std.specs.Option.{option_map_or}
-use Rattle.node_tree.specs.Nodes.{Nodes, node, Branch, branch_count, tree_at}
+use Rattle.node_tree.specs.Nodes.{Nodes, Branch, branch_count, tree_at}
 use Rattle.node_tree.specs.Seen.{Seen}
 use Rattle.client_views.specs.Moves.{Change, shows, inserts, removes, counts, sets, drops, says}
 use Rattle.front_mirror.specs.IdLists.{id_place}

@@ -41,7 +41,7 @@ pub(crate) enum NodeChange {
 
 impl NodeChange {
     /// The nodes that come with it.
-    fn nodes(&self) -> &[NodeTree]
+    pub(crate) fn nodes(&self) -> &[NodeTree]
         ensures { nodes_of result.now ≡ edit_nodes self.now }
     {
         match self {
@@ -83,22 +83,22 @@ impl NodeChange {
     }
 
     /// What panels are told of it, at the node of that id.
-    pub(crate) fn told(&self, alloc: Global, id: u64, mirror: &Mirror) -> Result<Change, AllocError>
+    pub(crate) fn told(&self, id: u64, mirror: &Mirror) -> Change
         requires known { IsSome (find seen_id id mirror.now) }
         requires suits { suits_change (edit_change self.now) (known_at id mirror.now) ≡ true }
-        ensures { IfOk result (λ change. change ≡ panel_change id (edit_change self.now) (known_at id mirror.now)) }
+        ensures { result ≡ panel_change id (edit_change self.now) (known_at id mirror.now) }
     {
         match self {
-            NodeChange::Show(_) => Ok(Change::Opened { node: id }),
-            NodeChange::Insert { node, .. } => Ok(Change::Inserted {
+            NodeChange::Show(_) => Change::Opened { node: id },
+            NodeChange::Insert { node, .. } => Change::Inserted {
                 parent: id,
                 node: node.id,
-            }),
-            NodeChange::Remove(child) => mirror.removal(alloc, id, *child),
+            },
+            NodeChange::Remove(child) => mirror.removal(id, *child),
             NodeChange::Count(_)
             | NodeChange::SetAttribute { .. }
             | NodeChange::DropAttribute(_)
-            | NodeChange::SetValue(_) => Ok(Change::Changed { node: id }),
+            | NodeChange::SetValue(_) => Change::Changed { node: id },
         }
     }
 

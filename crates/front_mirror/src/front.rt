@@ -144,7 +144,7 @@ impl<P: Panel> Front<P> {
         write_command(self.alloc, self.next, method, params, session, &mut frame)?;
         let method = Text::copied(self.alloc, method)?;
         let id = self.next;
-        self.known.asks.push(Ask {
+        self.known.asks.push_back(Ask {
             id,
             method,
             sheet: None,
@@ -183,7 +183,7 @@ impl<P: Panel> Front<P> {
         let id = ASK_LIMIT + self.fetches;
         let frame = fetch_frame(self.alloc, id, sheet)?;
         let method = Text::copied(self.alloc, FETCH)?;
-        self.known.asks.push(Ask {
+        self.known.asks.push_back(Ask {
             id,
             method,
             sheet: Some(sheet),

@@ -32,6 +32,7 @@ use dom_objects::NodeTree;
 use node_tree::Text;
 use serde_json::Value;
 use std::alloc::{AllocError, Global};
+use std::collections::VecDeque;
 
 /// What became of one frame that changed nothing. After `Memory` nothing is said of what is known.
 #[derive(Drop)]
@@ -66,7 +67,7 @@ pub(crate) struct Known {
     alloc: Global,
     pub(crate) mirror: Mirror,
     pub(crate) sheets: KnownSheets,
-    pub(crate) asks: Vec<Ask>,
+    pub(crate) asks: VecDeque<Ask>,
     pub(crate) replies: Vec<Kept>,
     pub(crate) pauses: Vec<SeenPause>,
     pub(crate) matched: Vec<MatchedReply>,
@@ -81,7 +82,7 @@ impl Known {
             alloc,
             mirror: Mirror::new(alloc),
             sheets: KnownSheets::new(alloc),
-            asks: Vec::new(alloc),
+            asks: VecDeque::new(alloc),
             replies: Vec::new(alloc),
             pauses: Vec::new(alloc),
             matched: Vec::new(alloc),
@@ -371,7 +372,7 @@ impl Known {
             return Err(FrameErr::Refused(kind));
         }
         let taken = self.next_place()?;
-        let told = edit.told(self.alloc, id, &self.mirror)?;
+        let told = edit.told(id, &self.mirror);
         self.mirror.change(self.alloc, id, edit)?;
         self.taken = taken;
         Ok(Some(told))

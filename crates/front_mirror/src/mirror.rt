@@ -15,10 +15,12 @@ ghost use Rattle.front_mirror.specs.Tables.{mirror_row, root_ids, TableLooks};
 use crate::checks::MOST_LEVELS;
 use crate::edits::NodeChange;
 use crate::panels::Change;
+use crate::sizes::{note_all, recount};
 use crate::slots::{IdList, Slot};
 use crate::table::Table;
 use cdp_messages::Kind;
 use dom_objects::NodeTree;
+use number_map::NumberMap;
 use std::alloc::{AllocError, Global};
 use std::marker::Model;
 use std::{mem, slice};
@@ -29,12 +31,14 @@ use std::{mem, slice};
 pub struct Mirror {
     table: Table,
     roots: IdList,
+    counts: NumberMap,
 }
 
 impl Model for Mirror {
     ghost use Rattle.node_tree.specs.Nodes.{Nodes, coded_nodes};
     ghost use Rattle.node_tree.specs.Seen.{Seen, coded_seen};
-    ghost use Rattle.front_mirror.specs.Tables.{tree_in, KeepsMirror};
+    ghost use Rattle.front_mirror.specs.Tables.{tree_in};
+    ghost use Rattle.front_mirror.specs.Sizes.{KeepsCounted};
 
     ghost Value = { Nodes Seen };
 
@@ -42,7 +46,7 @@ impl Model for Mirror {
 
     ghost view = { λ m. tree_in m.table m.roots };
 
-    ghost invariant = { λ m. KeepsMirror m.table m.roots };
+    ghost invariant = { λ m. KeepsCounted m.table m.roots m.counts };
 }
 
 impl Mirror {
@@ -57,6 +61,7 @@ impl Mirror {
         Mirror {
             table: Table::new(alloc),
             roots: IdList::new(alloc),
+            counts: NumberMap::new(alloc),
         }
     }
 
@@ -68,9 +73,15 @@ impl Mirror {
     {
         let mut table = Table::new(alloc);
         let mut roots = IdList::new(alloc);
+        let mut counts = NumberMap::new(alloc);
         roots.push(root.id)?;
+        note_all(&mut counts, slice::from_ref(&root))?;
         table.plant(alloc, root, None)?;
-        Ok(Mirror { table, roots })
+        Ok(Mirror {
+            table,
+            roots,
+            counts,
+        })
     }
 
     /// Changes a known node, where nothing is wrong with the edit. After want of memory the mirror is empty.
@@ -86,9 +97,12 @@ impl Mirror {
     {
         let mut table = mem::replace(&mut self.table, Table::new(alloc));
         let roots = mem::replace(&mut self.roots, IdList::new(alloc));
+        let mut counts = mem::replace(&mut self.counts, NumberMap::new(alloc));
+        recount(alloc, &mut counts, &table, &roots, id, &edit)?;
         table.change(alloc, id, edit)?;
         self.table = table;
         self.roots = roots;
+        self.counts = counts;
         Ok(())
     }
 
@@ -158,7 +172,7 @@ impl Mirror {
     }
 
     /// The level of a known node.
-    pub(crate) fn level(&self, id: u64) -> usize
+    pub fn level(&self, id: u64) -> usize
         requires known { IsSome (find seen_id id self.now) }
         ensures level { level_of seen_id id 0 self.now ≡ Some result }
         ensures low { result < most_levels }
@@ -265,31 +279,31 @@ impl Mirror {
     }
 
     /// How many known nodes stand at and below the node of that id.
-    pub(crate) fn count_below(&self, alloc: Global, id: u64) -> Result<usize, AllocError>
+    pub fn size(&self, id: u64) -> usize
         requires known { IsSome (find seen_id id self.now) }
-        ensures { IfOk result (λ count. count ≡ branch_count (known_at id self.now)) }
+        ensures { result ≡ branch_count (known_at id self.now) }
     {
-        let mut ids = Vec::new(alloc);
-        self.table
-            .list_all(slice::from_ref(&id), MOST_LEVELS, &mut ids)?;
-        Ok(ids.len())
+        let Some(count) = self.counts.get(id) else {
+            unreachable!()
+        };
+        count as usize
     }
 
     /// What panels are told where the child of that id leaves.
-    pub(crate) fn removal(&self, alloc: Global, id: u64, child: u64) -> Result<Change, AllocError>
+    pub(crate) fn removal(&self, id: u64, child: u64) -> Change
         requires known { IsSome (find seen_id id self.now) }
         requires child { has_tree child (known_at id self.now).children ≡ true }
-        ensures { IfOk result (λ change. change ≡ panel_change id (removes child) (known_at id self.now)) }
+        ensures { result ≡ panel_change id (removes child) (known_at id self.now) }
     {
         self.valid();
         let place = self.at(id).children.place(child);
-        let known = self.count_below(alloc, child)?;
-        Ok(Change::Removed {
+        let known = self.size(child);
+        Change::Removed {
             parent: id,
             place,
             node: child,
             known,
-        })
+        }
     }
 
     /// How many attributes the node of that id has.

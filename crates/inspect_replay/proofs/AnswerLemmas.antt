@@ -1,5 +1,7 @@
 -- What the answers of the whole call follow from.
-use Rattle.std.proofs.Common.{◌≡◌, ℕ, List, [], Option, Some, None, Err, Bool, true, ap, refl}
+use Rattle.std.proofs.Common.{◌≡◌, ◌∙◌, ℕ, List, [], Option, Some, None, Result, Err, Bool, true, ap, refl, sym, subst}
+use Rattle.std.specs.Result.{IsErrAnd}
+use Rattle.std.proofs.lemmas.Result.{err_from_is_err_and}
 use Rattle.pipe_frames.specs.Whole.{IsAllOf}
 use Rattle.inspect_replay.specs.declared.status.Status.{Status}
 use Rattle.inspect_replay.specs.declared.status.Status.TheVariants as status
@@ -77,3 +79,12 @@ pub none-left : (before after : Option (List ℕ)) (input bytes : List ℕ) → 
 none-left None after input bytes all is = let no : ◌≡◌ {A = Option (List ℕ)} None (Some input) = is in absurd cc
 none-left (Some left) None input bytes all is = absurd all
 none-left (Some left) (Some rest) input bytes all is = ap (λ r. Some r) all.1
+
+-- a run for whose ends no memory was left prints nothing
+pub nothing-ran : (result : Result (Unit {0}) Stop) (taken : Option (List ℕ)) (text : List ℕ) → IsErrAnd result (λ stop. stop ≡ Memory)
+    → RunTook result taken taken text
+nothing-ran result taken text lost =
+    let p = err_from_is_err_and result lost in
+    let is : result ≡ Err Memory = p.1 ∙ ap (λ (stop : Stop). Err stop) p.2 in
+    subst (λ (r : Result (Unit {0}) Stop). RunTook r taken taken text) (sym is)
+    (record { part = []; rest = text; whole = refl; wrote = Appends-nil taken })

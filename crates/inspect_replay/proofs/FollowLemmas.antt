@@ -1,6 +1,6 @@
 -- What the calls on the link and on the ends keep over every link.
-use Rattle.std.proofs.Common.{◌≡◌, is_some, ◌+◌, ◌*◌, ◌≤◌, ℕ, suc, ◌<◌, ◌^◌, List, [], ◌∷◌, ◌++◌, length, map, drop, codes, Option, Some, None}
-use Rattle.std.proofs.Common.{true, false, refl, sym, ◌∙◌, ap, subst, arith, append_assoc, length-append, Result, Ok, Err}
+use Rattle.std.proofs.Common.{◌≡◌, is_some, ◌+◌, ◌*◌, ◌≤◌, ℕ, suc, ◌<◌, ◌^◌, List, [], ◌∷◌, ◌++◌, length, map, drop, codes, Option, Some}
+use Rattle.std.proofs.Common.{None, true, false, refl, sym, ◌∙◌, ap, subst, arith, append_assoc, length-append, Result, Ok, Err}
 use Rattle.std.proofs.Math.Seq.{drop-append_seam}
 use Rattle.std.proofs.lemmas.List.{drop_all}
 use Rattle.std.specs.Result.{OnOk, IsOk}
@@ -445,8 +445,8 @@ run-first up down kinds page lines e up_within down_within can texts few new =
     record {
       so_far = subst (λ h. Follows start up down up down e.splitter.whole h) (sym same)
           (subst (λ frames. Follows start up down up down frames (first_ends kinds e.seat e.side)) (sym none)
-          (follows-start up down kinds start e.seat e.side up_within down_within refl refl (stands-first page e.seat e.side can texts new.side) few
-          drew (omega (arith, serials))
+          (follows-start up down kinds start e.seat e.side up_within down_within refl refl
+          (stands-first page e.seat e.side can texts new.side) few drew (omega (arith, serials))
           (omega (arith, numbers))));
       none_whole = none;
     }

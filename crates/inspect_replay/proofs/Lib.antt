@@ -5,6 +5,7 @@ pub mod DrillLemmas
 pub mod LinesRun
 pub mod LinesTell
 pub mod PanelLemmas
+pub mod SameEnds
 pub mod StylesLemmas
 pub mod FollowLemmas
 pub mod AnswerLemmas

@@ -77,8 +77,8 @@ pub plain-line : {P : Type 0} {g : Ghosts P} (result : Result (Unit {0}) Stop) (
     (sink0 sink1 link0 link1 : ℕ) → closed_by form ≡ None → styles_ask form ≡ None → HasStopCause sink0 sink1 link0 link1 result
     → CarriesOut (scene (moment honest up down e) taken) (scene (moment honest1 up1 down1 e1) taken1) (numbered_line number form) result
     → CarriesLine (scene (moment honest up down e) taken) (scene (moment honest1 up1 down1 e1) taken1) (numbered_line number form) result
-plain-line result honest honest1 up down up1 down1 taken taken1 e e1 number form sink0 sink1 link0 link1 keeps none cause carries = λ up0 down0
-    more w play.
+plain-line result honest honest1 up down up1 down1 taken taken1 e e1 number form sink0 sink1 link0 link1 keeps none cause carries =
+    λ up0 down0 more w play.
     let all = carries up0 down0 more w play in (
       all.1,
       prints-took result sink0 sink1 link0 link1 taken taken1 (line_text number form w) cause all.0 all.2,

@@ -112,7 +112,7 @@ pub record Carried {P : Type 0} {g : Ghosts P} (begun : Begun) (up0 down0 up dow
   pub panels : List (Option PanelKind)
   pub run : FollowsRun (run_started begun.state (length lines) shown panels) up0 down0 up down e
   pub goes : (there : ℕ → Bool) → All (λ ask. there ask ≡ true) shown
-  → first_refused there begun.panels 2 initial ≡ first_refused there panels number lines
+      → first_refused there begun.panels 2 initial ≡ first_refused there panels number lines
 
 pub carried-first : {P : Type 0} {g : Ghosts P} (begun : Begun) (up0 down0 up down : Pipe) (lines : List (List ℕ)) (e : Ends P g)
     → FollowsRun (run_started begun.state (length lines) [] begun.panels) up0 down0 up down e

@@ -1,6 +1,6 @@
 -- A line that drops a panel, and the lines of a show of the panels.
-use Rattle.std.proofs.Common.{◌≡◌, ℕ, zero, suc, ◌+◌, ◌<◌, ◌≤◌, List, [], ◌∷◌, ◌++◌, length, drop, Bool, true, false, Option, Some, None, refl}
-use Rattle.std.proofs.Common.{sym, ◌∙◌, ap, subst, arith, is_some, append_assoc, append-nil, Result, Ok, Err}
+use Rattle.std.proofs.Common.{◌≡◌, ℕ, zero, suc, ◌+◌, ◌<◌, ◌≤◌, List, [], ◌∷◌, ◌++◌, length, drop, Bool, true, false, Option, Some, None}
+use Rattle.std.proofs.Common.{refl, sym, ◌∙◌, ap, subst, arith, is_some, append_assoc, append-nil, Result, Ok, Err}
 use Rattle.std.specs.Result.{OnOk}
 use Rattle.std.proofs.lemmas.List.{drop_all}
 use Rattle.node_tree.specs.Nodes.{Nodes}
@@ -99,7 +99,8 @@ module _ {P : Type 0} {g : Ghosts P} (result : Result (Unit {0}) Stop) (number p
       subst (λ (x : Ends P g). FollowsRun (record state0 { panels = dropped place state0.panels }) up0 down0 up down x) (sym dropped_is)
       (subst (λ ps. FollowsRun (record state0 { panels = dropped place ps }) up0 down0 up down
       (record e { front = with_panels (dropped place e.front.panels) e.front })) panels left) in
-      subst (λ (r : Result (Unit {0}) Stop). OnOk r (FollowsRun (record state0 { panels = dropped place state0.panels }) up0 down0 up down e1)
+      subst (λ (r : Result (Unit {0}) Stop).
+      OnOk r (FollowsRun (record state0 { panels = dropped place state0.panels }) up0 down0 up down e1)
       × StopFolds r (fold_since up0 down0 up down)) (sym is)
       (at (stands_open place e.front.panels) (FollowsRun (record state0 { panels = dropped place state0.panels }) up0 down0 up down e1)
       (fold_since up0 down0 up down) gone (run-good state0 up0 down0 up down e here))

@@ -1,6 +1,6 @@
 -- A run goes on line by line, and writes what the lines print.
-use Rattle.std.proofs.Common.{◌≡◌, ℕ, suc, ◌+◌, ◌≤◌, min, Bool, false, option_and_then, List, [], ◌∷◌, ◌++◌, length, map, drop, Option, Some}
-use Rattle.std.proofs.Common.{None, refl, sym, ◌∙◌, ap, subst, arith, append-nil, codes, Result, Ok, Err}
+use Rattle.std.proofs.Common.{◌≡◌, ℕ, suc, ◌+◌, ◌≤◌, min, Bool, false, option_and_then, List, [], ◌∷◌, ◌++◌, length, map, drop, Option}
+use Rattle.std.proofs.Common.{Some, None, refl, sym, ◌∙◌, ap, subst, arith, append-nil, codes, Result, Ok, Err}
 use Rattle.std.proofs.lemmas.List.{drop-map, drop_min, length-map}
 use Rattle.std.specs.Option.{option_map_or}
 use Rattle.std.specs.Result.{OnOk, OnErr}
@@ -17,8 +17,7 @@ use Rattle.replay_script.specs.Forms.{show_panels, line_form}
 use Rattle.replay_script.specs.Faults.{line_fault}
 use Rattle.replay_script.specs.Lines.{lines_of}
 use Rattle.replay_script.specs.Script.{numbered_or, panels_after, panels_left, want_fault, first_refused, refused_of_lines}
-use Rattle.replay_script.specs.Script.{script_refused, first_bad, good_lines}
-use Rattle.replay_script.specs.Script.{fault_of_lines, script_fault, script_forms}
+use Rattle.replay_script.specs.Script.{script_refused, first_bad, good_lines, fault_of_lines, script_fault, script_forms}
 use Rattle.replay_script.specs.declared.faults.LineFault.{LineFault}
 use Rattle.page_forms.specs.Pages.{LoadedPage, CanLoadPage}
 use Rattle.node_tree.specs.Nodes.{Nodes}
@@ -784,7 +783,8 @@ begins honest up down kinds page e is_honest can texts up_level down_level new =
         in_world = subst
             (λ h. InWorld up down up down (loaded_world kinds page) (e.splitter.whole ++ awaited (loaded_world kinds page).up) h) same
             (subst (λ fs. InWorld up down up down (loaded_world kinds page) fs (first_ends kinds e.seat e.side)) frames
-            (world-first up down kinds page e.seat e.side can texts up_level down_level (stands-first page e.seat e.side can texts new.side)));
+            (world-first up down kinds page e.seat e.side can texts up_level down_level
+            (stands-first page e.seat e.side can texts new.side)));
       };
       none_whole = none;
     }

@@ -12,7 +12,8 @@ use Rattle.inspect_replay.specs.Stops.{HasStopCause, StopRose, RunRose}
 use Rattle.inspect_replay.specs.Moments.{Moment, Scene, passage, counts_between}
 use Rattle.inspect_replay.specs.Runs.{Steps, Spends, TakesUp, AnswersAll, AnswersOne, SendsFetch, FetchesText, FetchesOne, FetchesAll}
 use Rattle.inspect_replay.specs.Runs.{Refreshes}
-use Rattle.inspect_replay.specs.Followed.{KeepsFollowing, KeepsFollowingWith, LineFollows, LinePasses, LinesFollow, FollowsAnswers, FollowsAnswer}
+use Rattle.inspect_replay.specs.Followed.{KeepsFollowing, KeepsFollowingWith, LineFollows, LinePasses, LinesFollow, FollowsAnswers}
+use Rattle.inspect_replay.specs.Followed.{FollowsAnswer}
 use Rattle.inspect_replay.specs.Followed.{PrintedSome}
 use Rattle.inspect_replay.specs.Prints.{NumberedLine, numbered_line, CarriesOut, CarriesLine, RunsLines}
 

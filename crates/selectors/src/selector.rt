@@ -165,7 +165,7 @@ impl SelectorList {
     /// `size` others. Takes no memory.
     pub fn move_behind(&mut self, start: usize, end: usize, size: usize)
         requires { All (λ s. CanPlaceRange (cut start end size) s.range) (list_seen self.old) }
-        ensures { list_seen self.new ≡ map (placed_selector (moved_place (cut start end size))) (list_seen self.old) }
+        ensures moved { list_seen self.new ≡ map (placed_selector (moved_place (cut start end size))) (list_seen self.old) }
     {
         for selector in self.list.iter_mut() {
             selector.range = move_range(selector.range, start, end, size);
@@ -176,7 +176,7 @@ impl SelectorList {
 /// The place where a place comes to lie, where the bytes from `start` up to `end` make way for `size` others.
 pub fn move_place(place: usize, start: usize, end: usize, size: usize) -> usize
     requires { CanPlace (cut start end size) place }
-    ensures { result ≡ moved_place (cut start end size) place }
+    ensures moved { result ≡ moved_place (cut start end size) place }
 {
     if place <= start {
         place
@@ -188,7 +188,7 @@ pub fn move_place(place: usize, start: usize, end: usize, size: usize) -> usize
 /// A range with both of its ends moved so.
 pub fn move_range(range: Range, start: usize, end: usize, size: usize) -> Range
     requires { CanPlaceRange (cut start end size) range }
-    ensures { result ≡ placed_range (moved_place (cut start end size)) range }
+    ensures moved { result ≡ placed_range (moved_place (cut start end size)) range }
 {
     Range {
         start: move_place(range.start, start, end, size),

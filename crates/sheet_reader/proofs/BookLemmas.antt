@@ -1,14 +1,16 @@
 -- A book's entries as its map has them.
 use Rattle.std.proofs.Common.{All, ◌≡◌, ℕ, zero, suc, ◌≤◌, Bool, true, false, cond, nat_eq, List, [], ◌∷◌, ◌++◌, length, Option, Some, None}
-use Rattle.std.proofs.Common.{Bor, refl, sym, ap, subst, ◌∙◌, arith}
-use Rattle.std.specs.Prelude.{slice_get, option_map, option_copied, IfSome, IsSome}
+use Rattle.std.proofs.Common.{Bor, refl, sym, ap, subst, ◌∙◌, arith, eq-eqb}
+use Rattle.std.specs.Prelude.{slice_get, option_map, option_copied, is_some, IfSome, IsSome, IsSomeAnd}
 use Rattle.std.proofs.lemmas.Bool.{eqb-true}
 use Rattle.std.specs.Str.{IsUtf8}
 use Rattle.std.proofs.lemmas.List.Elements.{All-nil, All-cons}
 use Rattle.std.specs.Map.{lookup, keys_of, remove_entry}
 use Rattle.indexmap.specs.IndexMap.{insert_entry}
 use Rattle.sheet_reader.specs.declared.book.SheetEntry.{SheetEntry}
+use Rattle.sheet_reader.specs.declared.rereads.Rereading.{Rereading}
 use Rattle.sheet_reader.specs.Books.{IsEntry, IsStored, entry_of, ids_of, book_changed, removed, entries_in, AreEntries}
+use Rattle.sheet_reader.specs.Rereads.{CanRetell, retold}
 
 abbrev pub Entries : Type 0
 Entries = List (ℕ × SheetEntry)
@@ -122,3 +124,89 @@ stored e text own is utf8 = record { entry = own; utf8 = subst IsUtf8 is utf8 }
 pub all_stored : (es : Entries) → AreEntries es → All IsStored (entries_in es)
 all_stored [] all = All-nil IsStored
 all_stored (p ∷ ps) all = All-cons IsStored p.1 (entries_in ps) all.1 (all_stored ps all.2)
+
+-- what was put in under an id makes way for what is put in next
+pub put_over : (id : ℕ) (v w : SheetEntry) (es : Entries)
+    → insert_entry nat_eq (insert_entry nat_eq es id v) id w ≡ insert_entry nat_eq es id w
+put_over id v w [] = ap (λ (b : Bool). cond b ((id, w) ∷ []) ((id, v) ∷ (id, w) ∷ [])) (eq-eqb id id refl)
+put_over id v w (q ∷ es) = by (nat_eq id q.0) refl (put_over id v w es)
+  where
+    by : (b : Bool) → nat_eq id q.0 ≡ b → insert_entry nat_eq (insert_entry nat_eq es id v) id w ≡ insert_entry nat_eq es id w
+        → insert_entry nat_eq (cond b ((q.0, v) ∷ es) (q ∷ insert_entry nat_eq es id v)) id w
+        ≡ cond b ((q.0, w) ∷ es) (q ∷ insert_entry nat_eq es id w)
+    by true e rest =
+        ap (λ (b : Bool). cond b ((q.0, w) ∷ es) ((q.0, v) ∷ insert_entry nat_eq es id w)) e
+    by false e rest =
+        ap (λ (b : Bool). cond b ((q.0, w) ∷ insert_entry nat_eq es id v) (q ∷ insert_entry nat_eq (insert_entry nat_eq es id v) id w)) e
+        ∙ ap (λ (xs : Entries). q ∷ xs) rest
+
+-- what was put in under an id is found there
+pub put_found : (id : ℕ) (v : SheetEntry) (es next : Entries) → next ≡ insert_entry nat_eq es id v → IsSome (lookup (nat_eq id) next)
+put_found id v es next is = subst (λ (xs : Entries). IsSome (lookup (nat_eq id) xs)) (sym is) (own es)
+  where
+    own : (es : Entries) → IsSome (lookup (nat_eq id) (insert_entry nat_eq es id v))
+    own [] = ap (λ (b : Bool). is_some (cond b (Some v) None)) (eq-eqb id id refl)
+    own (q ∷ es) = by (nat_eq id q.0) refl (own es)
+      where
+        by : (b : Bool) → nat_eq id q.0 ≡ b → IsSome (lookup (nat_eq id) (insert_entry nat_eq es id v))
+            → IsSome (lookup (nat_eq id) (cond b ((q.0, v) ∷ es) (q ∷ insert_entry nat_eq es id v)))
+        by true e rest = ap (λ (b : Bool). is_some (cond b (Some v) (lookup (nat_eq id) es))) e
+        by false e rest = ap (λ (b : Bool). is_some (cond b (Some q.1) (lookup (nat_eq id) (insert_entry nat_eq es id v)))) e ∙ rest
+
+-- the sheet that is found in the map, of which this is known in the book
+pub known : (P : SheetEntry → Type 0) (id : ℕ) (es : Entries) (e : SheetEntry) → AreEntries es
+    → IsSomeAnd (entry_of id (entries_in es)) P → lookup (nat_eq id) es ≡ Some e
+    → (entry_of id (entries_in es) ≡ Some e) × (e.id ≡ id) × IsEntry e × P e
+known P id es e all there at =
+    let own : entry_of id (entries_in es) ≡ Some e = sym (found id es all) ∙ at in
+    let kept = is_entry id es e all own in
+    (own, key es all at, kept.entry, subst (λ (o : Option SheetEntry). IsSomeAnd o P) own there)
+  where
+    key : (es : Entries) → AreEntries es → lookup (nat_eq id) es ≡ Some e → e.id ≡ id
+    key [] all at = absurd (cc)
+    key (q ∷ es) all at = by (nat_eq id q.0) refl at (λ k. key es all.2 k)
+      where
+        by : (b : Bool) → nat_eq id q.0 ≡ b → cond b (Some q.1) (lookup (nat_eq id) es) ≡ Some e
+            → (lookup (nat_eq id) es ≡ Some e → e.id ≡ id) → e.id ≡ id
+        by true is k rest = let same : q.1 ≡ e = cc in
+            ap (λ (x : SheetEntry). x.id) (sym same) ∙ sym all.0 ∙ sym (eqb-true id q.0 is)
+        by false is k rest = rest k
+
+pub known_there : (P : SheetEntry → Type 0) (id : ℕ) (es : Entries) → AreEntries es → IsSomeAnd (entry_of id (entries_in es)) P
+    → IsSome (lookup (nat_eq id) es)
+known_there P id es all there = subst IsSome (sym (found id es all)) (some_is (entry_of id (entries_in es)) there)
+  where
+    some_is : (o : Option SheetEntry) → IsSomeAnd o P → IsSome o
+    some_is None there = absurd there
+    some_is (Some x) there = refl
+
+pub if_found : (Q : SheetEntry → Type 0) (o : Option SheetEntry) (e : SheetEntry) → o ≡ Some e → Q e → IfSome o Q
+if_found Q o e is holds = subst (λ (x : Option SheetEntry). IfSome x Q) (sym is) holds
+
+-- a sheet that is taken out, and put back with another text
+pub put_twice : (text : List ℕ) (plan : Rereading) (id : ℕ) (es one two : Entries) (empty old new : SheetEntry) → AreEntries es
+    → IsSomeAnd (entry_of id (entries_in es)) (CanRetell text plan) → lookup (nat_eq id) es ≡ Some old
+    → one ≡ insert_entry nat_eq es id empty → two ≡ insert_entry nat_eq one id new → new ≡ retold text old → IsStored new
+    → AreEntries two × (entry_of id (entries_in es) ≡ Some old) × (entries_in two ≡ book_changed (retold text old) (entries_in es))
+put_twice text plan id es one two empty old new all there at first second new_is own_stored =
+    let own = known (CanRetell text plan) id es old all there at in
+    let key : new.id ≡ id = ap (λ (x : SheetEntry). x.id) new_is ∙ own.1 in
+    let is : two ≡ insert_entry nat_eq es new.id new =
+    second ∙ ap (λ (xs : Entries). insert_entry nat_eq xs id new) first ∙ put_over id empty new es
+    ∙ ap (λ (k : ℕ). insert_entry nat_eq es k new) (sym key) in
+    let here : IsSome (entry_of new.id (entries_in es)) =
+    subst (λ (k : ℕ). IsSome (entry_of k (entries_in es))) (sym key)
+    (subst IsSome (sym own.0) refl) in (
+      subst AreEntries (sym is) (inserted_are new es own_stored all),
+      own.0,
+      ap entries_in is ∙ inserted_changed new es all here ∙ ap (λ (x : SheetEntry). book_changed x (entries_in es)) new_is,
+    )
+
+-- what is asked of the sheet that was found
+pub asked_of : (text : List ℕ) (plan : Rereading) (id : ℕ) (es : Entries) (book : List SheetEntry) (old : SheetEntry) → AreEntries es
+    → entries_in es ≡ book → IsSomeAnd (entry_of id book) (CanRetell text plan) → lookup (nat_eq id) es ≡ Some old
+    → CanRetell text plan old × IsEntry old
+asked_of text plan id es book old all seen there at =
+    let own = known (CanRetell text plan) id es old all
+    (subst (λ (xs : List SheetEntry). IsSomeAnd (entry_of id xs) (CanRetell text plan)) (sym seen) there) at in
+    (own.3, own.2)

@@ -1,5 +1,5 @@
 -- Nothing but its own declarations stands inside the body of a rule, in any reading.
-use Rattle.std.proofs.Common.{◌≡◌, ◌⊎◌, inl, inr, ℕ, suc, ◌+◌, ◌<◌, ◌≤◌, ◌^◌, Bool, true, false, cond, nat_le, List, [], ◌∷◌, ◌++◌, map}
+use Rattle.std.proofs.Common.{◌≡◌, ◌⊎◌, inl, inr, ℕ, suc, ◌+◌, ◌<◌, ◌≤◌, Bool, true, false, cond, nat_le, List, [], ◌∷◌, ◌++◌, map}
 use Rattle.std.proofs.Common.{take, drop, All}
 use Rattle.std.proofs.Common.{length, Option, Some, None, refl, ap, sym, ◌∙◌, subst, append_assoc, length-append, arith}
 use Rattle.std.specs.Prelude.{slice_get, slice_index, option_map, option_to_list}
@@ -7,9 +7,10 @@ use Rattle.std.proofs.lemmas.List.{append-nil}
 use Rattle.std.proofs.lemmas.List.Elements.{All-nil, All-cons}
 use Rattle.std.proofs.lemmas.Bool.Decides.{nat_tests}
 use Rattle.std.proofs.Math.Seq.{take-append_seam}
+use Rattle.node_tree.specs.Numbers.{number_limit}
 use Rattle.css_tokens.specs.declared.token.Range.{Range}
 use Rattle.css_tokens.specs.declared.token.Token.{Token}
-use Rattle.css_tokens.specs.Pieces.{pieces, pieces_after}
+use Rattle.css_tokens.specs.Pieces.{pieces}
 use Rattle.selectors.specs.declared.words.Word.{Word}
 use Rattle.selectors.specs.Words.{between, words_after, word_reading}
 use Rattle.selectors.specs.Forms.{SelectorForm}
@@ -17,15 +18,14 @@ use Rattle.selectors.specs.Reading.{range_of, selector_list_of}
 use Rattle.selectors.specs.Moves.{Cut, placed_range, placed_selector, CanPlace, CanPlaceRange}
 use Rattle.sheet_reader.specs.declared.sheet.Property.{Property}
 use Rattle.sheet_reader.specs.declared.sheet.MediaRule.{MediaRule}
-use Rattle.sheet_reader.specs.declared.sheet.Sheet.{Sheet}
 use Rattle.sheet_reader.specs.declared.parts.Level.TheVariants.{Top, Inner}
 use Rattle.sheet_reader.specs.Forms.{range, RuleForm}
 use Rattle.sheet_reader.specs.Parts.{block, PartForm, at_rule, part_pieces, parts}
-use Rattle.sheet_reader.specs.Layout.{MediaForm, media_form, media_rule, media_in, Laid, laid, laid_out, AreLaid}
+use Rattle.sheet_reader.specs.Layout.{MediaForm, media_form, media_rule, media_in, Laid, laid, laid_out}
 use Rattle.sheet_reader.specs.Declarations.{declarations, style_of}
 use Rattle.sheet_reader.specs.Sheets.{body_end, rule_of, closing_place, place_of, rules_in, places_in, sheet_of}
-use Rattle.sheet_reader.proofs.Raised.{raised, raised_word, raised_media, raised_laid, flat}
-use Rattle.sheet_reader.specs.Moves.{placed_property, placed_media, placed_rule, body_cut, CanPlaceMedia, CanPlaceProperty, CanPlaceHead}
+use Rattle.sheet_reader.proofs.Raised.{raised_word, flat}
+use Rattle.sheet_reader.specs.Moves.{placed_property, placed_media, placed_rule, body_cut, CanPlaceMedia, CanPlaceProperty}
 use Rattle.sheet_reader.specs.Moves.{CanPlaceRule, IsPropertyWithin, CanMoveBody}
 use Rattle.sheet_reader.proofs.GrammarForms.{parts_spelled}
 use Rattle.sheet_reader.proofs.LayoutForms.{laid_spelled}
@@ -41,7 +41,7 @@ use Rattle.sheet_reader.proofs.LaidMoves.{laid_in, stays, goes, token_kept, toke
 use Rattle.sheet_reader.proofs.RulePaths.{RulePart, rule_part, Path, here, past_part, past_media, in_media, find, path_flat, path_ends}
 use Rattle.sheet_reader.proofs.RulePaths.{path_over}
 use Rattle.sheet_reader.proofs.MovedParts.{places_cons}
-use Rattle.sheet_reader.proofs.MovedLaw.{HeadOf, head_of, path_body, with_body, apart, tail_of, text_len}
+use Rattle.sheet_reader.proofs.MovedLaw.{head_of, path_body, apart, tail_of, text_len}
 
 same_self : (text : List ℕ) (f : ℕ → ℕ) (lo hi : ℕ) → ((x : ℕ) → lo ≤ x → x ≤ hi → f x ≡ x) → SamePart text text f lo hi
 same_self text f lo hi keep = record {
@@ -328,7 +328,7 @@ path_head text r q g s around k _ _ _ _ _ keep (in_media m first last inner ps w
 
 -- the body of a rule may be replaced in every reading
 pub body_clear : (text : List ℕ) (k : ℕ) (r : RuleForm) (ps : List Property) (n : ℕ) → slice_get (sheet_of text).rules k ≡ Some r
-    → All (IsPropertyWithin n) ps → length text + n < 2 ^ 64 → CanMoveBody (sheet_of text) k ps n r
+    → All (IsPropertyWithin n) ps → length text + n < number_limit → CanMoveBody (sheet_of text) k ps n r
 body_clear text k r ps n e within small =
     let top = parts Top (pieces text) in
     let ls = laid_out text None 0 (pieces text) in

@@ -28,6 +28,7 @@ pub mod WordMoves
 pub mod ReadMoves
 pub mod TextMoves
 pub mod MoveForms
+pub mod RereadForms
 pub mod MoveAround
 pub mod BlockMoves
 pub mod LaidMoves

@@ -15,3 +15,4 @@ pub mod Usable
 pub mod Around
 pub mod Lone
 pub mod Moves
+pub mod Rereads

@@ -1,5 +1,6 @@
 -- What a reading becomes where the body of a rule is replaced. No text is read.
-use Rattle.std.specs.Prelude.{ℕ, zero, suc, ◌+◌, ◌<◌, ◌≤◌, ◌^◌, All, List, [], ◌∷◌, ◌++◌, map, take, drop, slice_get, Option, Some, None}
+use Rattle.std.specs.Prelude.{ℕ, zero, suc, ◌+◌, ◌<◌, ◌≤◌, All, List, [], ◌∷◌, ◌++◌, map, take, drop, slice_get, Option, Some, None}
+use Rattle.node_tree.specs.Numbers.{number_limit}
 use Rattle.css_tokens.specs.declared.token.Range.{Range}
 use Rattle.selectors.specs.Moves.{Cut, cut, moved_place, placed_range, placed_selector, CanPlace, CanPlaceRange}
 use Rattle.sheet_reader.specs.declared.sheet.Property.{Property}
@@ -98,7 +99,7 @@ pub record IsPropertyWithin (n : ℕ) (p : Property) : Type 0 where
 -- the body of the rule with this number can be replaced by n bytes: nothing but its own declarations stands inside it
 pub record CanMoveBody (s : Sheet) (k : ℕ) (ps : List Property) (n : ℕ) (r : RuleForm) : Type 0 where
   pub order : r.body.start ≤ r.body.end
-  pub fits : r.body.start + n < 2 ^ 64
+  pub fits : r.body.start + n < number_limit
   pub head : CanPlaceHead (body_cut r n) r
   pub before : All (CanPlaceRule (body_cut r n)) (take k s.rules)
   pub behind : All (CanPlaceRule (body_cut r n)) (drop (suc k) s.rules)

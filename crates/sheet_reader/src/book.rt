@@ -2,9 +2,13 @@
 
 ghost use Rattle.std.specs.Prelude.{◌≡◌, All, ◌<◌, ◌++◌, ◌∷◌, [], length, None, Some, IsSome, IfSome, slice_get, option_copied, nat_eq};
 ghost use Rattle.std.specs.Prelude.{OnOk, OnErr, IfOk};
-ghost use Rattle.indexmap.specs.IndexMap.{get, shift_remove_entry};
+ghost use Rattle.std.specs.Prelude.{IsSomeAnd};
+ghost use Rattle.indexmap.specs.IndexMap.{get, insert_entry, shift_remove_entry};
 ghost use Rattle.sheet_reader.specs.Books.{IsEntry, IsStored, AreApart, entry_of, entry_place, book_changed, removed};
+ghost use Rattle.sheet_reader.specs.Rereads.{CanRetell, retold};
 
+use crate::lists::{MediaRules, Places, StyleRules};
+use crate::rereads::{Rereading, carry_out};
 use crate::rules::read_sheet;
 use crate::sheet::Sheet;
 use indexmap::IndexMap;
@@ -146,6 +150,15 @@ impl SheetBook {
         }
     }
 
+    /// Makes the text of the sheet with this id another one, of which the reading is planned. Takes no memory.
+    pub fn retell(&mut self, id: u64, text: Text, plan: Rereading)
+        requires there { IsSomeAnd (entry_of id self.old) (CanRetell text plan) }
+        ensures changed { IfSome (entry_of id self.old) (λ e. self.new ≡ book_changed (retold text e) self.old) }
+    {
+        let old = put_in(&mut self.entries, id, no_entry(self.alloc, id));
+        let _old = put_in(&mut self.entries, id, retold(old, text, plan));
+    }
+
     /// Takes out the entry with this id; the others keep their order. Takes no memory.
     pub fn remove(&mut self, id: u64) -> Option<SheetEntry>
         ensures entry { result ≡ entry_of id self.old }
@@ -160,4 +173,55 @@ fn take_out(entries: &mut IndexMap<u64, SheetEntry>, id: u64) -> Option<SheetEnt
     ensures others { entries.new.entries ≡ shift_remove_entry (nat_eq id) entries.old.entries }
 {
     entries.shift_remove(&id)
+}
+
+/// Puts an entry in the place of the one with this id, and answers that one.
+fn put_in(entries: &mut IndexMap<u64, SheetEntry>, id: u64, entry: SheetEntry) -> SheetEntry
+    requires there { IsSome (get nat_eq entries.old id) }
+    ensures old { get nat_eq entries.old id ≡ Some result }
+    ensures entries { entries.new.entries ≡ insert_entry nat_eq entries.old.entries id entry }
+{
+    match entries.insert(id, entry) {
+        Ok(Some(old)) => old,
+        Ok(None) => unreachable!(),
+        Err(_) => unreachable!(),
+    }
+}
+
+/// What stands for a sheet while it is changed. Takes no memory.
+fn no_entry(alloc: Global, id: u64) -> SheetEntry {
+    SheetEntry {
+        id,
+        origin: Origin::Regular,
+        text: Text::empty(alloc),
+        reading: Sheet {
+            rules: StyleRules::new(Vec::new(alloc)),
+            places: Places::new(Vec::new(alloc)),
+            media: MediaRules::new(Vec::new(alloc)),
+        },
+    }
+}
+
+/// The sheet with this text, as its reading was planned. Takes no memory.
+fn retold(entry: SheetEntry, text: Text, plan: Rereading) -> SheetEntry
+    requires can { CanRetell text plan entry }
+    requires old { IsEntry entry }
+    ensures entry { result ≡ retold text entry }
+    ensures stored { IsStored result }
+{
+    // Read for the proof alone: a text is UTF-8.
+    let _text = text.as_str();
+    let SheetEntry {
+        id,
+        origin,
+        text: _old,
+        reading,
+    } = entry;
+    let reading = carry_out(reading, plan);
+    SheetEntry {
+        id,
+        origin,
+        text,
+        reading,
+    }
 }

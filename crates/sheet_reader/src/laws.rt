@@ -1,6 +1,7 @@
 //! Laws of the definitions: sheets and bodies in the words of their grammar.
 
-ghost use Rattle.std.specs.Prelude.{◌≡◌, ◌<◌, ◌≤◌, ◌+◌, ◌^◌, ◌++◌, ◌∷◌, [], ℕ, Bool, true, List, length, slice_get, Option, Some, None};
+ghost use Rattle.std.specs.Prelude.{◌≡◌, ◌<◌, ◌≤◌, ◌+◌, ◌++◌, ◌∷◌, [], ℕ, Bool, true, List, length, slice_get, Option, Some, None};
+ghost use Rattle.node_tree.specs.Numbers.{number_limit};
 ghost use Rattle.css_tokens.specs.declared.token.Token.{Token};
 ghost use Rattle.sheet_reader.specs.declared.parts.Level.{Level};
 ghost use Rattle.sheet_reader.specs.declared.parts.Level.TheVariants.{Top, Inner};
@@ -80,5 +81,5 @@ pub fn moved_law()
     ensures moved { (text put : List ℕ) (k : ℕ) (r : RuleForm) → slice_get (sheet_of text).rules k ≡ Some r → is_sealed put ≡ true
         → sheet_of (replaced text r.body put) ≡ moved_sheet (sheet_of text) k (style_of put) (length put) }
     ensures can_move { (text put : List ℕ) (k : ℕ) (r : RuleForm) → slice_get (sheet_of text).rules k ≡ Some r
-        → length text + length put < 2 ^ 64 → CanMoveBody (sheet_of text) k (style_of put) (length put) r }
+        → length text + length put < number_limit → CanMoveBody (sheet_of text) k (style_of put) (length put) r }
 {}

@@ -4,9 +4,12 @@
 //! Every text has one reading. Places are bytes from 0, unless a name says otherwise.
 //!
 //! Promise: `read_sheet` and `read_style` give exactly that reading; `position` and `byte_at` are the lines and UTF-16 columns
-//! of bytes; a `SheetBook` is the list of its entries, each with the reading of its text.
+//! of bytes; a `SheetBook` is the list of its entries, each with the reading of its text. `reread` gives the reading of a text of
+//! which a part was replaced: where that is the body of a rule, no more than the new body is read. `plan_reread` takes the memory
+//! that it wants, `carry_out` and `SheetBook::retell` take none.
 //!
-//! Way in: those, `sealed` for a text that may stand between braces, and `lone_rule` for one that is one rule.
+//! Way in: those, `reread` for a text of which a part was replaced, `sealed` for one that may stand between braces, and `lone_rule`
+//! for one that is one rule.
 //!
 //! Laws, in src/laws.rt: `grammar_law` (parts and items are as CSS Syntax has them, and in no other way), `nesting_law`,
 //! `position_law`, `usable_law` (every range can be cut out, and they stand in one another as they should) and `moved_law` (after an
@@ -27,6 +30,7 @@ mod moves;
 mod parts;
 mod place;
 mod places;
+mod rereads;
 mod rules;
 mod sealing;
 mod sheet;
@@ -39,6 +43,7 @@ pub use lone::{LoneRule, lone_rule};
 pub use moves::move_body;
 pub use place::Position;
 pub use places::{byte_at, position};
+pub use rereads::{NewBody, Rereading, carry_out, plan_reread, reread};
 pub use rules::read_sheet;
 pub use sealing::{sealed, sealed_prelude};
 pub use sheet::{MediaRule, Property, Sheet, StyleRule};

@@ -1,6 +1,7 @@
 //! The lists of a sheet. Each is made from a `Vec` and gives it back without taking memory.
 
-ghost use Rattle.std.specs.Prelude.{◌≡◌, ◌<◌, ◌+◌, ◌^◌, ◌++◌, ◌∷◌, [], All, length, map, OnOk};
+ghost use Rattle.std.specs.Prelude.{◌≡◌, ◌<◌, ◌+◌, ◌++◌, ◌∷◌, [], All, length, map, OnOk};
+ghost use Rattle.node_tree.specs.Numbers.{number_limit};
 ghost use Rattle.selectors.specs.Moves.{cut, moved_place};
 ghost use Rattle.sheet_reader.specs.Forms.{rule_seen};
 ghost use Rattle.sheet_reader.specs.Moves.{placed_property, placed_media, CanPlaceProperty, CanPlaceMedia, IsPropertyWithin};
@@ -57,7 +58,7 @@ impl Properties {
     /// Moves all their ranges. Takes no memory.
     pub(crate) fn move_behind(&mut self, gap: Gap)
         requires { All (CanPlaceProperty (cut gap.start gap.end gap.size)) self.old }
-        ensures { self.new ≡ map (placed_property (moved_place (cut gap.start gap.end gap.size))) self.old }
+        ensures moved { self.new ≡ map (placed_property (moved_place (cut gap.start gap.end gap.size))) self.old }
     {
         move_properties(&mut self.properties, gap);
     }
@@ -65,7 +66,7 @@ impl Properties {
     /// The declarations with their ranges further back. Takes no memory.
     pub(crate) fn raised(self, start: usize, size: usize) -> Properties
         requires within { All (IsPropertyWithin size) self }
-        requires fits { start + size < 2 ^ 64 }
+        requires fits { start + size < number_limit }
         ensures { result ≡ map (placed_property (λ place. start + place)) self }
     {
         let mut properties = self.properties;
@@ -217,7 +218,7 @@ impl MediaRules {
     /// Moves all their preludes. Takes no memory.
     pub(crate) fn move_behind(&mut self, gap: Gap)
         requires { All (CanPlaceMedia (cut gap.start gap.end gap.size)) self.old }
-        ensures { self.new ≡ map (placed_media (moved_place (cut gap.start gap.end gap.size))) self.old }
+        ensures moved { self.new ≡ map (placed_media (moved_place (cut gap.start gap.end gap.size))) self.old }
     {
         move_media(&mut self.rules, gap);
     }

@@ -1,6 +1,7 @@
 //! Readings where the body of a rule becomes another text: no text is read, and no memory is taken.
 
-ghost use Rattle.std.specs.Prelude.{◌≡◌, ◌<◌, ◌^◌, ◌+◌, All, length, map, take, drop, slice_get, IfSome};
+ghost use Rattle.std.specs.Prelude.{◌≡◌, ◌<◌, ◌+◌, All, length, map, take, drop, slice_get, IfSome};
+ghost use Rattle.node_tree.specs.Numbers.{number_limit};
 ghost use Rattle.selectors.specs.Moves.{cut, moved_place, placed_range, CanPlace};
 ghost use Rattle.sheet_reader.specs.Forms.{rule_seen};
 ghost use Rattle.sheet_reader.specs.Moves.{placed_property, placed_media, placed_rule, rebodied, moved_rules, moved_sheet};
@@ -33,7 +34,7 @@ pub(crate) fn move_properties(properties: &mut [Property], gap: Gap)
 /// Puts the ranges of declarations `start` bytes further back.
 pub(crate) fn raise_properties(properties: &mut [Property], start: usize, size: usize)
     requires within { All (IsPropertyWithin size) properties.old }
-    requires fits { start + size < 2 ^ 64 }
+    requires fits { start + size < number_limit }
     ensures { properties.new ≡ map (placed_property (λ place. start + place)) properties.old }
 {
     for property in properties.iter_mut() {
@@ -43,8 +44,8 @@ pub(crate) fn raise_properties(properties: &mut [Property], start: usize, size: 
 }
 
 fn raised(range: Range, start: usize) -> Range
-    requires front { start + range.start < 2 ^ 64 }
-    requires back { start + range.end < 2 ^ 64 }
+    requires front { start + range.start < number_limit }
+    requires back { start + range.end < number_limit }
     ensures { result ≡ placed_range (λ place. start + place) range }
 {
     Range {
@@ -85,7 +86,7 @@ fn move_rule(rule: &mut StyleRule, gap: Gap)
 fn rebody(rule: &mut StyleRule, gap: Gap, properties: Properties)
     requires head { CanPlaceHead (cut gap.start gap.end gap.size) (rule_seen rule.old) }
     requires within { All (IsPropertyWithin gap.size) properties }
-    requires fits { gap.start + gap.size < 2 ^ 64 }
+    requires fits { gap.start + gap.size < number_limit }
     ensures { rule_seen rule.new ≡ rebodied (cut gap.start gap.end gap.size) properties (rule_seen rule.old) }
 {
     rule.prelude = move_range(rule.prelude, gap.start, gap.end, gap.size);
@@ -113,7 +114,7 @@ fn move_around(rules: &mut [StyleRule], own: usize, gap: Gap, properties: Proper
     requires head { IfSome (slice_get (map rule_seen rules.old) own) (CanPlaceHead (cut gap.start gap.end gap.size)) }
     requires behind { All (CanPlaceRule (cut gap.start gap.end gap.size)) (drop (own + 1) (map rule_seen rules.old)) }
     requires within { All (IsPropertyWithin gap.size) properties }
-    requires fits { gap.start + gap.size < 2 ^ 64 }
+    requires fits { gap.start + gap.size < number_limit }
     ensures { map rule_seen rules.new ≡ moved_rules (cut gap.start gap.end gap.size) properties own (map rule_seen rules.old) }
 {
     move_rules(&mut rules[..own], gap);
@@ -126,7 +127,7 @@ fn move_around(rules: &mut [StyleRule], own: usize, gap: Gap, properties: Proper
 pub fn move_body(old: Sheet, rule: usize, properties: Vec<Property>, size: usize) -> Sheet
     requires whole { IfSome (slice_get old.rules rule) (CanMoveBody old rule properties.items size) }
     requires there { rule < length old.rules }
-    ensures { result ≡ moved_sheet old rule properties.items size }
+    ensures moved { result ≡ moved_sheet old rule properties.items size }
 {
     let Sheet {
         rules,

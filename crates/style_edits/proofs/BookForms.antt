@@ -1,12 +1,12 @@
 -- Entries that take each other's places in a book.
 use Rattle.std.proofs.Common.{eq-eqb, ◌≡◌, ℕ, Bool, true, false, cond, nat_eq, List, [], ◌∷◌, ◌++◌, All, Option, Some, None, refl, sym, ap}
 use Rattle.std.proofs.Common.{subst, ◌∙◌, ◌||◌}
-use Rattle.std.specs.Prelude.{IsSome, IsSomeAnd, option_to_list}
+use Rattle.std.specs.Prelude.{IsSome, option_to_list}
 use Rattle.std.specs.List.{list_any}
 use Rattle.std.proofs.lemmas.Bool.{eqb-true}
-use Rattle.std.proofs.lemmas.List.Elements.{All-weaker, All-pop, All-push}
+use Rattle.std.proofs.lemmas.List.Elements.{All-weaker, All-pop}
 use Rattle.sheet_reader.specs.declared.book.SheetEntry.{SheetEntry}
-use Rattle.sheet_reader.specs.Books.{IsEntry, entry_of, book_changed, removed}
+use Rattle.sheet_reader.specs.Books.{entry_of, book_changed, removed}
 use Rattle.style_edits.specs.Drafts.{IsOld, olds_restored}
 
 same_nat : (n : ℕ) → nat_eq n n ≡ true
@@ -116,58 +116,6 @@ pub one_restored : (olds rest : List SheetEntry) (old : SheetEntry) (book next t
 one_restored olds rest old book next total is new so_far = ap (olds_restored rest) new ∙ sym (restored_push rest old book) ∙ ap
     (λ (xs : List SheetEntry). olds_restored xs book) (sym is) ∙ so_far
 
--- an entry that went in, and the old one behind the others
-pub olds_pushed : (new old : SheetEntry) (book next olds more : List SheetEntry) → next ≡ book_changed new book → IsOld book old
-    → more ≡ olds ++ old ∷ [] → All (IsOld book) olds → All (IsOld next) more
-olds_pushed new old book next olds more is own pushed all =
-    subst (λ (b : List SheetEntry). All (IsOld b) more) (sym is)
-    (olds_stay new book more (subst (All (IsOld book)) (sym pushed) (All-push (IsOld book) olds old all own)))
-
-pub pushed_restored : (new old : SheetEntry) (book next olds more : List SheetEntry) → next ≡ book_changed new book → new.id ≡ old.id
-    → entry_of old.id book ≡ Some old → more ≡ olds ++ old ∷ [] → olds_restored more next ≡ olds_restored olds book
-pushed_restored new old book next olds more is same there pushed =
-    ap (λ (xs : List SheetEntry). olds_restored xs next) pushed ∙ restored_push olds old next
-    ∙ ap (λ (b : List SheetEntry). olds_restored olds (book_changed old b)) is ∙ ap (olds_restored olds)
-    (changed_back old new book same there)
-
--- one entry in the place of another in a book
-pub record IsSwap (book next : List SheetEntry) (new old : SheetEntry) : Type 0 where
-  pub own : IsOld book old
-  pub same : new.id ≡ old.id
-  pub there : entry_of old.id book ≡ Some old
-  pub is : next ≡ book_changed new book
-
-pub swapped : (book next : List SheetEntry) (new e old : SheetEntry) → IsEntry e → entry_of e.id book ≡ Some e → new.id ≡ e.id
-    → entry_of new.id book ≡ Some old → next ≡ book_changed new book → IsSwap book next new old
-swapped book next new e old entry there same found is =
-    let both : Some e ≡ Some old = sym there ∙ ap (λ (k : ℕ). entry_of k book) (sym same) ∙ found in
-    let one : e ≡ old = cc in
-    let own : IsSwap book next new e = record {
-      own = record { entry = entry; there = some_there (entry_of e.id book) e there };
-      same = same;
-      there = there;
-      is = is;
-    } in
-    subst (IsSwap book next new) one own
-
-pub swap_olds : (book next : List SheetEntry) (new old : SheetEntry) (olds more : List SheetEntry) → IsSwap book next new old
-    → more ≡ olds ++ old ∷ [] → All (IsOld book) olds → All (IsOld next) more
-swap_olds book next new old olds more s pushed all = olds_pushed new old book next olds more s.is s.own pushed all
-
-pub swap_restored : (book next : List SheetEntry) (new old : SheetEntry) (olds more : List SheetEntry) → IsSwap book next new old
-    → more ≡ olds ++ old ∷ [] → olds_restored more next ≡ olds_restored olds book
-swap_restored book next new old olds more s pushed = pushed_restored new old book next olds more s.is s.same s.there pushed
-
-pub swap_there : (book next : List SheetEntry) (new old again : SheetEntry) → IsSwap book next new old → again ≡ old
-    → IsSome (entry_of again.id next)
-swap_there book next new old again s is =
-    subst (λ (e : SheetEntry). IsSome (entry_of e.id next)) (sym is)
-    (subst (λ (b : List SheetEntry). IsSome (entry_of old.id b)) (sym s.is) (changed_there new old.id book s.own.there))
-
-pub swap_back : (book next last : List SheetEntry) (new old again : SheetEntry) → IsSwap book next new old → again ≡ old
-    → last ≡ book_changed again next → last ≡ book
-swap_back book next last new old again s is back = back ∙ (λ i. book_changed (is i) (s.is i)) ∙ changed_back old new book s.same s.there
-
 -- ---- a sheet that is kept already
 
 -- an entry in the place of one that took the place of another with its id
@@ -239,11 +187,3 @@ kept_restored new book next olds kept is = ap (olds_restored olds) is ∙ each o
             → book_changed o (olds_restored olds (book_changed new book)) ≡ book_changed o (olds_restored olds book)
         by true same some more = changed_under o new olds book (sym (eqb-true o.id new.id same))
         by false same some more = ap (book_changed o) (more some)
-
--- the swap of a sheet with the one that the book has under its id
-pub swapped_there : (book next : List SheetEntry) (new old : SheetEntry) → IsSomeAnd (entry_of new.id book) IsEntry
-    → entry_of new.id book ≡ Some old → next ≡ book_changed new book → IsSwap book next new old
-swapped_there book next new old there found is =
-    let own : IsEntry old = subst (λ (o : Option SheetEntry). IsSomeAnd o IsEntry) found there in
-    let same : old.id ≡ new.id = entry_id new.id book old found in
-    swapped book next new old old own (entry_again new.id book old found) (sym same) found is

@@ -9,8 +9,9 @@ use Rattle.style_edits.specs.declared.faults.SheetFault.{SheetFault}
 use Rattle.style_edits.specs.declared.splice.Splice.{Splice}
 use Rattle.style_edits.specs.declared.faults.SheetErr.{SheetErr}
 use Rattle.style_edits.specs.declared.faults.SheetErr.TheVariants.{Fault, Memory}
-use Rattle.style_edits.specs.Edits.{Found, EditsOutcome, style_splice, edited, with_back, go_on, styles_edited, IfFault}
-use Rattle.style_edits.specs.Drafts.{with_backs}
+use Rattle.style_edits.specs.Edits.{Found, EditsOutcome, style_in, style_splice, client_sheet, found_by, edited, with_back, go_on}
+use Rattle.style_edits.specs.Edits.{styles_edited, IfFault}
+use Rattle.style_edits.specs.Drafts.{Drafts, with_backs}
 
 one_back : (backs : List Splice) (back : Splice) (o : EditsOutcome)
     → with_backs backs (with_back back o) ≡ with_backs (backs ++ back ∷ []) o
@@ -79,3 +80,30 @@ pub fault_of_all : (A B : Type 0) (stop : SheetErr) (found : Found) (all : Edits
     → ((f : SheetFault) → found ≡ Err f → all ≡ Err f) → IfFault {A = B} (Err stop) (λ f. all ≡ Err f)
 fault_of_all A B (Fault f) found all own carries = carries f own
 fault_of_all A B Memory found all own carries = tt
+
+-- a single edit is made
+pub one_edit : (x : StyleEdit) (book next : List SheetEntry) (back : Splice) (backs : List Splice)
+    → edited book (style_splice x book) ≡ Ok (next, back) → backs ≡ [] ++ back ∷ [] → styles_edited (x ∷ []) book ≡ Ok (next, backs)
+unfolding styles_edited
+one_edit x book next back backs done pushed =
+    ap (λ (r : Result (List SheetEntry × Splice) SheetFault). go_on r (λ b. styles_edited [] b)) done
+    ∙ sym (ap (λ (bs : List Splice). all bs) pushed)
+  where
+    all : List Splice → EditsOutcome
+    all bs = Ok (next, bs)
+
+-- a single edit has a fault
+pub one_fault : (x : StyleEdit) (book : List SheetEntry) (f : SheetFault) → style_splice x book ≡ Err f → styles_edited (x ∷ []) book ≡ Err f
+unfolding styles_edited
+one_fault x book f is = ap (λ (r : Found). go_on (edited book r) (λ b. styles_edited [] b)) is
+
+-- a single edit has no sheet to change
+pub one_refused : (x : StyleEdit) (book : List SheetEntry) (f : SheetFault) → client_sheet x.sheet book ≡ Err f
+    → styles_edited (x ∷ []) book ≡ Err f
+one_refused x book f client = one_fault x book f (ap (found_by (style_in x)) client)
+
+-- a single edit stops
+pub one_stops : (A : Type 0) (x : StyleEdit) (book : List SheetEntry) (e : SheetEntry) (stop : SheetErr) → client_sheet x.sheet book ≡ Ok e
+    → Drafts e (style_in x e) (Err stop) → IfFault {A = A} (Err stop) (λ f. styles_edited (x ∷ []) book ≡ Err f)
+one_stops A x book e (Fault f) client found = one_fault x book f (ap (found_by (style_in x)) client ∙ found)
+one_stops A x book e Memory client found = tt

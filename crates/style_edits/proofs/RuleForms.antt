@@ -54,3 +54,11 @@ pub rules_none : (edits : List StyleEdit) (i : ℕ) (rules : List RulePlace) (bo
 unfolding edited_rules
 rules_none edits i rules book total over so_far =
     sym (append-nil rules) ∙ ap (λ (xs : List StyleEdit). rules ++ edited_rules xs book) (sym (drop_all i edits over)) ∙ so_far
+
+-- the rule of a single edit
+pub one_rule : (x : StyleEdit) (rules more : List RulePlace) (book next : List SheetEntry) (back : Splice)
+    → edited book (style_splice x book) ≡ Ok (next, back) → more ≡ rules ++ edited_rule next back ∷ []
+    → more ≡ rules ++ edited_rules (x ∷ []) book
+unfolding edited_rules
+one_rule x rules more book next back done pushed =
+    pushed ∙ sym (ap (λ (ps : List RulePlace). rules ++ ps) (step x [] book next back done))

@@ -1,16 +1,17 @@
 -- A sheet as an edit leaves it, before it is in the book.
-use Rattle.std.specs.Prelude.{◌≡◌, ℕ, [], ◌∷◌, ◌++◌, List, IsSome, Result, Ok, Err, Bool, ◌&&◌, ◌==◌}
+use Rattle.std.specs.Prelude.{◌≡◌, ◌⊎◌, ℕ, [], ◌∷◌, ◌++◌, List, IsSome, Result, Ok, Err, Bool, ◌&&◌, ◌==◌}
 use Rattle.std.specs.Str.{IsCharBoundary}
 use Rattle.css_tokens.specs.declared.token.Range.{Range}
 use Rattle.sheet_reader.specs.declared.book.SheetEntry.{SheetEntry}
 use Rattle.sheet_reader.specs.Books.{IsEntry, entry_of, book_changed}
+use Rattle.sheet_reader.specs.Rereads.{CanRetell}
 use Rattle.sheet_reader.specs.Positions.{position, position_of}
 use Rattle.style_edits.specs.declared.drafts.Draft.{Draft}
 use Rattle.style_edits.specs.declared.faults.SheetErr.{SheetErr}
 use Rattle.style_edits.specs.declared.faults.SheetErr.TheVariants.{Fault, Memory}
 use Rattle.style_edits.specs.declared.lines.LineRange.{LineRange}
 use Rattle.style_edits.specs.declared.splice.Splice.{Splice}
-use Rattle.style_edits.specs.Splices.{spliced_entry, back_in}
+use Rattle.style_edits.specs.Splices.{spliced, back_in}
 use Rattle.style_edits.specs.Edits.{Found, EditsOutcome}
 
 -- the bytes at the ends have these lines and columns, and the text can be cut there
@@ -24,15 +25,20 @@ pub record IsAt (text : List ℕ) (lines : LineRange) (r : Range) : Type 0 where
 abbrev pub is_same_range : Range → Range → Bool
 is_same_range a b = a.start == b.start && a.end == b.end
 
--- the sheet after the splice that was found, and the splice that leads back
+-- the text after the splice that was found, and the splice that leads back
 pub record IsDraft (e : SheetEntry) (found : Found) (d : Draft) : Type 0 where
   pub splice : Splice
   pub is : found ≡ Ok splice
   pub sheet : splice.sheet ≡ e.id
-  pub entry : d.entry ≡ spliced_entry splice e
+  pub id : d.id ≡ e.id
+  pub text : d.text ≡ spliced e.text splice.start splice.end splice.text
   pub back : d.back ≡ back_in splice e
 
--- the sheet after the splice that was found, or the fault that was found, unless memory ran out
+-- the sheet can get the draft's text, of which the reading is planned
+abbrev pub IsToldBy : SheetEntry → Draft → Type 0
+IsToldBy e d = CanRetell d.text d.plan e
+
+-- the text after the splice that was found, or the fault that was found, unless memory ran out
 abbrev pub Drafts : SheetEntry → Found → Result Draft SheetErr → Type 0
 Drafts e found (Ok d) = IsDraft e found d
 Drafts e found (Err (Fault f)) = found ≡ Err f
@@ -42,6 +48,10 @@ Drafts e found (Err Memory) = Unit {0}
 pub record IsOld (book : List SheetEntry) (e : SheetEntry) : Type 0 where
   pub entry : IsEntry e
   pub there : IsSome (entry_of e.id book)
+
+-- an entry is kept behind others, or one of them is in its place
+abbrev pub Keeps : SheetEntry → List SheetEntry → List SheetEntry → Type 0
+Keeps e olds more = (more ≡ olds) ⊎ (more ≡ olds ++ e ∷ [])
 
 -- entries back in their places, the last one first
 abbrev pub olds_restored : List SheetEntry → List SheetEntry → List SheetEntry

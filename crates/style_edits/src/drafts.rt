@@ -1,26 +1,28 @@
 //! A sheet as an edit leaves it, before it is in the book. Making one may take memory; putting it into the book does not.
 
-ghost use Rattle.std.specs.Prelude.{◌≡◌, ◌≤◌, ◌^◌, length, IfOk, IsSome, string_bytes};
+ghost use Rattle.std.specs.Prelude.{◌≡◌, ◌≤◌, length, Ok, IfOk, IfSome, IsSomeAnd, string_bytes};
 ghost use Rattle.std.specs.Prelude.{nat_le};
 ghost use Rattle.std.specs.Str.{IsCharBoundary};
 ghost use Rattle.node_tree.specs.Numbers.{max_sheet_bytes};
 ghost use Rattle.selectors.specs.Ranges.{IsRangeOf};
 ghost use Rattle.sheet_reader.specs.Books.{IsEntry, entry_of, book_changed};
-ghost use Rattle.style_edits.specs.Splices.{spliced, spliced_entry, back_in};
+ghost use Rattle.style_edits.specs.Splices.{spliced, with_text};
 ghost use Rattle.style_edits.specs.Edits.{splice_at, placed_text};
-ghost use Rattle.style_edits.specs.Drafts.{Drafts};
+ghost use Rattle.style_edits.specs.Drafts.{Drafts, IsDraft, IsToldBy};
 
 use crate::faults::{SheetErr, SheetFault};
 use crate::splice::Splice;
 use css_tokens::Range;
 use node_tree::{MAX_SHEET_BYTES, Text};
-use sheet_reader::{SheetBook, SheetEntry, read_sheet};
+use sheet_reader::{Rereading, SheetBook, SheetEntry, plan_reread};
 use std::alloc::{AllocError, Global};
 
-/// The sheet, and the splice that leads back.
+/// The new text of the sheet with this id, how its reading becomes that text's, and the splice that leads back.
 #[derive(Drop)]
 pub(crate) struct Draft {
-    pub entry: SheetEntry,
+    pub id: u64,
+    pub text: Text,
+    pub plan: Rereading,
     pub back: Splice,
 }
 
@@ -62,21 +64,17 @@ pub(crate) fn drafted(
     requires entry { IsEntry entry.now }
     requires part { IsRangeOf entry.now.text part }
     requires short { length (spliced entry.now.text part.start part.end new.now) ≤ max_sheet_bytes }
-    ensures entry { IfOk result (λ d. d.entry ≡ spliced_entry (splice_at entry.now part new.now) entry.now) }
-    ensures back { IfOk result (λ d. d.back ≡ back_in (splice_at entry.now part new.now) entry.now) }
-    ensures whole { IfOk result (λ d. IsEntry d.entry) }
+    ensures drafts { IfOk result (IsDraft entry.now (Ok (splice_at entry.now part new.now))) }
+    ensures tells { IfOk result (IsToldBy entry.now) }
 {
     let old = entry.text.as_str();
     let text = Text::new(spliced(alloc, old, part.start, part.end, new)?);
-    let reading = read_sheet(alloc, text.as_str())?;
     let taken = Text::copied(alloc, &old[part.start..part.end])?;
+    let plan = plan_reread(alloc, &entry.reading, old, part, new, text.as_str())?;
     Ok(Draft {
-        entry: SheetEntry {
-            id: entry.id,
-            origin: entry.origin,
-            text,
-            reading,
-        },
+        id: entry.id,
+        text,
+        plan,
         back: Splice {
             sheet: entry.id,
             start: part.start,
@@ -96,7 +94,7 @@ pub(crate) fn placed(
     requires entry { IsEntry entry.now }
     requires part { IsRangeOf entry.now.text part }
     ensures found { Drafts entry.now (placed_text entry.now part new.now) result }
-    ensures whole { IfOk result (λ d. IsEntry d.entry) }
+    ensures tells { IfOk result (IsToldBy entry.now) }
 {
     if !is_short(entry.text.as_str(), part, new) {
         return Err(SheetErr::Fault(SheetFault::TooBig));
@@ -107,13 +105,18 @@ pub(crate) fn placed(
     }
 }
 
-/// Puts the sheet into the book, and answers the splice that leads back. Takes no memory.
+/// Makes the sheet's text the new one, and answers the splice that leads back. Takes no memory.
 pub(crate) fn apply(book: &mut SheetBook, draft: Draft) -> Splice
-    requires entry { IsEntry draft.entry }
-    requires there { IsSome (entry_of draft.entry.id book.old) }
-    ensures changed { book.new ≡ book_changed draft.entry book.old }
+    requires there { IsSomeAnd (entry_of draft.id book.old) (λ e. IsToldBy e draft) }
+    ensures changed { IfSome (entry_of draft.id book.old) (λ e. book.new ≡ book_changed (with_text e draft.text) book.old) }
     ensures back { result ≡ draft.back }
 {
-    book.change(draft.entry);
-    draft.back
+    let Draft {
+        id,
+        text,
+        plan,
+        back,
+    } = draft;
+    book.retell(id, text, plan);
+    back
 }

@@ -1,11 +1,12 @@
 //! A client's edits of sheets.
 
-ghost use Rattle.std.specs.Prelude.{◌≡◌, ◌==◌, All, ◌++◌, ◌∷◌, [], Ok, Err, Some, IsSomeAnd, IfOk, OnOk, OnErr, MatchResult};
+ghost use Rattle.std.specs.Prelude.{◌≡◌, ◌==◌, ◌<◌, true, vec_len, vec_capacity, All, ◌++◌, ◌∷◌, [], Ok, Err, Some, IfOk, OnOk, OnErr};
+ghost use Rattle.std.specs.Prelude.{MatchResult};
 ghost use Rattle.std.specs.List.{list_any};
-ghost use Rattle.sheet_reader.specs.Books.{IsEntry, entry_of, book_changed};
+ghost use Rattle.sheet_reader.specs.Books.{IsEntry, entry_of};
 ghost use Rattle.style_edits.specs.Edits.{style_in, selector_in, text_in, rule_in, client_sheet, style_splice, selector_splice};
 ghost use Rattle.style_edits.specs.Edits.{text_splice, rule_splice, edited, styles_edited, IfFault, whole_range};
-ghost use Rattle.style_edits.specs.Drafts.{Drafts, IsOld, olds_restored, with_backs};
+ghost use Rattle.style_edits.specs.Drafts.{Drafts, IsToldBy, Keeps, IsOld, olds_restored, with_backs};
 ghost use Rattle.style_edits.specs.EditedRules.{edited_rules};
 
 use crate::drafts::{Draft, apply, placed};
@@ -16,7 +17,7 @@ use crate::splice::Splice;
 use css_tokens::Range;
 use node_tree::Text;
 use selectors::{SelErr, read_selectors};
-use sheet_reader::{LoneRule, Origin, SheetBook, SheetEntry, lone_rule, sealed};
+use sheet_reader::{LoneRule, Origin, SheetBook, SheetEntry, lone_rule, read_sheet, sealed};
 use std::alloc::{AllocError, Global};
 
 /// A new text for the body of the style rule that has its body at these lines and columns.
@@ -45,7 +46,7 @@ pub(crate) fn client_sheet(book: &SheetBook, id: u64) -> Result<&SheetEntry, She
 fn style_in(alloc: Global, entry: &SheetEntry, edit: &StyleEdit) -> Result<Draft, SheetErr>
     requires { IsEntry entry.now }
     ensures found { Drafts entry.now (style_in edit.now entry.now) result }
-    ensures whole { IfOk result (λ d. IsEntry d.entry) }
+    ensures tells { IfOk result (IsToldBy entry.now) }
 {
     let text = edit.text.as_str();
     let Some(part) = body_at(entry, edit.range) else {
@@ -65,7 +66,7 @@ fn selector_in(
 ) -> Result<Draft, SheetErr>
     requires { IsEntry entry.now }
     ensures found { Drafts entry.now (selector_in lines text.now entry.now) result }
-    ensures whole { IfOk result (λ d. IsEntry d.entry) }
+    ensures tells { IfOk result (IsToldBy entry.now) }
 {
     let Some(part) = prelude_at(entry, lines) else {
         return Err(SheetErr::Fault(SheetFault::BadRange));
@@ -92,7 +93,7 @@ fn whole(text: &str) -> Range
 fn text_in(alloc: Global, entry: &SheetEntry, text: &str) -> Result<Draft, SheetErr>
     requires { IsEntry entry.now }
     ensures found { Drafts entry.now (text_in text.now entry.now) result }
-    ensures whole { IfOk result (λ d. IsEntry d.entry) }
+    ensures tells { IfOk result (IsToldBy entry.now) }
 {
     placed(alloc, entry, whole(entry.text.as_str()), text)
 }
@@ -105,7 +106,7 @@ fn rule_in(
 ) -> Result<Draft, SheetErr>
     requires { IsEntry entry.now }
     ensures found { Drafts entry.now (rule_in lines text.now entry.now) result }
-    ensures whole { IfOk result (λ d. IsEntry d.entry) }
+    ensures tells { IfOk result (IsToldBy entry.now) }
 {
     if !sealed(alloc, text)? {
         return Err(SheetErr::Fault(SheetFault::BadText));
@@ -140,8 +141,8 @@ fn set_style(
         Ok(draft) => draft,
         Err(stop) => return Err(stop),
     };
-    match change_keeping(book, draft.entry, olds) {
-        Ok(()) => Ok(draft.back),
+    match keep(book.allocator(), entry, olds) {
+        Ok(()) => Ok(apply(book, draft)),
         Err(_) => Err(SheetErr::Memory),
     }
 }
@@ -153,31 +154,41 @@ fn is_kept(olds: &[SheetEntry], id: u64) -> bool
     olds.iter().any(|old| old.id == id)
 }
 
-/// Puts a sheet in the place of the one with its id, which is kept as it was before the first change.
-fn change_keeping(
-    book: &mut SheetBook,
-    entry: SheetEntry,
-    olds: &mut Vec<SheetEntry>,
-) -> Result<(), AllocError>
-    requires entry { IsEntry entry }
-    requires there { IsSomeAnd (entry_of entry.id book.old) IsEntry }
-    requires olds { All (IsOld book.old) olds.old.items }
-    ensures changed { OnOk result (book.new ≡ book_changed entry book.old) }
-    ensures olds { All (IsOld book.new) olds.new.items }
-    ensures same { olds_restored olds.new.items book.new ≡ olds_restored olds.old.items book.old }
+fn copied(alloc: Global, entry: &SheetEntry) -> Result<SheetEntry, AllocError>
+    requires { IsEntry entry.now }
+    ensures { IfOk result (λ e. e ≡ entry.now) }
 {
-    let is_kept = is_kept(olds.as_slice(), entry.id);
-    let old = book.change(entry);
-    if is_kept {
-        return Ok(());
-    }
+    let text = Text::copied(alloc, entry.text.as_str())?;
+    let reading = read_sheet(alloc, text.as_str())?;
+    Ok(SheetEntry {
+        id: entry.id,
+        origin: entry.origin,
+        text,
+        reading,
+    })
+}
+
+fn push_old(olds: &mut Vec<SheetEntry>, old: SheetEntry) -> Result<(), AllocError>
+    ensures pushed { OnOk result (olds.new.items ≡ olds.old.items ++ old ∷ []) }
+    ensures unchanged { OnErr result (olds.new.items ≡ olds.old.items) }
+{
     match olds.push(old) {
         Ok(()) => Ok(()),
-        Err(failed) => {
-            book.change(failed.value);
-            Err(AllocError)
-        }
+        Err(_) => Err(AllocError),
     }
+}
+
+/// Keeps a sheet as it is, unless one with its id is kept already.
+fn keep(alloc: Global, entry: &SheetEntry, olds: &mut Vec<SheetEntry>) -> Result<(), AllocError>
+    requires { IsEntry entry.now }
+    ensures kept { OnOk result (list_any (λ old. old.id == entry.now.id) olds.new.items ≡ true) }
+    ensures olds { Keeps entry.now olds.old.items olds.new.items }
+{
+    if is_kept(olds.as_slice(), entry.id) {
+        return Ok(());
+    }
+    let old = copied(alloc, entry)?;
+    push_old(olds, old)
 }
 
 /// Makes the prelude of a style rule, which runs from its first selector to its last one and has these lines and columns,
@@ -292,6 +303,56 @@ fn push_back(backs: &mut Vec<Splice>, back: Splice) -> Result<(), AllocError>
     Ok(())
 }
 
+/// Appends a rule where there is room for it.
+fn add_rule_place(rules: &mut Vec<RulePlace>, rule: RulePlace)
+    requires room { vec_len rules.old < vec_capacity rules.old }
+    ensures { rules.new.items ≡ rules.old.items ++ rule ∷ [] }
+{
+    match rules.push(rule) {
+        Ok(()) => {}
+        Err(_) => unreachable!(),
+    }
+}
+
+/// Appends a splice where there is room for it.
+fn add_back(backs: &mut Vec<Splice>, back: Splice)
+    requires room { vec_len backs.old < vec_capacity backs.old }
+    ensures { backs.new.items ≡ backs.old.items ++ back ∷ [] }
+{
+    match backs.push(back) {
+        Ok(()) => {}
+        Err(_) => unreachable!(),
+    }
+}
+
+/// Makes one edit, as `set_styles_noting` makes many. All memory is taken before the sheet is changed, so that no old sheet is kept.
+fn set_only(
+    book: &mut SheetBook,
+    edit: &StyleEdit,
+    rules: &mut Vec<RulePlace>,
+) -> Result<Vec<Splice>, SheetErr>
+    ensures done { IfOk result (λ backs. styles_edited (edit.now ∷ []) book.old ≡ Ok (book.new, backs.items)) }
+    ensures rules { OnOk result (rules.new.items ≡ rules.old.items ++ edited_rules (edit.now ∷ []) book.old) }
+    ensures fault { IfFault result (λ f. styles_edited (edit.now ∷ []) book.old ≡ Err f) }
+    ensures unchanged { OnErr result (book.new ≡ book.old) }
+{
+    let entry = match client_sheet(book, edit.sheet) {
+        Ok(entry) => entry,
+        Err(fault) => return Err(SheetErr::Fault(fault)),
+    };
+    let alloc = book.allocator();
+    let draft = match style_in(alloc, entry, edit) {
+        Ok(draft) => draft,
+        Err(stop) => return Err(stop),
+    };
+    let mut backs = Vec::with_capacity(alloc, 1)?;
+    rules.reserve(1)?;
+    let back = apply(book, draft);
+    add_rule_place(rules, edited_rule(book, &back));
+    add_back(&mut backs, back);
+    Ok(backs)
+}
+
 /// Makes the body of each edit's style rule another text: all of them, each found in the text that the earlier ones left, or
 /// none. Answers the splices that lead back, in the order of the edits, and appends to `rules` the rules that were edited, which
 /// may hold some of them after an error.
@@ -305,6 +366,9 @@ pub fn set_styles_noting(
     ensures fault { IfFault result (λ f. styles_edited edits.now book.old ≡ Err f) }
     ensures unchanged { OnErr result (book.new ≡ book.old) }
 {
+    if let [edit] = edits {
+        return set_only(book, edit, rules);
+    }
     let alloc = book.allocator();
     let mut backs = Vec::new(alloc);
     let mut olds = Vec::new(alloc);

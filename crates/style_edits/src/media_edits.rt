@@ -9,7 +9,7 @@ ghost use Rattle.sheet_reader.specs.Sheets.{sheet_of};
 ghost use Rattle.style_edits.specs.Edits.{edited, IfFault};
 ghost use Rattle.style_edits.specs.MediaEdits.{ends_keyword, takes_space, spaces_behind, spaces_at, media_in, media_splice};
 ghost use Rattle.style_edits.specs.MediaEdits.{media_up_to, edited_media};
-ghost use Rattle.style_edits.specs.Drafts.{Drafts};
+ghost use Rattle.style_edits.specs.Drafts.{Drafts, IsToldBy};
 
 use crate::drafts::{Draft, apply, placed};
 use crate::edits::client_sheet;
@@ -88,7 +88,7 @@ fn media_in(
 ) -> Result<Draft, SheetErr>
     requires { IsEntry entry.now }
     ensures found { Drafts entry.now (media_in lines text.now entry.now) result }
-    ensures whole { IfOk result (λ d. IsEntry d.entry) }
+    ensures tells { IfOk result (IsToldBy entry.now) }
 {
     let Some(part) = media_at(entry, lines) else {
         return Err(SheetErr::Fault(SheetFault::BadRange));

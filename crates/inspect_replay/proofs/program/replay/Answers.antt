@@ -1,5 +1,5 @@
 -- An input that is not read is refused by its limits.
-use Rattle.std.proofs.Common.{sym, subst}
+use Rattle.std.proofs.Common.{map, sym, subst}
 use Rattle.inspect_world.specs.Scripts.{report}
 use Rattle.inspect_replay.specs.Answers.{FitsLimits, Took, IsHonest}
 use Rattle.inspect_replay.proofs.AnswerLemmas.{stop-limits, stop-took, stop-honest}
@@ -27,8 +27,9 @@ returns-in-Err-clause-replies g c = λ done. absurd (never-done c.in-Err.stop c.
 
 pub returns-in-Err-clause-report : goal.returns-in-Err-clause-report
 returns-in-Err-clause-report g c = λ honest up_level down_level input left.
-    subst (λ status. Took status (g.K.Sink.taken c.args.out.now) (g.K.Sink.taken c.args.out.now) (report input)) (sym c.status_of.ensures)
-    (stop-took c.in-Err.stop input (g.K.Sink.taken c.args.out.now) (report input) (c.in-Err.ensures.tells input left))
+    let text = report (map g.P.Panel.kind_of c.args.panels.items) input in
+    subst (λ status. Took status (g.K.Sink.taken c.args.out.now) (g.K.Sink.taken c.args.out.now) text) (sym c.status_of.ensures)
+    (stop-took c.in-Err.stop input (g.K.Sink.taken c.args.out.now) text (c.in-Err.ensures.tells input left))
 
 pub returns-in-Err-clause-less : goal.returns-in-Err-clause-less
 returns-in-Err-clause-less g c =

@@ -1,5 +1,5 @@
 -- A stop is the status that the fold says.
-use Rattle.std.proofs.Common.{sym, subst}
+use Rattle.std.proofs.Common.{map, sym, subst}
 use Rattle.inspect_world.specs.Scripts.{report}
 use Rattle.inspect_replay.specs.Answers.{IsHonest}
 use Rattle.inspect_replay.proofs.AnswerLemmas.{run-honest}
@@ -21,5 +21,6 @@ returns-in-Err-clause-less g c = status-less c.in-Err.stop c.status_of.result _ 
 pub returns-in-Err-clause-sound : goal.returns-in-Err-clause-sound
 returns-in-Err-clause-sound g c = λ honest up_level down_level.
     subst IsHonest (sym c.status_of.ensures)
-    (run-honest c.in-Err.stop (g.K.Sink.taken c.args.out.now) (g.K.Sink.taken c.run_script.new.out) (report c.args.input.now)
+    (run-honest c.in-Err.stop (g.K.Sink.taken c.args.out.now) (g.K.Sink.taken c.run_script.new.out)
+    (report (map g.P.Panel.kind_of c.args.panels.items) c.args.input.now)
     (c.in-Err.ensures.took honest up_level down_level))

@@ -17,7 +17,10 @@ pub returns-in-Some-clause-plays : goal.returns-in-Some-clause-plays
 returns-in-Some-clause-plays g c = record {
   honest = search rules;
   cause = search rules;
-  follows = keeps-passing c.show_styles.result _ _ (seen c.args.line) c.requires.keeps
+  follows = keeps-passing c.show_styles.result
+      (moment (g.L.Link.honest c.args.link.now) (g.L.Link.up c.args.link.now) (g.L.Link.down c.args.link.now) c.args.ends.now)
+      (moment (g.L.Link.honest c.show_styles.new.link) (g.L.Link.up c.show_styles.new.link) (g.L.Link.down c.show_styles.new.link) c.show_styles.new.ends)
+      (seen c.args.line) c.requires.keeps
       (λ state0 up0 down0 run. c.show_styles.ensures.plays.follows state0 up0 down0
       (run-fewer state0 up0 down0 _ _ c.args.ends.now run));
   some = c.show_styles.ensures.plays.some;
@@ -43,7 +46,10 @@ pub returns-in-None-clause-plays : goal.returns-in-None-clause-plays
 returns-in-None-clause-plays g c = record {
   honest = search rules;
   cause = stop-run c.carry_plain.result _ _ _ _ c.carry_plain.ensures.cause;
-  follows = keeps-passing c.carry_plain.result _ _ (seen c.args.line) c.requires.keeps c.carry_plain.ensures.follows;
+  follows = keeps-passing c.carry_plain.result
+      (moment (g.L.Link.honest c.args.link.now) (g.L.Link.up c.args.link.now) (g.L.Link.down c.args.link.now) c.args.ends.now)
+      (moment (g.L.Link.honest c.carry_plain.new.link) (g.L.Link.up c.carry_plain.new.link) (g.L.Link.down c.carry_plain.new.link) c.carry_plain.new.ends)
+      (seen c.args.line) c.requires.keeps c.carry_plain.ensures.follows;
   some = c.carry_plain.ensures.some;
   runs = plain-line c.carry_plain.result _ _ _ _ _ _ _ _ c.args.ends.now c.carry_plain.new.ends c.args.number (seen c.args.line) _ _ _ _
       c.requires.keeps (sym c.styles_ask.ensures ∙ c.in-None.is) c.carry_plain.ensures.cause c.carry_plain.ensures.runs;

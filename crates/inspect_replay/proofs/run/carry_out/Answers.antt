@@ -23,13 +23,15 @@ returns-in-Some-clause-plays g c =
       honest = search rules;
       cause = panel-cause c.drop_panel.result c.args.number _ _ _ c.drop_panel.ensures.refused;
       follows = subst (λ (form : LineForm). LinePasses now after form c.drop_panel.result) (sym is)
-          (panel-passes c.drop_panel.result c.args.number c.in-Some.place _ _ _ c.args.ends.now c.drop_panel.new.ends
+          (panel-passes c.drop_panel.result c.args.number c.in-Some.place (g.L.Link.honest c.args.link.now)
+          (g.L.Link.up c.args.link.now) (g.L.Link.down c.args.link.now) c.args.ends.now c.drop_panel.new.ends
           c.drop_panel.ensures.refused c.drop_panel.ensures.dropped);
       some = panel-printed c.drop_panel.result taken;
       runs = subst (λ (form : LineForm). CarriesLine (scene now taken) (scene after taken) (numbered_line c.args.number form)
           c.drop_panel.result) (sym is)
-          (panel-carries c.drop_panel.result c.args.number c.in-Some.place _ _ _ taken c.args.ends.now c.drop_panel.new.ends
-          c.drop_panel.ensures.refused c.drop_panel.ensures.dropped);
+          (panel-carries c.drop_panel.result c.args.number c.in-Some.place (g.L.Link.honest c.args.link.now)
+          (g.L.Link.up c.args.link.now) (g.L.Link.down c.args.link.now) c.args.ends.now c.drop_panel.new.ends
+          c.drop_panel.ensures.refused taken c.drop_panel.ensures.dropped);
     }
 
 pub returns-in-Some-clause-tells : goal.returns-in-Some-clause-tells
@@ -39,5 +41,5 @@ returns-in-Some-clause-tells g c =
     let after = moment (g.L.Link.honest c.args.link.now) (g.L.Link.up c.args.link.now) (g.L.Link.down c.args.link.now)
     c.drop_panel.new.ends in
     subst (λ (form : LineForm). LineTells now after (numbered_line c.args.number form) c.drop_panel.result) (sym is)
-    (panel-tells c.drop_panel.result c.args.number c.in-Some.place _ _ _ c.args.ends.now c.drop_panel.new.ends
-    c.drop_panel.ensures.refused)
+    (panel-tells c.drop_panel.result c.args.number c.in-Some.place (g.L.Link.honest c.args.link.now) (g.L.Link.up c.args.link.now)
+    (g.L.Link.down c.args.link.now) c.args.ends.now c.drop_panel.new.ends c.drop_panel.ensures.refused)

@@ -197,7 +197,7 @@ unreachable-requires g c =
     let shows : ◌≡◌ {A = Option ℕ} (Some c.in-ShowStyles.field-0) None = sym
     (ap (λ line. styles_ask (seen line)) c.in-ShowStyles.is) ∙ c.requires.plain in absurd cc
 
-pub unreachable-in-Close-requires : goal.unreachable-in-Close-requires
-unreachable-in-Close-requires g c =
+pub unreachable-requires-in-Close : goal.unreachable-requires-in-Close
+unreachable-requires-in-Close g c =
     let drops : ◌≡◌ {A = Option ℕ} (Some c.in-Close.field-0) None = sym
     (ap (λ line. closed_by (seen line)) c.in-Close.is) ∙ c.requires.keeps in absurd cc

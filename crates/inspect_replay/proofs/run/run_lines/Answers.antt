@@ -137,7 +137,8 @@ loop-text-preserved g c =
           (g.L.Link.down c.carry_out-carried.new.link) c.carry_out-carried.new.ends)
           c.args.lines c.loop-text.number c.in-Some.text.now more form before c.in-Ok.ensures.good c.in-Ok.ensures.form
           (carried.plays.follows (run_started begun.state (length more) before.shown before.panels) up0 down0 line).0
-          (ok-lacks c.loop-text.number _ (carried.tells (run_started begun.state (length more) before.shown before.panels) up0 down0 line).0),
+          (ok-lacks c.loop-text.number _
+          (carried.tells (run_started begun.state (length more) before.shown before.panels) up0 down0 line).0),
       more-printed _ (g.K.Sink.taken c.loop-text.out) _ c.loop-text.invariant.7 carried.plays.some,
     )
 

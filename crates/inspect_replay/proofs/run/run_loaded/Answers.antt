@@ -4,6 +4,7 @@ use Rattle.page_forms.specs.Pages.{loaded_page}
 use Rattle.replay_script.specs.Script.{first_bad, good_lines}
 use Rattle.inspect_world.specs.Costs.{line_bytes}
 use Rattle.inspect_world.specs.Scripts.{loaded_world, after_lines, shown_lines, rest_refused}
+use Rattle.inspect_replay.proofs.AnswerLemmas.{nothing-ran}
 use Rattle.inspect_replay.proofs.RunLemmas.{begins, play-begins}
 use Rattle.inspect_replay.proofs.LinesRun.{closed-took, closed-tells, closed-cause, stopped-took}
 use Rattle.inspect_replay.proofs.LinesTell.{closing-tells}
@@ -11,6 +12,13 @@ use Rattle.back_end.specs.States.{loaded_state}
 use Rattle.inspect_world.specs.Links.{begun, run_started}
 use Rattle.inspect_replay.proofs.FollowLemmas.{run-first, ends-shown, in-order}
 use Rattle.inspect_replay.proofs.run.run_loaded.Goals as goal
+
+pub returns-in_err-ends-clause-took : goal.returns-in_err-ends-clause-took
+returns-in_err-ends-clause-took g c = λ honest up_level down_level.
+    nothing-ran c.from_residual.result (g.K.Sink.taken c.args.out.now) _ c.from_residual.ensures.1
+
+pub returns-in-Ok-clause-honest : goal.returns-in-Ok-clause-honest
+returns-in-Ok-clause-honest g c = λ honest. c.close.ensures.honest (c.run_lines.ensures.honest honest)
 
 pub returns-in-Ok-clause-took : goal.returns-in-Ok-clause-took
 returns-in-Ok-clause-took g c = λ honest up_level down_level.

@@ -45,7 +45,8 @@ returns-in-Ok-clause-took g c = λ honest up_level down_level.
     let nodes = loaded_page c.in-Ok.form in
     let form : line_form c.in-Some.first.now ≡ Some (load nodes) = read.form in
     subst (λ text. RunTook c.run_loaded.result (g.K.Sink.taken c.args.out.now) (g.K.Sink.taken c.run_loaded.new.out) text)
-    (sym (report-loads (map g.P.Panel.kind_of c.args.panels.items) c.args.input.now c.in-Some.first.now c.next_line.new.lines nodes lines read.good form))
+    (sym (report-loads (map g.P.Panel.kind_of c.args.panels.items) c.args.input.now c.in-Some.first.now c.next_line.new.lines nodes lines
+    read.good form))
     (c.run_loaded.ensures.took honest up_level down_level)
 
 pub returns-in_default-clause-refused : goal.returns-in_default-clause-refused
@@ -74,7 +75,8 @@ returns-in-Ok-clause-stops g c = λ honest up_level down_level.
     ≡ c.in-Some.first.now ∷ c.next_line.new.lines = sym c.new-lines.ensures ∙ c.in-Some.ensures.some in
     let read = c.in-Ok.ensures {u = tt} in
     subst (λ bad. RunTells c.run_loaded.result bad)
-    (sym (refused-loads (map g.P.Panel.kind_of c.args.panels.items) c.args.input.now c.in-Some.first.now c.next_line.new.lines (loaded_page c.in-Ok.form) lines read.good read.form))
+    (sym (refused-loads (map g.P.Panel.kind_of c.args.panels.items) c.args.input.now c.in-Some.first.now c.next_line.new.lines
+    (loaded_page c.in-Ok.form) lines read.good read.form))
     (c.run_loaded.ensures.stops honest up_level down_level)
 
 pub returns-in-Err-clause-tells : goal.returns-in-Err-clause-tells

@@ -1,11 +1,10 @@
-use Rattle.std.proofs.Common.{◌≡◌, ◌+◌, ℕ, suc, List, All, length, take, drop, get_or, map, sym, ap, ◌∙◌, subst, arith, Some}
+use Rattle.std.proofs.Common.{◌≡◌, ◌+◌, ℕ, suc, List, All, length, take, drop, map, sym, ap, ◌∙◌, subst, arith}
 use Rattle.std.proofs.lemmas.List.{length-map}
 use Rattle.std.specs.Prelude.{slice_get, IfSome}
 use Rattle.sheet_reader.specs.declared.sheet.StyleRule.{StyleRule}
-use Rattle.sheet_reader.specs.declared.sheet.Property.{Property}
 use Rattle.sheet_reader.specs.Forms.{rule_seen, RuleForm}
 use Rattle.selectors.specs.Moves.{cut, moved_place, CanPlace}
-use Rattle.sheet_reader.specs.Moves.{body_cut, moved_rules, moved_by, CanPlaceRule, CanPlaceHead, CanMoveBody, IsPropertyWithin}
+use Rattle.sheet_reader.specs.Moves.{moved_rules, moved_by, CanPlaceRule, CanPlaceHead, IsPropertyWithin}
 use Rattle.sheet_reader.proofs.MoveAround.{asked, lent}
 use Rattle.sheet_reader.proofs.moves.move_body.Goals as goal
 
@@ -91,6 +90,8 @@ returns c =
     ∙ (λ i. moved_rules gap (c.new.ensures i) c.args.rule (rules i)) in
     let p : c.new-3.result ≡ map (moved_place gap) c.args.old.places =
     c.new-3.ensures ∙ back2 ∙ c.move_places.ensures ∙ ap (map (moved_place gap)) places in
-    let m = c.move_behind.ensures in
-    (λ i. record { rules = r i; places = p i; media = m i })
-    ∙ ap (moved_by c.args.old c.args.rule c.args.properties.items c.args.size) (sym a.1)
+    let m = c.move_behind.ensures.moved in
+    record {
+      moved = (λ i. record { rules = r i; places = p i; media = m i })
+          ∙ ap (moved_by c.args.old c.args.rule c.args.properties.items c.args.size) (sym a.1);
+    }

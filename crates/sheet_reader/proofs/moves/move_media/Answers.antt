@@ -1,4 +1,4 @@
-use Rattle.std.proofs.Common.{◌≡◌, List, None, get_or, set, length, map, ap, ◌∙◌, arith}
+use Rattle.std.proofs.Common.{None, get_or, set, ap, ◌∙◌, arith}
 use Rattle.std.proofs.lemmas.List.Edits.{map_over_more}
 use Rattle.std.proofs.lemmas.List.{get_or_default}
 use Rattle.css_tokens.specs.declared.token.Range.{Range}
@@ -22,7 +22,7 @@ loop-rule-preserved c =
     let ys = c.loop-rule.rules in
     let i = c.loop-rule.rule-index in
     let y = get_or ys i no_media in
-    ap (λ (r : Range). set ys i (record { prelude = r; inside = y.inside })) c.move_range-rule.ensures
+    ap (λ (r : Range). set ys i (record { prelude = r; inside = y.inside })) c.move_range-rule.ensures.moved
     ∙ map_over_more (placed_media (moved_place (cut c.args.gap.start c.args.gap.end c.args.gap.size))) c.args.rules.now ys i y
     c.loop-rule-test.true c.loop-rule.invariant
     (get_or_default ys i no_media y (omega (arith, c.loop-rule-test.true, c.loop-rule.auto.rules)))

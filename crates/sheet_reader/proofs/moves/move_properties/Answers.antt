@@ -1,6 +1,5 @@
-use Rattle.std.proofs.Common.{◌≡◌, List, get_or, set, length, map, ap, ◌∙◌, refl, arith}
+use Rattle.std.proofs.Common.{get_or, set, ap, ◌∙◌}
 use Rattle.std.proofs.lemmas.List.Edits.{map_over_more}
-use Rattle.css_tokens.specs.declared.token.Range.{Range}
 use Rattle.sheet_reader.specs.declared.sheet.Property.{Property}
 use Rattle.selectors.specs.Moves.{cut, moved_place}
 use Rattle.sheet_reader.specs.Moves.{placed_property, CanPlaceProperty}
@@ -26,8 +25,8 @@ loop-property-preserved c =
     let ys = c.loop-property.properties in
     let i = c.loop-property.property-index in
     let y = get_or ys i c.property-item.result in
-    let a = c.move_range-property.ensures in
-    let b = c.move_range-property-in-loop-property.ensures in
+    let a = c.move_range-property.ensures.moved in
+    let b = c.move_range-property-in-loop-property.ensures.moved in
     (λ k. set ys i (record { name = y.name; value = a k; important = y.important; whole = b k }))
     ∙ map_over_more (placed_property (moved_place (cut c.args.gap.start c.args.gap.end c.args.gap.size))) c.args.properties.now ys i y
     c.loop-property-test.true c.loop-property.invariant (ap (λ (d : Property). get_or ys i d) c.property-item.is)

@@ -5,14 +5,14 @@ use Rattle.front_mirror.proofs.EditLemmas.{edit_kept, edit_ready}
 use Rattle.front_mirror.proofs.EditTurns.{ready_known, ready_suits, ready_turns}
 use Rattle.front_mirror.proofs.known.Known.take_edit.Goals as goal
 
-pub told-requires-clause-known : goal.told-requires-clause-known
-told-requires-clause-known c =
+pub told-told-requires-clause-known : goal.told-told-requires-clause-known
+told-told-requires-clause-known c =
     ready_known c.args.self.now.mirror c.args.id (edit_change c.args.edit)
     (edit_ready c.args.self.now.mirror c.args.id c.args.edit c.valid.ensures c.requires (sym (c.in_ok-kind.ensures {u = tt})
     ∙ c.in_default.is))
 
-pub told-requires-clause-suits : goal.told-requires-clause-suits
-told-requires-clause-suits c =
+pub told-told-requires-clause-suits : goal.told-told-requires-clause-suits
+told-told-requires-clause-suits c =
     ready_suits c.args.self.now.mirror c.args.id (edit_change c.args.edit)
     (edit_ready c.args.self.now.mirror c.args.id c.args.edit c.valid.ensures c.requires (sym (c.in_ok-kind.ensures {u = tt})
     ∙ c.in_default.is))
@@ -24,5 +24,5 @@ returns c = (
   ready_turns c.args.self.now.mirror c.args.id (edit_change c.args.edit)
       (edit_ready c.args.self.now.mirror c.args.id c.args.edit c.valid.ensures c.requires (sym (c.in_ok-kind.ensures {u = tt})
       ∙ c.in_default.is))
-      c.in_ok-told.told c.change.new.self (c.in_ok-told.ensures {u = tt}) (c.in_ok-change.ensures {u = tt}),
+      c.told-told.result c.change.new.self c.told-told.ensures (c.in_ok-change.ensures {u = tt}),
 )

@@ -2,6 +2,7 @@
 use Rattle.std.proofs.Common.{◌∙◌, ap}
 use Rattle.inspect_world.specs.Held.{with_panels}
 use Rattle.inspect_replay.proofs.PanelLemmas.{stands-open, dropped-is}
+use Rattle.inspect_replay.proofs.SameEnds.{front-same}
 use Rattle.inspect_replay.proofs.ends.Ends.close.Goals as goal
 
 pub returns-clause-stood : goal.returns-clause-stood
@@ -9,5 +10,5 @@ returns-clause-stood g c = c.close.ensures.closed ∙ stands-open c.args.place c
 
 pub returns-clause-dropped : goal.returns-clause-dropped
 returns-clause-dropped g c =
-    ap (λ front. record c.args.self.now { front = front })
+    front-same c.args.self.now _ _ _
     (c.close.ensures.panels ∙ ap (λ ps. with_panels ps c.args.self.now.front) (dropped-is c.args.place c.args.self.now.front.panels))

@@ -5,8 +5,8 @@ use Rattle.node_tree.specs.Nodes.{Nodes, none, node, Branch, node_count, tree_at
 use Rattle.node_tree.specs.Keys.{tally, At, here, within, past}
 use Rattle.node_tree.proofs.KeyLemmas.{tally_row, tally_below, At-tally}
 use Rattle.front_mirror.specs.Panels.{without_place}
-use Rattle.panels.specs.Walks.{walk, walk_in, rank_of, count_first}
-use Rattle.panels.proofs.WalkLemmas.{walk-count, rank-here, rank-below, rank-after, node_parts, below_parts, after_parts}
+use Rattle.front_mirror.specs.Walks.{walk, walk_in, rank_of, count_first}
+use Rattle.front_mirror.proofs.OrderLemmas.{walk-count, rank-here, rank-below, rank-after, node_parts, below_parts, after_parts}
 
 -- the second trees are the first with w put in, so many levels down
 pub data Grown {R : Type 0} (w : Branch R) : ℕ → Nodes R → Nodes R → Type 0 where

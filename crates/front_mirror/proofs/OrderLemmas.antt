@@ -6,7 +6,7 @@ use Rattle.node_tree.specs.Nodes.{Nodes, none, node, Branch, node_count, branch_
 use Rattle.node_tree.specs.Keys.{tally, At, here, within, past}
 use Rattle.node_tree.proofs.KeyLemmas.{tally_below, other_row, has-there, has-absent, At-tally}
 use Rattle.node_tree.proofs.ChangeLemmas.{at-back}
-use Rattle.panels.specs.Walks.{spliced, walk, walk_in, rank_of}
+use Rattle.front_mirror.specs.Walks.{spliced, walk, walk_in, rank_of}
 
 -- ---- lengths
 
