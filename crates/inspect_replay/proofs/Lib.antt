@@ -2,6 +2,7 @@ pub mod EndLemmas
 pub mod FirstLine
 pub mod RunLemmas
 pub mod DrillLemmas
+pub mod WordLemmas
 pub mod LinesRun
 pub mod LinesTell
 pub mod PanelLemmas

@@ -11,6 +11,7 @@ pub mod Followed
 pub mod Prints
 pub mod Goes
 pub mod Tallies
+pub mod CountsSeen
 pub mod Drilled
 pub mod Serving
 pub mod ServeRoom

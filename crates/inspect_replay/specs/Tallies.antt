@@ -26,6 +26,14 @@ pub record Known : Type 0 where
 abbrev pub one_where : Bool → ℕ
 one_where test = cond {A = ℕ} test 1 0
 
+-- of one node
+abbrev pub row_known : Seen → Known
+row_known r = record { nodes = 1; opened = one_where (is_opened r.hold) }
+
+-- of both
+abbrev pub plus : Known → Known → Known
+plus a b = record { nodes = a.nodes + b.nodes; opened = a.opened + b.opened }
+
 -- of these trees
 abbrev pub known_in : Nodes Seen → Known
 known_in none = record { nodes = 0; opened = 0 }

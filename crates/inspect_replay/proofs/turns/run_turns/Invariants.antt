@@ -10,7 +10,7 @@ use Rattle.inspect_replay.specs.Followed.{FollowsRun}
 use Rattle.inspect_replay.specs.Runs.{InPlay}
 use Rattle.inspect_replay.specs.Drilled.{lines_more}
 use Rattle.inspect_replay.proofs.DrillLemmas.{Turned}
-use Rattle.inspect_replay.proofs.drills.run_turns.Given as goal
+use Rattle.inspect_replay.proofs.turns.run_turns.Given as goal
 
 abbrev pub invariant-loop-line : goal.invariant-loop-line
 invariant-loop-line g l =
