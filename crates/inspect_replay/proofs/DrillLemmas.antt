@@ -1,7 +1,7 @@
 -- The lines of a drill carried out one after the other.
 use Rattle.std.proofs.Common.{◌≡◌, ℕ, suc, ◌+◌, ◌*◌, ◌^◌, ◌≤◌, List, [], ◌∷◌, length, Option, Some, None, Result, Ok, Err, refl, sym, ap, ◌∙◌}
 use Rattle.std.proofs.Common.{subst, arith}
-use Rattle.std.specs.Prelude.{OnOk, ⊤, false}
+use Rattle.std.specs.Prelude.{OnOk, ⊤, false, option_map}
 use Rattle.serde_json.specs.Data.{Data}
 use Rattle.front_mirror.specs.declared.panels.Panel.{Ghosts}
 use Rattle.pipe_frames.specs.Pipe.{Pipe}
@@ -11,7 +11,9 @@ use Rattle.cdp_messages.specs.Asked.{command_of}
 use Rattle.back_end.proofs.EditSizes.{params_size, edits-params}
 use Rattle.replay_script.specs.Forms.{AskForm, LineForm}
 use Rattle.replay_script.specs.Script.{closed_by, styles_ask}
-use Rattle.drill_script.specs.Given.{is_drill}
+use Rattle.replay_script.specs.Seen.{seen}
+use Rattle.replay_script.specs.declared.forms.Line.{Line}
+use Rattle.drill_script.specs.Given.{GivesFirst}
 use Rattle.drill_script.specs.DrillLines.{drill_lines}
 use Rattle.drill_script.specs.LineKinds.{IsDrillLine, document, styles, watch, settling, class, title, matched, text, rising, falling}
 use Rattle.drill_script.specs.LineKinds.{AreDrillLines, most_lines}
@@ -135,3 +137,12 @@ turn-end honest up0 down0 up down more all left w e is t =
     let room : more + lines_cost left ≡ more = ap (λ ls. more + lines_cost ls) is ∙ (let z : more + 0 ≡ more = omega arith in z) in
     subst (λ v. InPlay honest up0 down0 up down more v e) (sym (ap (λ ls. after_lines ls t.world) is) ∙ t.leads)
     (subst (λ n. InPlay honest up0 down0 up down n t.world e) room t.in_play)
+
+-- the line that was given is the first of those that were left
+pub gave-line : (left after : List LineForm) (o : Option Line) (line : Line) → o ≡ Some line → GivesFirst left (option_map seen o) after
+    → left ≡ seen line ∷ after
+gave-line left after o line is gives = subst (λ (p : Option Line). GivesFirst left (option_map seen p) after) is gives
+
+-- none was left
+pub gave-none : (left after : List LineForm) (o : Option Line) → o ≡ None → GivesFirst left (option_map seen o) after → left ≡ []
+gave-none left after o is gives = (subst (λ (p : Option Line). GivesFirst left (option_map seen p) after) is gives).0

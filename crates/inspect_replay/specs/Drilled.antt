@@ -11,6 +11,8 @@ use Rattle.inspect_world.specs.Links.{Started, run_started}
 use Rattle.inspect_replay.specs.declared.stop.Stop.{Stop}
 use Rattle.inspect_replay.specs.declared.stop.Stop.TheVariants.{Line, TooLong, ReadFault, WriteFault, LinkFault, FrontRefused, NoRoom}
 use Rattle.inspect_replay.specs.declared.stop.Stop.TheVariants.{Memory}
+use Rattle.inspect_replay.specs.declared.status.Status.{Status}
+use Rattle.inspect_replay.specs.declared.status.Status.TheVariants as status
 use Rattle.inspect_replay.specs.Moments.{Moment, Scene}
 use Rattle.inspect_replay.specs.Runs.{InPlay}
 use Rattle.inspect_replay.specs.Stops.{GoesWell}
@@ -71,3 +73,16 @@ WritesAtEnd (Err LinkFault) before after = after ≡ before
 WritesAtEnd (Err (FrontRefused place fault)) before after = after ≡ before
 WritesAtEnd (Err NoRoom) before after = after ≡ before
 WritesAtEnd (Err Memory) before after = ⊤
+
+-- the same of the whole call: the six lines are written at once, on Done; a sink that fails may have taken a part of them
+abbrev pub DrillWrites : Status → Option (List ℕ) → Option (List ℕ) → Type 0
+DrillWrites status.Done before after = ⊤
+DrillWrites status.Usage before after = after ≡ before
+DrillWrites (status.Line number fault) before after = after ≡ before
+DrillWrites status.TooLong before after = after ≡ before
+DrillWrites status.ReadFault before after = after ≡ before
+DrillWrites status.WriteFault before after = ⊤
+DrillWrites status.LinkFault before after = after ≡ before
+DrillWrites (status.FrontRefused place fault) before after = after ≡ before
+DrillWrites status.NoRoom before after = after ≡ before
+DrillWrites status.Memory before after = ⊤
