@@ -146,3 +146,11 @@ gave-line left after o line is gives = subst (λ (p : Option Line). GivesFirst l
 -- none was left
 pub gave-none : (left after : List LineForm) (o : Option Line) → o ≡ None → GivesFirst left (option_map seen o) after → left ≡ []
 gave-none left after o is gives = (subst (λ (p : Option Line). GivesFirst left (option_map seen p) after) is gives).0
+
+-- behind the last line no room is kept for another
+pub follow-none : {P : Type 0} {g : Ghosts P} (state0 : Started) (up0 down0 up down : Pipe) (e : Ends P g) (left : List LineForm)
+    → left ≡ [] → FollowsRun (lines_more (length left) state0) up0 down0 up down e → FollowsRun state0 up0 down0 up down e
+follow-none state0 up0 down0 up down e left is run =
+    let count : length left ≡ 0 = ap length is in
+    let same : state0.lines + length left ≡ state0.lines = omega (arith, count) in
+    subst (λ n. FollowsRun (run_started state0.state n state0.shown state0.panels) up0 down0 up down e) same run

@@ -4,7 +4,9 @@ use Rattle.replay_script.specs.Seen.{seen}
 use Rattle.inspect_world.specs.Costs.{lines_cost}
 use Rattle.drill_script.proofs.LineKindLaws.{line-shows}
 use Rattle.inspect_replay.specs.Drilled.{lines_more}
-use Rattle.inspect_replay.proofs.DrillLemmas.{drill-later, rest-drill, follow-line, turn-room, turn-on, turn-end, gave-line}
+use Rattle.inspect_replay.proofs.DrillLemmas.{drill-later, rest-drill, follow-line, turn-room, turn-on, turn-end, gave-line, gave-none}
+use Rattle.inspect_replay.proofs.DrillLemmas.{follow-none}
+use Rattle.inspect_replay.proofs.FollowLemmas.{run-good}
 use Rattle.inspect_replay.proofs.turns.run_turns.Goals as goal
 
 pub loop-line-init : goal.loop-line-init
@@ -83,7 +85,14 @@ returns-in-Err-clause-runs g c = λ up0 down0 k w play.
     c.args.drill c.loop-line.drill line more w c.loop-line.ends first before)).0, tt)
 
 pub returns-clause-follows : goal.returns-clause-follows
-returns-clause-follows g c = ?
+returns-clause-follows g c = λ state0 up0 down0 run.
+    let none = gave-none c.loop-line.drill c.next_line.new.drill c.in_ok-line.field-0 c.in_default.is c.in_ok-line.ensures in
+    let all = follow-none state0 up0 down0 (g.L.Link.up c.loop-line.link) (g.L.Link.down c.loop-line.link) c.loop-line.ends
+    c.loop-line.drill none (c.loop-line.invariant.3 state0 up0 down0 run) in
+    (all, run-good state0 up0 down0 (g.L.Link.up c.loop-line.link) (g.L.Link.down c.loop-line.link) c.loop-line.ends all)
 
 pub returns-clause-runs : goal.returns-clause-runs
-returns-clause-runs g c = ?
+returns-clause-runs g c = λ up0 down0 k w play.
+    let none = gave-none c.loop-line.drill c.next_line.new.drill c.in_ok-line.field-0 c.in_default.is c.in_ok-line.ensures in
+    (tt, turn-end (g.L.Link.honest c.loop-line.link) up0 down0 (g.L.Link.up c.loop-line.link) (g.L.Link.down c.loop-line.link) k
+    c.args.drill c.loop-line.drill w c.loop-line.ends none (c.loop-line.invariant.4 up0 down0 k w play))
