@@ -1,12 +1,16 @@
 pub mod EndLemmas
 pub mod FirstLine
 pub mod RunLemmas
+pub mod DrillLemmas
+pub mod TallyLemmas
+pub mod WordLemmas
 pub mod LinesRun
 pub mod LinesTell
 pub mod PanelLemmas
 pub mod SameEnds
 pub mod StylesLemmas
 pub mod FollowLemmas
+pub mod TellLemmas
 pub mod AnswerLemmas
 pub mod PageLemmas
 pub mod ServeLemmas

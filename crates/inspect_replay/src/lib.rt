@@ -11,6 +11,8 @@
 //! and specs/Moments.
 #![tactic(auto)]
 
+mod counts;
+mod drills;
 mod ends;
 mod moments;
 mod page_lines;
@@ -26,6 +28,7 @@ mod show;
 mod status;
 mod stop;
 mod style_lines;
+mod turns;
 mod words;
 
 pub use inspect_world::fits_law;
