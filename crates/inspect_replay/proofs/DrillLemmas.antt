@@ -14,10 +14,9 @@ use Rattle.replay_script.specs.Script.{closed_by, styles_ask}
 use Rattle.replay_script.specs.Seen.{seen}
 use Rattle.replay_script.specs.declared.forms.Line.{Line}
 use Rattle.drill_script.specs.Given.{GivesFirst}
-use Rattle.drill_script.specs.DrillLines.{drill_lines}
 use Rattle.drill_script.specs.LineKinds.{IsDrillLine, document, styles, watch, settling, class, title, matched, text, rising, falling}
 use Rattle.drill_script.specs.LineKinds.{AreDrillLines, most_lines}
-use Rattle.drill_script.proofs.LineKindLaws.{line-sound, drill-few}
+use Rattle.drill_script.proofs.LineKindLaws.{line-sound}
 use Rattle.inspect_world.specs.World.{World}
 use Rattle.inspect_world.specs.RunStates.{RunState}
 use Rattle.inspect_world.specs.Costs.{edits_commanded, ask_edits, line_cost, lines_cost}
@@ -79,8 +78,8 @@ lines-cheap [] are = omega arith
 lines-cheap (line ∷ lines) are = omega (arith, line-cheap line are.0, lines-cheap lines are.1)
 
 -- the lines of a drill cost far less than an input may have
-pub drill-cheap : (n : ℕ) → AreDrillLines (drill_lines n) → lines_cost (drill_lines n) ≤ 2 ^ 26
-drill-cheap n are = omega (arith, lines-cheap (drill_lines n) are, drill-few n)
+pub drill-cheap : (lines : List LineForm) → AreDrillLines lines → length lines ≤ most_lines → lines_cost lines ≤ 2 ^ 26
+drill-cheap lines are few = omega (arith, lines-cheap lines are, few)
 
 -- ---- one line
 

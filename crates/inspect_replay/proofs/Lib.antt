@@ -3,6 +3,7 @@ pub mod FirstLine
 pub mod RunLemmas
 pub mod DrillLemmas
 pub mod TallyLemmas
+pub mod CountLemmas
 pub mod WordLemmas
 pub mod LinesRun
 pub mod LinesTell
@@ -11,6 +12,7 @@ pub mod SameEnds
 pub mod StylesLemmas
 pub mod FollowLemmas
 pub mod TellLemmas
+pub mod DrillEnds
 pub mod AnswerLemmas
 pub mod PageLemmas
 pub mod ServeLemmas

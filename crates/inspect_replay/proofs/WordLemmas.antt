@@ -1,6 +1,6 @@
 -- The number of divs in the words of a drill.
-use Rattle.std.proofs.Common.{◌≡◌, ◌≢◌, ℕ, suc, ◌<◌, ◌≤◌, ◌^◌, ◌&&◌, nat_le, Bool, true, false, List, length, get_or, Some, None, Result, Ok, Err}
-use Rattle.std.proofs.Common.{refl, sym, ap, ◌∙◌, subst, arith, decimal}
+use Rattle.std.proofs.Common.{◌≡◌, ◌≢◌, ℕ, suc, ◌<◌, ◌≤◌, ◌^◌, ◌&&◌, nat_le, Bool, true, false, List, [], ◌∷◌, length, get_or, Some, None, Result, Ok, Err}
+use Rattle.std.proofs.Common.{refl, sym, ap, ◌∙◌, subst, arith, decimal, codes}
 use Rattle.std.specs.Prelude.{bytes_eq, if◌then◌else◌}
 use Rattle.std.specs.Result.{OkIff}
 use Rattle.std.specs.Str.Parse.{digits_value, AllDigits, ParsesUnsigned}
@@ -9,7 +9,7 @@ use Rattle.std.proofs.lemmas.Fmt.{decimal_is_IsNumeral, decimal-digits_value, pa
 use Rattle.std.proofs.lemmas.Slice.Eq.{bytes_eq-Decides}
 use Rattle.std.proofs.lemmas.Str.Parse.{numerals_by_value, tells_digits, parse_plain}
 use Rattle.drill_script.specs.Given.{is_drill}
-use Rattle.inspect_replay.specs.Words.{is_count, count_in}
+use Rattle.inspect_replay.specs.Words.{is_count, count_in, drill_in}
 
 both_parts : (a b : Bool) → (a && b) ≡ true → (a ≡ true) × (b ≡ true)
 both_parts true true e = (refl, refl)
@@ -81,3 +81,27 @@ count_other {E} text r n found parses h = no_count text (λ m f e.
     let is : n ≡ m = cc in
     let no : false ≡ true = sym h ∙ ap is_drill is ∙ f in
     absurd cc)
+
+-- ---- the words of a drill
+
+count-drills : (text : List ℕ) (n : ℕ) → count_in text ≡ Some n → is_drill n ≡ true
+count-drills text n e = at (is_count text m) refl e where
+  m : ℕ
+  m = digits_value 10 text
+
+  at : (b : Bool) → is_count text m ≡ b → (if b then Some m else None) ≡ Some n → is_drill n ≡ true
+  at true is e =
+      let same : m ≡ n = cc in
+      subst (λ k. is_drill k ≡ true) same (both_parts (is_drill m) (bytes_eq (decimal m) text) is).0
+  at false is e = absurd cc
+
+word-drills : (b : Bool) (number : List ℕ) (n : ℕ) → (if b then count_in number else None) ≡ Some n → is_drill n ≡ true
+word-drills true number n e = count-drills number n e
+word-drills false number n e = absurd cc
+
+-- the number in the words of a drill is one of a drill
+pub words-drill : (words : List (List ℕ)) (n : ℕ) → drill_in words ≡ Some n → is_drill n ≡ true
+words-drill [] n e = absurd cc
+words-drill (word ∷ []) n e = absurd cc
+words-drill (word ∷ number ∷ []) n e = word-drills (bytes_eq word (codes "drill")) number n e
+words-drill (word ∷ number ∷ next ∷ more) n e = absurd cc

@@ -8,6 +8,7 @@ use Rattle.front_mirror.specs.declared.panels.PanelKind.{PanelKind}
 use Rattle.front_mirror.specs.declared.replies.Kept.{Kept}
 use Rattle.front_mirror.specs.Front.{FrontValue}
 use Rattle.back_end.specs.States.{view_of}
+use Rattle.replay_script.specs.Forms.{LineForm}
 use Rattle.drill_script.specs.DrillLines.{drill_lines}
 use Rattle.drill_script.specs.DrillPages.{drill_page}
 use Rattle.inspect_world.specs.World.{World, settled}
@@ -112,9 +113,13 @@ tally_in w = record {
   pauses = length (pauses_in w.down.given);
 }
 
+-- what is written after these lines, from that world on
+abbrev pub tallied : List LineForm → World RunState → List ℕ
+tallied lines w = tally_text (tally_in (settled run_step (after_lines lines w)))
+
 -- what a drill with so many divs writes, with panels of these kinds
 abbrev pub drill_text : List PanelKind → ℕ → List ℕ
-drill_text kinds n = tally_text (tally_in (settled run_step (after_lines (drill_lines n) (loaded_world kinds (drill_page n)))))
+drill_text kinds n = tallied (drill_lines n) (loaded_world kinds (drill_page n))
 
 -- what was written are the numbers of what the fold shows
 pub record TalliesShown (before after : Option (List ℕ)) (passed : Passed) : Type 0 where

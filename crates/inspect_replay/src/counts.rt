@@ -1,7 +1,7 @@
 // How many nodes a front end knows, how many of its replies are good, and the lines that tell a drill's numbers.
 ghost use Rattle.std.specs.Prelude.{◌≡◌, ◌+◌, ◌++◌, IsSome, IfOk, OnOk, OnErr};
 ghost use Rattle.node_tree.specs.Numbers.{number_limit};
-ghost use Rattle.node_tree.specs.Nodes.{alone};
+ghost use Rattle.node_tree.specs.Nodes.{none, alone};
 ghost use Rattle.node_tree.specs.Keys.{find};
 ghost use Rattle.node_tree.specs.Seen.{seen_id};
 ghost use Rattle.front_mirror.specs.Shown.{known_at};
@@ -14,19 +14,19 @@ use std::alloc::{AllocError, Global};
 
 /// How many known nodes there are, and how many of them are opened.
 #[derive(Clone, Copy)]
-pub(crate) struct Known {
-    pub(crate) nodes: u64,
-    pub(crate) opened: u64,
+struct Known {
+    nodes: u64,
+    opened: u64,
 }
 
 /// The numbers of a drill.
 #[derive(Clone, Copy)]
-pub(crate) struct Tally {
-    pub(crate) known: Known,
-    pub(crate) sheets: u64,
-    pub(crate) replies: u64,
-    pub(crate) errors: u64,
-    pub(crate) pauses: u64,
+struct Tally {
+    known: Known,
+    sheets: u64,
+    replies: u64,
+    errors: u64,
+    pauses: u64,
 }
 
 /// One more where the test holds. There is no memory for it only where the number stands at its last value.
@@ -41,7 +41,18 @@ fn grown(number: u64, test: bool) -> Result<u64, AllocError>
 }
 
 impl Known {
+    /// No nodes.
+    fn zero() -> Known
+        ensures { known_of result ≡ known_in none }
+    {
+        Known {
+            nodes: 0,
+            opened: 0,
+        }
+    }
+
     /// Counts one known node.
+    #[tactic(auto, using(crate::proofs::CountLemmas::row_added))]
     fn add(&mut self, mirror: &Mirror, id: u64) -> Result<(), AllocError>
         requires known { IsSome (find seen_id id mirror.now) }
         ensures { OnOk result (known_of self.new ≡ plus (known_of self.old) (row_known (known_at id mirror.now).row)) }
@@ -78,13 +89,11 @@ fn count_children(mirror: &Mirror, id: u64, known: &mut Known) -> Result<(), All
 }
 
 /// The numbers of all known nodes.
+#[tactic(auto, using(crate::proofs::CountLemmas::root_known, crate::proofs::CountLemmas::all_counted))]
 fn count_all(mirror: &Mirror) -> Result<Known, AllocError>
     ensures { IfOk result (λ known. known_of known ≡ known_in mirror.now) }
 {
-    let mut known = Known {
-        nodes: 0,
-        opened: 0,
-    };
+    let mut known = Known::zero();
     if mirror.is_empty() {
         return Ok(known);
     }
@@ -94,40 +103,36 @@ fn count_all(mirror: &Mirror) -> Result<Known, AllocError>
 }
 
 // How many of the replies are no error replies.
-fn count_good(replies: &[Kept]) -> u64
-    ensures { result ≡ how_many is_good replies.now }
+fn count_good(replies: &[Kept]) -> Result<u64, AllocError>
+    ensures { IfOk result (λ count. count ≡ how_many is_good replies.now) }
 {
     let mut count = 0;
     for reply in replies {
-        if reply.good {
-            count += 1;
-        }
+        count = grown(count, reply.good)?;
     }
-    count
+    Ok(count)
 }
 
 // How many are.
-fn count_bad(replies: &[Kept]) -> u64
-    ensures { result ≡ how_many is_bad replies.now }
+fn count_bad(replies: &[Kept]) -> Result<u64, AllocError>
+    ensures { IfOk result (λ count. count ≡ how_many is_bad replies.now) }
 {
     let mut count = 0;
     for reply in replies {
-        if !reply.good {
-            count += 1;
-        }
+        count = grown(count, !reply.good)?;
     }
-    count
+    Ok(count)
 }
 
 /// The numbers of what a front end shows.
-pub(crate) fn tally_of<P: Panel>(front: &Front<P>) -> Result<Tally, AllocError>
+fn tally_of<P: Panel>(front: &Front<P>) -> Result<Tally, AllocError>
     ensures { IfOk result (λ tally. tally_seen tally ≡ tally_of front.now.value) }
 {
     Ok(Tally {
         known: count_all(front.mirror())?,
         sheets: front.sheet_len() as u64,
-        replies: count_good(front.replies()),
-        errors: count_bad(front.replies()),
+        replies: count_good(front.replies())?,
+        errors: count_bad(front.replies())?,
         pauses: front.pauses().len() as u64,
     })
 }
@@ -142,7 +147,7 @@ fn push_line(alloc: Global, text: &mut Vec<u8>, word: &str, number: u64) -> Resu
 }
 
 /// The six lines.
-pub(crate) fn tally_text(alloc: Global, tally: &Tally) -> Result<Vec<u8>, AllocError>
+fn tally_text(alloc: Global, tally: &Tally) -> Result<Vec<u8>, AllocError>
     ensures { IfOk result (λ text. text.items ≡ tally_text (tally_seen tally.now)) }
 {
     let mut text = Vec::new(alloc);
@@ -153,4 +158,12 @@ pub(crate) fn tally_text(alloc: Global, tally: &Tally) -> Result<Vec<u8>, AllocE
     push_line(alloc, &mut text, "errors ", tally.errors)?;
     push_line(alloc, &mut text, "pauses ", tally.pauses)?;
     Ok(text)
+}
+
+/// The six lines of what a front end shows.
+pub(crate) fn front_text<P: Panel>(alloc: Global, front: &Front<P>) -> Result<Vec<u8>, AllocError>
+    ensures { IfOk result (λ text. text.items ≡ tally_text (tally_of front.now.value)) }
+{
+    let tally = tally_of(front)?;
+    tally_text(alloc, &tally)
 }

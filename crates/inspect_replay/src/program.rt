@@ -214,9 +214,9 @@ fn drill<P: Panel, K: Sink, L: Link>(
     ensures replies { result ≡ Done → AnswersInOrder (L.up link.old) (L.down link.old) (L.up link.new) (L.down link.new) }
     ensures used { result ≡ Usage → ⊥ }
     ensures nothing { DrillWrites result (K.taken out.old) (K.taken out.new) }
-    ensures cause { StatusRose (record {
-      source_before = 0;
-      source_after = 0;
+    ensures cause { (source_before source_after : ℕ) → StatusRose (record {
+      source_before = source_before;
+      source_after = source_after;
       sink_before = K.faults out.old;
       sink_after = K.faults out.new;
       link_before = L.faults link.old;
