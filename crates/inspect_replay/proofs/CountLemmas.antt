@@ -66,7 +66,6 @@ root_alone (node r c (node s d u)) is there = absurd (lone_document r s c d u is
 same_known : (n m : Known) → n.nodes ≡ m.nodes → n.opened ≡ m.opened → n ≡ m
 same_known n m a b = λ i. record { nodes = a i; opened = b i }
 
-
 pub plus-none : (n : Known) → plus n (known_in none) ≡ n
 plus-none n = same_known (plus n (known_in none)) n (omega arith) (omega arith)
 

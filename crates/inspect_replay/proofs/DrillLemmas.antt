@@ -1,5 +1,6 @@
 -- The lines of a drill carried out one after the other.
-use Rattle.std.proofs.Common.{◌≡◌, ℕ, suc, ◌+◌, ◌*◌, ◌^◌, ◌≤◌, List, [], ◌∷◌, length, Option, Some, None, Result, Ok, Err, refl, sym, ap, ◌∙◌}
+use Rattle.std.proofs.Common.{◌≡◌, ℕ, suc, ◌+◌, ◌*◌, ◌^◌, ◌≤◌, List, [], ◌∷◌}
+use Rattle.std.proofs.Common.{length, Option, Some, None, Result, Ok, Err, refl, sym, ap, ◌∙◌}
 use Rattle.std.proofs.Common.{subst, arith}
 use Rattle.std.specs.Prelude.{OnOk, ⊤, false, option_map}
 use Rattle.serde_json.specs.Data.{Data}
@@ -112,8 +113,8 @@ pub turn-room : {P : Type 0} {g : Ghosts P} (honest : Type 0) (up0 down0 up down
     → InPlay honest up0 down0 up down ((more + lines_cost rest) + line_cost line) t.world e
 turn-room honest up0 down0 up down more all left line rest w e is t =
     let same : more + lines_cost left ≡ (more + lines_cost rest) + line_cost line
-        = ap (λ ls. more + lines_cost ls) is ∙ (let r : more + (lines_cost rest + line_cost line) ≡ (more + lines_cost rest) + line_cost line
-        = omega arith in r) in
+    = ap (λ ls. more + lines_cost ls) is ∙ (let r : more + (lines_cost rest + line_cost line) ≡ (more + lines_cost rest) + line_cost line
+    = omega arith in r) in
     subst (λ n. InPlay honest up0 down0 up down n t.world e) same t.in_play
 
 -- after it the lines that are left lead on

@@ -1,5 +1,6 @@
 -- After a settle the numbers of what a front end shows are those of the page and of the messages.
-use Rattle.std.proofs.Common.{◌≡◌, ℕ, suc, ◌+◌, Bool, true, false, not, cond, List, [], ◌∷◌, ◌++◌, length, map, Option, Some, None, Result, Ok, Err}
+use Rattle.std.proofs.Common.{◌≡◌, ℕ, suc, ◌+◌, Bool, true, false, not, cond, List}
+use Rattle.std.proofs.Common.{[], ◌∷◌, ◌++◌, length, map, Option, Some, None, Result, Ok, Err}
 use Rattle.std.proofs.Common.{refl, sym, ap, ◌∙◌, subst, arith}
 use Rattle.std.specs.Prelude.{⊤}
 use Rattle.std.specs.List.{list_all}
@@ -28,8 +29,10 @@ use Rattle.front_mirror.specs.declared.faults.FrontKind.TheVariants.{NotMessage,
 use Rattle.front_mirror.specs.declared.sheets.KnownSheet.{KnownSheet}
 use Rattle.front_mirror.specs.Sheets.{told_sheet, has_sheet, marked_old, without_sheet}
 use Rattle.front_mirror.specs.Laws.{KnowsSheets}
-use Rattle.front_mirror.specs.Front.{FrontValue, reply_frame, first_value, take_frame, method_waiting, fetched_sheet, reply_kept, kept_reply}
-use Rattle.front_mirror.specs.Front.{unless_fetch, replied, refused, with_root, root_fault, matched_told, with_matched, with_effect, with_body}
+use Rattle.front_mirror.specs.Front.{FrontValue, reply_frame, first_value, take_frame}
+use Rattle.front_mirror.specs.Front.{method_waiting, fetched_sheet, reply_kept, kept_reply}
+use Rattle.front_mirror.specs.Front.{unless_fetch, replied, refused, with_root}
+use Rattle.front_mirror.specs.Front.{root_fault, matched_told, with_matched, with_effect, with_body}
 use Rattle.front_mirror.specs.Front.{with_reply, with_fault, with_tree, ToldChange, told_change, at_spot, change_fault, with_change, halted}
 use Rattle.front_mirror.specs.Front.{is_shown, told_sheets, with_news, with_message, seen_pause}
 use Rattle.inspect_world.specs.Fold.{folded, asks_joined}
@@ -202,11 +205,11 @@ marked-all sent_frames frames w e =
 pub tally-told : (w : World RunState) (v : FrontValue) → ShownThen w v → AreMarked v.replies → tally_of v ≡ tally_in (settled run_step w)
 tally-told w v s marked =
     let sheets : length v.sheets ≡ length (view_of (settled run_step w).state.back).sheets
-        = known-long v.sheets (view_of (settled run_step w).state.back).sheets s.has.sheets in
+    = known-long v.sheets (view_of (settled run_step w).state.back).sheets s.has.sheets in
     let replies : how_many is_good v.replies ≡ how_many is_ok (replies_in (settled run_step w).down.given)
-        = good-many v.replies marked ∙ ap (how_many is_ok) s.told in
+    = good-many v.replies marked ∙ ap (how_many is_ok) s.told in
     let errors : how_many is_bad v.replies ≡ how_many is_error (replies_in (settled run_step w).down.given)
-        = bad-many v.replies marked ∙ ap (how_many is_error) s.told in
+    = bad-many v.replies marked ∙ ap (how_many is_error) s.told in
     let pauses : length v.pauses ≡ length (pauses_in (settled run_step w).down.given)
-        = ap length s.pauses ∙ length-map (pauses_in (settled run_step w).down.given) seen_pause in
+    = ap length s.pauses ∙ length-map (pauses_in (settled run_step w).down.given) seen_pause in
     λ i. record { known = known_in (s.has.tree i); sheets = sheets i; replies = replies i; errors = errors i; pauses = pauses i }

@@ -42,8 +42,8 @@ tells-well result honest honest1 up down up1 down1 taken taken1 e e1 value settl
     let shown : ShownThen w e1.front.value = shown-settled honest1 up0 down0 up1 down1 0 w v e1 play.both after in
     let fold = run-front honest1 up0 down0 up1 down1 (refreshes front_fetcher v) e1 after in
     let marked : AreMarked e1.front.value.replies
-        = marked-all (frames_of (sent (refreshes front_fetcher v).up)).whole (frames_of (refreshes front_fetcher v).down.given).whole
-        e1.front.value fold in (
+    = marked-all (frames_of (sent (refreshes front_fetcher v).up)).whole (frames_of (refreshes front_fetcher v).down.given).whole
+    e1.front.value fold in (
       never,
       prints-same result taken taken1 (tally_text (tally_of value)) (tally_text (tally_in (settled run_step w)))
           (ap (λ x. tally_text (tally_of x)) same ∙ ap tally_text (tally-told w e1.front.value shown marked)) ok err,

@@ -1,5 +1,6 @@
 -- The six numbers of a drill, and the lines that tell them.
-use Rattle.std.specs.Prelude.{◌≡◌, ℕ, ◌+◌, Bool, true, false, not, cond, List, [], ◌∷◌, ◌++◌, length, codes, decimal, Option, Some, None, Ok}
+use Rattle.std.specs.Prelude.{◌≡◌, ℕ, ◌+◌, Bool, true, false, not, cond, List}
+use Rattle.std.specs.Prelude.{[], ◌∷◌, ◌++◌, length, codes, decimal, Option, Some, None, Ok}
 use Rattle.std.specs.Io.KnownBytes.{Appends}
 use Rattle.node_tree.specs.Nodes.{Nodes, none, node}
 use Rattle.node_tree.specs.Seen.{Seen, is_opened}

@@ -27,7 +27,11 @@ use pipe_frames::{Link, OutErr, Sink, write_all};
 use std::alloc::Global;
 
 /// Writes the six numbers, all at once.
-fn print_numbers<P: Panel, K: Sink>(alloc: Global, front: &Front<P>, out: &mut K) -> Result<(), Stop>
+fn print_numbers<P: Panel, K: Sink>(
+    alloc: Global,
+    front: &Front<P>,
+    out: &mut K,
+) -> Result<(), Stop>
     ensures ok { OnOk result (Appends (K.taken out.old) (K.taken out.new) (tally_text (tally_of front.now.value))) }
     ensures err { OnErr result (WrotePart (K.taken out.old) (K.taken out.new) (tally_text (tally_of front.now.value))) }
     ensures never { GoesWell result }
@@ -84,7 +88,7 @@ fn run_page<P: Panel, K: Sink, L: Link>(
     ensures well { L.honest link.old → IsLevel (L.up link.old) → IsLevel (L.down link.old) → GoesWell result }
     ensures took { L.honest link.old → IsLevel (L.up link.old) → IsLevel (L.down link.old)
         → Prints result (K.taken out.old) (K.taken out.new)
-        (tallied drill.entry (loaded_world (map P.kind_of panels.items) (loaded_page form))) }
+        (tallied drill (loaded_world (map P.kind_of panels.items) (loaded_page form))) }
     ensures nothing { WritesAtEnd result (K.taken out.old) (K.taken out.new) }
 {
     let mut ends = Ends::new(alloc, panels, form)?;

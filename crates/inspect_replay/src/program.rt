@@ -1,4 +1,5 @@
-ghost use Rattle.std.specs.Prelude.{◌≡◌, ◌≤◌, ◌+◌, ◌^◌, ◌↔◌, ◌||◌, is_some, ℕ, List, map, string_bytes, length, Some, [], false, true, IfOk, OnOk};
+ghost use Rattle.std.specs.Prelude.{◌≡◌, ◌≤◌, ◌+◌, ◌^◌, ◌↔◌, ◌||◌, is_some, ℕ, List};
+ghost use Rattle.std.specs.Prelude.{map, string_bytes, length, Some, [], false, true, IfOk, OnOk};
 ghost use Rattle.pipe_frames.specs.Pipe.{IsLevel};
 ghost use Rattle.pipe_frames.specs.Whole.{ReadPart};
 ghost use Rattle.replay_script.specs.Script.{script_refused};
@@ -225,7 +226,7 @@ fn drill<P: Panel, K: Sink, L: Link>(
     ensures honest { L.honest link.old → L.honest link.new }
 {
     match run_drill(alloc, panels, divs, out, link) {
-        Ok(()) => Status::Done,
+        Ok(_) => Status::Done,
         Err(stop) => status_of(stop),
     }
 }

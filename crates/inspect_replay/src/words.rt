@@ -44,7 +44,11 @@ pub(crate) fn drill_in(words: &[String]) -> Option<u64>
     ensures { result ≡ drill_in (map string_bytes words.now) }
 {
     match words {
-        [word, number] => if word.as_str() == "drill" { count_in(number.as_str()) } else { None },
+        [word, number] => if word.as_str() == "drill" {
+            count_in(number.as_str())
+        } else {
+            None
+        },
         _ => None,
     }
 }

@@ -1,12 +1,13 @@
 -- The lines of a drill are carried out, and its numbers told.
-use Rattle.std.proofs.Common.{ap, sym, subst, map, Result}
+use Rattle.std.proofs.Common.{sym, subst, map, Result}
 use Rattle.page_forms.specs.Pages.{loaded_page}
 use Rattle.inspect_world.specs.Scripts.{loaded_world, after_lines}
 use Rattle.inspect_replay.specs.declared.stop.Stop.{Stop}
+use Rattle.inspect_replay.specs.declared.stop.Stop.TheVariants.{Memory}
 use Rattle.inspect_replay.specs.Answers.{Prints}
-use Rattle.inspect_replay.specs.Drilled.{WritesAtEnd}
 use Rattle.inspect_replay.specs.Tallies.{tallied}
-use Rattle.inspect_replay.proofs.DrillEnds.{drill_start, drill-follows, drill-plays, memory-is, prints-none, writes-none, on-first, on-second}
+use Rattle.inspect_replay.proofs.DrillEnds.{drill_start, drill-follows, drill-plays, drill-cause}
+use Rattle.inspect_replay.proofs.DrillEnds.{memory-is, prints-none, writes-none, on-first, on-second}
 use Rattle.inspect_replay.proofs.drills.run_page.Goals as goal
 
 pub returns-in-Ok-clause-refused : goal.returns-in-Ok-clause-refused
@@ -103,6 +104,12 @@ returns-clause-nothing g c = writes-none c.in-Err.stop _
 
 pub returns-in_err-ends-clause-took : goal.returns-in_err-ends-clause-took
 returns-in_err-ends-clause-took g c = λ honest up_level down_level.
-    subst (λ (r : Result (Unit {0}) Stop). Prints r (g.K.Sink.taken c.args.out.now) (g.K.Sink.taken c.args.out.now)
-    (tallied c.args.drill (loaded_world (map g.P.Panel.kind_of c.args.panels.items) (loaded_page c.args.form))))
-    (sym (memory-is c.from_residual.result c.from_residual.ensures.1)) (prints-none _ _ _)
+    let text = tallied c.args.drill (loaded_world (map g.P.Panel.kind_of c.args.panels.items) (loaded_page c.args.form)) in
+    subst (λ (r : Result (Unit {0}) Stop). Prints r (g.K.Sink.taken c.args.out.now) (g.K.Sink.taken c.args.out.now) text)
+    (sym (memory-is c.from_residual.result c.from_residual.ensures.1)) (prints-none Memory (g.K.Sink.taken c.args.out.now) text)
+
+pub returns-in-Ok-clause-cause : goal.returns-in-Ok-clause-cause
+returns-in-Ok-clause-cause g c =
+    drill-cause c.tell_numbers.result (g.K.Sink.faults c.args.out.now) (g.K.Sink.faults c.tell_numbers.new.out)
+    (g.L.Link.faults c.args.link.now) (g.L.Link.faults c.run_turns.new.link) (g.L.Link.faults c.tell_numbers.new.link)
+    c.run_turns.ensures.cause.link_later c.tell_numbers.ensures.cause

@@ -1,6 +1,6 @@
 -- A stop of a drill is the status that it is.
 use Rattle.std.proofs.Common.{map, sym, subst}
-use Rattle.inspect_replay.specs.Answers.{IsHonest, Took, StatusRose}
+use Rattle.inspect_replay.specs.Answers.{IsHonest, Took}
 use Rattle.inspect_replay.specs.Drilled.{DrillWrites}
 use Rattle.inspect_replay.specs.Tallies.{drill_text}
 use Rattle.inspect_replay.proofs.DrillEnds.{drill-took, drill-rose, drill-writes}
@@ -27,15 +27,17 @@ pub returns-in-Err-clause-took : goal.returns-in-Err-clause-took
 returns-in-Err-clause-took g c = λ honest up_level down_level.
     let text = drill_text (map g.P.Panel.kind_of c.args.panels.items) c.args.divs in
     subst (λ status. Took status (g.K.Sink.taken c.args.out.now) (g.K.Sink.taken c.run_drill.new.out) text) (sym c.status_of.ensures)
-    (drill-took c.in-Err.stop _ _ _ _ _ _ text c.in-Err.ensures.cause (c.in-Err.ensures.well honest up_level down_level)
+    (drill-took c.in-Err.stop (g.K.Sink.faults c.args.out.now) (g.K.Sink.faults c.run_drill.new.out) (g.L.Link.faults c.args.link.now)
+    (g.L.Link.faults c.run_drill.new.link) (g.K.Sink.taken c.args.out.now) (g.K.Sink.taken c.run_drill.new.out) text
+    c.in-Err.ensures.cause (c.in-Err.ensures.well honest up_level down_level)
     (c.in-Err.ensures.took honest up_level down_level))
 
 pub returns-in-Err-clause-nothing : goal.returns-in-Err-clause-nothing
 returns-in-Err-clause-nothing g c =
     subst (λ status. DrillWrites status (g.K.Sink.taken c.args.out.now) (g.K.Sink.taken c.run_drill.new.out)) (sym c.status_of.ensures)
-    (drill-writes c.in-Err.stop _ _ c.in-Err.ensures.nothing)
+    (drill-writes c.in-Err.stop (g.K.Sink.taken c.args.out.now) (g.K.Sink.taken c.run_drill.new.out) c.in-Err.ensures.nothing)
 
 pub returns-in-Err-clause-cause : goal.returns-in-Err-clause-cause
 returns-in-Err-clause-cause g c = λ before after.
-    subst (λ status. StatusRose _ status) (sym c.status_of.ensures)
-    (drill-rose c.in-Err.stop before after _ _ _ _ c.in-Err.ensures.cause)
+    drill-rose c.in-Err.stop c.status_of.result before after (g.K.Sink.faults c.args.out.now) (g.K.Sink.faults c.run_drill.new.out)
+    (g.L.Link.faults c.args.link.now) (g.L.Link.faults c.run_drill.new.link) c.status_of.ensures c.in-Err.ensures.cause

@@ -69,20 +69,24 @@ pub returns-in-Err-clause-follows : goal.returns-in-Err-clause-follows
 returns-in-Err-clause-follows g c = λ state0 up0 down0 run.
     let line = seen c.in-Some.line in
     let more = c.next_line.new.drill in
-    let first = gave-line c.loop-line.drill more c.in_ok-line.field-0 c.in-Some.line c.in-Some.is c.in_ok-line.ensures in
-    (tt, ((c.in-Err.ensures {u = tt}).follows (lines_more (length more) state0) up0 down0
-    (follow-line state0 up0 down0 _ _ c.loop-line.ends c.loop-line.drill line more first
-    (c.loop-line.invariant.3 state0 up0 down0 run))).1)
+    let first = gave-line c.loop-line.drill more c.in_ok-line.field-0 c.in-Some.line c.in-Some.is c.in_ok-line.ensures in (
+      tt,
+      ((c.in-Err.ensures {u = tt}).follows (lines_more (length more) state0) up0 down0
+          (follow-line state0 up0 down0 _ _ c.loop-line.ends c.loop-line.drill line more first
+          (c.loop-line.invariant.3 state0 up0 down0 run))).1,
+    )
 
 pub returns-in-Err-clause-runs : goal.returns-in-Err-clause-runs
 returns-in-Err-clause-runs g c = λ up0 down0 k w play.
     let line = seen c.in-Some.line in
     let more = c.next_line.new.drill in
     let first = gave-line c.loop-line.drill more c.in_ok-line.field-0 c.in-Some.line c.in-Some.is c.in_ok-line.ensures in
-    let before = c.loop-line.invariant.4 up0 down0 k w play in
-    (((c.in-Err.ensures {u = tt}).runs up0 down0 (k + lines_cost more) before.world
-    (turn-room (g.L.Link.honest c.loop-line.link) up0 down0 (g.L.Link.up c.loop-line.link) (g.L.Link.down c.loop-line.link) k
-    c.args.drill c.loop-line.drill line more w c.loop-line.ends first before)).0, tt)
+    let before = c.loop-line.invariant.4 up0 down0 k w play in (
+      ((c.in-Err.ensures {u = tt}).runs up0 down0 (k + lines_cost more) before.world
+          (turn-room (g.L.Link.honest c.loop-line.link) up0 down0 (g.L.Link.up c.loop-line.link) (g.L.Link.down c.loop-line.link) k
+          c.args.drill c.loop-line.drill line more w c.loop-line.ends first before)).0,
+      tt,
+    )
 
 pub returns-clause-follows : goal.returns-clause-follows
 returns-clause-follows g c = λ state0 up0 down0 run.
@@ -93,6 +97,8 @@ returns-clause-follows g c = λ state0 up0 down0 run.
 
 pub returns-clause-runs : goal.returns-clause-runs
 returns-clause-runs g c = λ up0 down0 k w play.
-    let none = gave-none c.loop-line.drill c.next_line.new.drill c.in_ok-line.field-0 c.in_default.is c.in_ok-line.ensures in
-    (tt, turn-end (g.L.Link.honest c.loop-line.link) up0 down0 (g.L.Link.up c.loop-line.link) (g.L.Link.down c.loop-line.link) k
-    c.args.drill c.loop-line.drill w c.loop-line.ends none (c.loop-line.invariant.4 up0 down0 k w play))
+    let none = gave-none c.loop-line.drill c.next_line.new.drill c.in_ok-line.field-0 c.in_default.is c.in_ok-line.ensures in (
+      tt,
+      turn-end (g.L.Link.honest c.loop-line.link) up0 down0 (g.L.Link.up c.loop-line.link) (g.L.Link.down c.loop-line.link) k
+          c.args.drill c.loop-line.drill w c.loop-line.ends none (c.loop-line.invariant.4 up0 down0 k w play),
+    )
