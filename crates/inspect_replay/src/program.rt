@@ -44,6 +44,9 @@ pub const LINE_LIMIT: usize = 16_777_216;
 /// `panels` are told of each change of what the front end shows, and dropped by a line that closes them, or at the end.
 ///
 /// `serve` answers frames: each that is whole is answered on `out` before more is read. It uses neither `link` nor `panels`.
+///
+/// `drill N` makes a page of N divs and the lines of a script from that number, carries them out over `link`, and writes six numbers of
+/// what came of it. It reads nothing.
 pub fn inspect<S: Source, K: Sink, L: Link>(
     alloc: Global,
     words: &[String],
