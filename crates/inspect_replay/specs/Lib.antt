@@ -10,6 +10,9 @@ pub mod Runs
 pub mod Followed
 pub mod Prints
 pub mod Goes
+pub mod Tallies
+pub mod CountsSeen
+pub mod Drilled
 pub mod Serving
 pub mod ServeRoom
 pub mod ServeReads

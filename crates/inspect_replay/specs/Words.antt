@@ -1,5 +1,7 @@
 -- The words of the command line.
-use Rattle.std.specs.Prelude.{ℕ, List, [], ◌∷◌, Bool, false, bytes_eq, codes}
+use Rattle.std.specs.Prelude.{ℕ, List, [], ◌∷◌, Bool, false, ◌&&◌, bytes_eq, codes, decimal, if◌then◌else◌, Option, Some, None}
+use Rattle.std.specs.Str.Parse.{digits_value}
+use Rattle.drill_script.specs.Given.{is_drill}
 
 -- the one word `replay`
 abbrev pub is_replay : List (List ℕ) → Bool
@@ -12,3 +14,18 @@ abbrev pub is_serve : List (List ℕ) → Bool
 is_serve [] = false
 is_serve (word ∷ []) = bytes_eq word (codes "serve")
 is_serve (word ∷ next ∷ more) = false
+
+-- a drill may have so many divs, and the text is that number in decimal digits, without a leading zero
+abbrev pub is_count : List ℕ → ℕ → Bool
+is_count text n = is_drill n && bytes_eq (decimal n) text
+
+-- the number, where the text is one
+abbrev pub count_in : List ℕ → Option ℕ
+count_in text = if is_count text (digits_value 10 text) then Some (digits_value 10 text) else None
+
+-- the word `drill` and the number of divs
+abbrev pub drill_in : List (List ℕ) → Option ℕ
+drill_in [] = None
+drill_in (word ∷ []) = None
+drill_in (word ∷ number ∷ []) = if bytes_eq word (codes "drill") then count_in number else None
+drill_in (word ∷ number ∷ next ∷ more) = None

@@ -1,5 +1,5 @@
 //! The top call: the replay of a script, a back end and a front end over a link, and what the script's lines print. And the back
-//! end alone, which serves a client.
+//! end alone, which serves a client; and a drill, whose script is made from one number.
 //!
 //! Promise: the clauses of `inspect` (src/program.rt), for every input and every source, sink and link that keep their traits'
 //! contracts; over an honest link the sink takes exactly the report of the script.
@@ -11,6 +11,8 @@
 //! and specs/Moments.
 #![tactic(auto)]
 
+mod counts;
+mod drills;
 mod ends;
 mod moments;
 mod page_lines;
@@ -26,6 +28,7 @@ mod show;
 mod status;
 mod stop;
 mod style_lines;
+mod turns;
 mod words;
 
 pub use inspect_world::fits_law;

@@ -1,11 +1,15 @@
-ghost use Rattle.std.specs.Prelude.{◌≡◌, ◌≤◌, ◌+◌, ◌^◌, ◌↔◌, ◌||◌, ℕ, List, map, string_bytes, length, Some, [], false, true, IfOk, OnOk};
+ghost use Rattle.std.specs.Prelude.{◌≡◌, ◌≤◌, ◌+◌, ◌^◌, ◌↔◌, ◌||◌, is_some, ℕ, List};
+ghost use Rattle.std.specs.Prelude.{map, string_bytes, length, Some, [], false, true, IfOk, OnOk};
 ghost use Rattle.pipe_frames.specs.Pipe.{IsLevel};
 ghost use Rattle.pipe_frames.specs.Whole.{ReadPart};
 ghost use Rattle.replay_script.specs.Script.{script_refused};
 ghost use Rattle.inspect_world.specs.Links.{came_styles};
 ghost use Rattle.inspect_world.specs.Scripts.{report, report_refused};
 ghost use Rattle.inspect_world.specs.ScriptsFit.{UndoRestoresInRuns};
-ghost use Rattle.inspect_replay.specs.Words.{is_replay, is_serve};
+ghost use Rattle.drill_script.specs.Given.{is_drill};
+ghost use Rattle.inspect_replay.specs.Words.{is_replay, is_serve, drill_in};
+ghost use Rattle.inspect_replay.specs.Tallies.{TalliesShown, drill_text};
+ghost use Rattle.inspect_replay.specs.Drilled.{DrillWrites};
 ghost use Rattle.inspect_replay.specs.declared.status.Status.TheVariants.{Done, Usage};
 ghost use Rattle.inspect_replay.specs.Followed.{StatusFolds, EndsShown, AnswersInOrder, StatusLess, fold_since};
 ghost use Rattle.inspect_replay.specs.Answers.{FitsLimits, TellsLine, Took, IsHonest, WritesNothing, StatusRose, InputTells, IsInputStop};
@@ -14,11 +18,12 @@ ghost use Rattle.inspect_replay.specs.Says.{status_of};
 ghost use Rattle.inspect_replay.specs.Serving.{ServeTook, IsServeStatus};
 ghost use Rattle.inspect_replay.specs.ServeReads.{ReadsInTurn};
 
+use crate::drills::run_drill;
 use crate::run::run_script;
 use crate::serve::serve;
 use crate::status::Status;
 use crate::stop::Stop;
-use crate::words::{is_replay, is_serve};
+use crate::words::{drill_in, is_replay, is_serve};
 use front_mirror::Panel;
 use inspect_world::fits_law;
 use pipe_frames::{Link, ReadErr, Sink, Source, read_all};
@@ -39,6 +44,9 @@ pub const LINE_LIMIT: usize = 16_777_216;
 /// `panels` are told of each change of what the front end shows, and dropped by a line that closes them, or at the end.
 ///
 /// `serve` answers frames: each that is whole is answered on `out` before more is read. It uses neither `link` nor `panels`.
+///
+/// `drill N` makes a page of N divs and the lines of a script from that number, carries them out over `link`, and writes six numbers of
+/// what came of it. It reads nothing.
 pub fn inspect<S: Source, K: Sink, L: Link>(
     alloc: Global,
     words: &[String],
@@ -67,7 +75,23 @@ pub fn inspect<S: Source, K: Sink, L: Link>(
     // over every link, whatever is answered but want of memory: a delivery asks for no more bytes than are there, so no more
     // are given than were sent
     ensures less { StatusLess result (fold_since (L.up link.old) (L.down link.old) (L.up link.new) (L.down link.new)) }
-    ensures usage { result ≡ Usage ↔ ((is_replay (map string_bytes words.now) || is_serve (map string_bytes words.now)) ≡ false) }
+    ensures usage { result ≡ Usage ↔ ((is_replay (map string_bytes words.now) || is_serve (map string_bytes words.now)
+        || is_some (drill_in (map string_bytes words.now))) ≡ false) }
+    // a drill: over an honest link the sink takes the six lines of the run's numbers, in which no front end takes part
+    ensures drill { L.honest link.old → IsLevel (L.up link.old) → IsLevel (L.down link.old)
+        → (n : ℕ) → drill_in (map string_bytes words.now) ≡ Some n
+        → Took result (K.taken out.old) (K.taken out.new) (drill_text (map (λ p. kind_of p) panels.items) n) }
+    // over every link the six numbers are those of the fold of the bytes sent up and given down, replies to fetches not counted
+    ensures drill_counted { (n : ℕ) → drill_in (map string_bytes words.now) ≡ Some n
+        → result ≡ Done → TalliesShown (K.taken out.old) (K.taken out.new)
+        (fold_since (L.up link.old) (L.down link.old) (L.up link.new) (L.down link.new)) }
+    // over every link: the replies sent down answer the frames given up
+    ensures drill_replies { (n : ℕ) → drill_in (map string_bytes words.now) ≡ Some n
+        → result ≡ Done → AnswersInOrder (L.up link.old) (L.down link.old) (L.up link.new) (L.down link.new) }
+    // the six lines are written at once: on another answer nothing was written, unless the sink failed or memory did
+    ensures drill_nothing { (n : ℕ) → drill_in (map string_bytes words.now) ≡ Some n
+        → DrillWrites result (K.taken out.old) (K.taken out.new) }
+    ensures drill_unread { (n : ℕ) → drill_in (map string_bytes words.now) ≡ Some n → src.new ≡ src.old }
     ensures unread { result ≡ Usage → src.new ≡ src.old }
     ensures unwritten { result ≡ Usage → out.new ≡ out.old }
     ensures unlinked { result ≡ Usage → link.new ≡ link.old }
@@ -125,6 +149,9 @@ pub fn inspect<S: Source, K: Sink, L: Link>(
     if is_serve(words) {
         return serve(alloc, src, out);
     }
+    if let Some(divs) = drill_in(words) {
+        return drill(alloc, panels, divs, out, link);
+    }
     Status::Usage
 }
 
@@ -168,6 +195,41 @@ fn replay<P: Panel, S: Source, K: Sink, L: Link>(
 {
     match read_input(alloc, src) {
         Ok(input) => run_input(alloc, panels, &input, out, link),
+        Err(stop) => status_of(stop),
+    }
+}
+
+/// Carries out a drill with so many divs.
+fn drill<P: Panel, K: Sink, L: Link>(
+    alloc: Global,
+    panels: Vec<P>,
+    divs: u64,
+    out: &mut K,
+    link: &mut L,
+) -> Status
+    requires { is_drill divs ≡ true }
+    ensures took { L.honest link.old → IsLevel (L.up link.old) → IsLevel (L.down link.old)
+        → Took result (K.taken out.old) (K.taken out.new) (drill_text (map P.kind_of panels.items) divs) }
+    ensures sound { L.honest link.old → IsLevel (L.up link.old) → IsLevel (L.down link.old) → IsHonest result }
+    ensures refused { StatusFolds result (fold_since (L.up link.old) (L.down link.old) (L.up link.new) (L.down link.new)) }
+    ensures less { StatusLess result (fold_since (L.up link.old) (L.down link.old) (L.up link.new) (L.down link.new)) }
+    ensures counted { result ≡ Done → TalliesShown (K.taken out.old) (K.taken out.new)
+        (fold_since (L.up link.old) (L.down link.old) (L.up link.new) (L.down link.new)) }
+    ensures replies { result ≡ Done → AnswersInOrder (L.up link.old) (L.down link.old) (L.up link.new) (L.down link.new) }
+    ensures used { result ≡ Usage → ⊥ }
+    ensures nothing { DrillWrites result (K.taken out.old) (K.taken out.new) }
+    ensures cause { (source_before source_after : ℕ) → StatusRose (record {
+      source_before = source_before;
+      source_after = source_after;
+      sink_before = K.faults out.old;
+      sink_after = K.faults out.new;
+      link_before = L.faults link.old;
+      link_after = L.faults link.new;
+    }) result }
+    ensures honest { L.honest link.old → L.honest link.new }
+{
+    match run_drill(alloc, panels, divs, out, link) {
+        Ok(_) => Status::Done,
         Err(stop) => status_of(stop),
     }
 }

@@ -206,7 +206,7 @@ fn carry_raw<P: Panel, L: Link>(ends: &mut Ends<P>, link: &mut L, text: Text) ->
 }
 
 /// Carries out the line of that number after the first, and writes what it prints; it shows no matched styles and drops no panel.
-fn carry_plain<P: Panel, K: Sink, L: Link>(
+pub(crate) fn carry_plain<P: Panel, K: Sink, L: Link>(
     alloc: Global,
     number: u64,
     line: Line,

@@ -1,5 +1,7 @@
 ghost use Rattle.std.specs.Prelude.{◌≡◌, map, string_bytes};
-ghost use Rattle.inspect_replay.specs.Words.{is_replay, is_serve};
+ghost use Rattle.inspect_replay.specs.Words.{is_replay, is_serve, count_in, drill_in};
+
+use drill_script::is_drill;
 
 /// Whether the words are exactly `replay`.
 pub(crate) fn is_replay(words: &[String]) -> bool
@@ -18,5 +20,35 @@ pub(crate) fn is_serve(words: &[String]) -> bool
     match words {
         [word] => word.as_str() == "serve",
         _ => false,
+    }
+}
+
+// The number of divs that the text is.
+fn count_in(text: &str) -> Option<u64>
+    ensures { result ≡ count_in text.now }
+{
+    if text.starts_with('0') {
+        return None;
+    }
+    if text.starts_with('+') {
+        return None;
+    }
+    match text.parse::<u64>() {
+        Ok(divs) => if is_drill(divs) { Some(divs) } else { None },
+        Err(_) => None,
+    }
+}
+
+/// The number of divs, where the words are `drill` and such a number.
+pub(crate) fn drill_in(words: &[String]) -> Option<u64>
+    ensures { result ≡ drill_in (map string_bytes words.now) }
+{
+    match words {
+        [word, number] => if word.as_str() == "drill" {
+            count_in(number.as_str())
+        } else {
+            None
+        },
+        _ => None,
     }
 }

@@ -1,9 +1,12 @@
 -- With other words, and for a client, nothing is sent over the link, and the fold of nothing meets no fault.
+use Rattle.std.proofs.Common.{map, sym, ◌∙◌}
+use Rattle.std.specs.Prelude.{string_bytes}
 use Rattle.inspect_replay.specs.Followed.{fold_since}
 use Rattle.inspect_replay.specs.Says.{says}
 use Rattle.inspect_replay.proofs.FollowLemmas.{start-good, less-at}
 use Rattle.inspect_replay.proofs.AnswerLemmas.{serve-honest}
 use Rattle.inspect_replay.proofs.ServeEnds.{serve-folds}
+use Rattle.inspect_replay.proofs.WordLemmas.{words-drill}
 use Rattle.inspect_replay.proofs.program.inspect.Goals as goal
 
 pub returns-clause-refused : goal.returns-clause-refused
@@ -27,3 +30,10 @@ returns-then-is_serve-clause-cause g c = c.serve.ensures.cause _ _
 
 pub returns-then-is_serve-clause-sound : goal.returns-then-is_serve-clause-sound
 returns-then-is_serve-clause-sound g c = λ honest up_level down_level. serve-honest c.serve.result c.serve.ensures.only
+
+pub drill-requires : goal.drill-requires
+drill-requires g c =
+    words-drill (map string_bytes c.args.words.now) c.in-Some.divs (sym c.drill_in.ensures ∙ c.in-Some.is)
+
+pub returns-in-Some-clause-cause : goal.returns-in-Some-clause-cause
+returns-in-Some-clause-cause g c = c.drill.ensures.cause _ _
