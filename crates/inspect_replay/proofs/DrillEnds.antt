@@ -27,7 +27,7 @@ use Rattle.inspect_replay.specs.Runs.{InPlay}
 use Rattle.inspect_replay.specs.Stops.{GoesWell, HasStopCause, RoseAt, two_counts}
 use Rattle.inspect_replay.specs.Answers.{Prints, Took, StatusRose}
 use Rattle.inspect_replay.specs.Followed.{FollowsRun}
-use Rattle.inspect_replay.specs.Drilled.{IsOfWriting, WritesAtEnd, DrillWrites, lines_more}
+use Rattle.inspect_replay.specs.Drilled.{IsOfWriting, WritesAtEnd, DrillWrites, IsDrillStatus, lines_more}
 use Rattle.inspect_replay.proofs.RunLemmas.{begins, play-begins}
 use Rattle.inspect_replay.proofs.FollowLemmas.{run-first}
 use Rattle.inspect_replay.proofs.DrillLemmas.{drill-cheap}
@@ -128,6 +128,18 @@ drill-writes LinkFault before after writes = writes
 drill-writes (FrontRefused place fault) before after writes = writes
 drill-writes NoRoom before after writes = writes
 drill-writes Memory before after writes = tt
+
+-- a stop of a drill is one of the answers that it gives
+pub drill-status : (stop : Stop) (sink sink1 link link1 : ℕ) → HasStopCause {T = Unit {0}} sink sink1 link link1 (Err stop)
+    → IsDrillStatus (status_of stop)
+drill-status (Line number fault) sink sink1 link link1 cause = absurd cause.rose
+drill-status TooLong sink sink1 link link1 cause = absurd cause.rose
+drill-status ReadFault sink sink1 link link1 cause = absurd cause.rose
+drill-status WriteFault sink sink1 link link1 cause = tt
+drill-status LinkFault sink sink1 link link1 cause = tt
+drill-status (FrontRefused place fault) sink sink1 link link1 cause = tt
+drill-status NoRoom sink sink1 link link1 cause = tt
+drill-status Memory sink sink1 link link1 cause = tt
 
 -- the cause of a stop that comes after the lines
 pub drill-cause : (result : Result (Unit {0}) Stop) (sink sink1 link link1 link2 : ℕ) → link ≤ link1

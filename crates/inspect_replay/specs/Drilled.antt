@@ -86,3 +86,16 @@ DrillWrites status.LinkFault before after = after ≡ before
 DrillWrites (status.FrontRefused place fault) before after = after ≡ before
 DrillWrites status.NoRoom before after = after ≡ before
 DrillWrites status.Memory before after = ⊤
+
+-- an answer that a drill gives: it reads nothing, and none of its lines is refused
+abbrev pub IsDrillStatus : Status → Type 0
+IsDrillStatus status.Done = ⊤
+IsDrillStatus status.Usage = ⊥
+IsDrillStatus (status.Line number fault) = ⊥
+IsDrillStatus status.TooLong = ⊥
+IsDrillStatus status.ReadFault = ⊥
+IsDrillStatus status.WriteFault = ⊤
+IsDrillStatus status.LinkFault = ⊤
+IsDrillStatus (status.FrontRefused place fault) = ⊤
+IsDrillStatus status.NoRoom = ⊤
+IsDrillStatus status.Memory = ⊤

@@ -9,7 +9,7 @@ ghost use Rattle.inspect_world.specs.ScriptsFit.{UndoRestoresInRuns};
 ghost use Rattle.drill_script.specs.Given.{is_drill};
 ghost use Rattle.inspect_replay.specs.Words.{is_replay, is_serve, drill_in};
 ghost use Rattle.inspect_replay.specs.Tallies.{TalliesShown, drill_text};
-ghost use Rattle.inspect_replay.specs.Drilled.{DrillWrites};
+ghost use Rattle.inspect_replay.specs.Drilled.{DrillWrites, IsDrillStatus};
 ghost use Rattle.inspect_replay.specs.declared.status.Status.TheVariants.{Done, Usage};
 ghost use Rattle.inspect_replay.specs.Followed.{StatusFolds, EndsShown, AnswersInOrder, StatusLess, fold_since};
 ghost use Rattle.inspect_replay.specs.Answers.{FitsLimits, TellsLine, Took, IsHonest, WritesNothing, StatusRose, InputTells, IsInputStop};
@@ -91,6 +91,7 @@ pub fn inspect<S: Source, K: Sink, L: Link>(
     // the six lines are written at once: on another answer nothing was written, unless the sink failed or memory did
     ensures drill_nothing { (n : ℕ) → drill_in (map string_bytes words.now) ≡ Some n
         → DrillWrites result (K.taken out.old) (K.taken out.new) }
+    ensures drill_status { (n : ℕ) → drill_in (map string_bytes words.now) ≡ Some n → IsDrillStatus result }
     ensures drill_unread { (n : ℕ) → drill_in (map string_bytes words.now) ≡ Some n → src.new ≡ src.old }
     ensures unread { result ≡ Usage → src.new ≡ src.old }
     ensures unwritten { result ≡ Usage → out.new ≡ out.old }
@@ -216,7 +217,7 @@ fn drill<P: Panel, K: Sink, L: Link>(
     ensures counted { result ≡ Done → TalliesShown (K.taken out.old) (K.taken out.new)
         (fold_since (L.up link.old) (L.down link.old) (L.up link.new) (L.down link.new)) }
     ensures replies { result ≡ Done → AnswersInOrder (L.up link.old) (L.down link.old) (L.up link.new) (L.down link.new) }
-    ensures used { result ≡ Usage → ⊥ }
+    ensures status { IsDrillStatus result }
     ensures nothing { DrillWrites result (K.taken out.old) (K.taken out.new) }
     ensures cause { (source_before source_after : ℕ) → StatusRose (record {
       source_before = source_before;

@@ -1,9 +1,9 @@
 -- A stop of a drill is the status that it is.
 use Rattle.std.proofs.Common.{map, sym, subst}
 use Rattle.inspect_replay.specs.Answers.{IsHonest, Took}
-use Rattle.inspect_replay.specs.Drilled.{DrillWrites}
+use Rattle.inspect_replay.specs.Drilled.{DrillWrites, IsDrillStatus}
 use Rattle.inspect_replay.specs.Tallies.{drill_text}
-use Rattle.inspect_replay.proofs.DrillEnds.{drill-took, drill-rose, drill-writes}
+use Rattle.inspect_replay.proofs.DrillEnds.{drill-took, drill-rose, drill-writes, drill-status}
 use Rattle.inspect_replay.proofs.FollowLemmas.{status-folds, status-less, never-done}
 use Rattle.inspect_replay.proofs.program.drill.Goals as goal
 
@@ -41,3 +41,8 @@ pub returns-in-Err-clause-cause : goal.returns-in-Err-clause-cause
 returns-in-Err-clause-cause g c = λ before after.
     drill-rose c.in-Err.stop c.status_of.result before after (g.K.Sink.faults c.args.out.now) (g.K.Sink.faults c.run_drill.new.out)
     (g.L.Link.faults c.args.link.now) (g.L.Link.faults c.run_drill.new.link) c.status_of.ensures c.in-Err.ensures.cause
+
+pub returns-in-Err-clause-status : goal.returns-in-Err-clause-status
+returns-in-Err-clause-status g c = subst IsDrillStatus (sym c.status_of.ensures)
+    (drill-status c.in-Err.stop (g.K.Sink.faults c.args.out.now) (g.K.Sink.faults c.run_drill.new.out) (g.L.Link.faults c.args.link.now)
+    (g.L.Link.faults c.run_drill.new.link) c.in-Err.ensures.cause)
