@@ -2,8 +2,7 @@
 use Rattle.std.proofs.Common.{◌≡◌, ℕ, suc, ◌+◌, ◌*◌, ◌^◌, ◌≤◌, List, [], ◌∷◌}
 use Rattle.std.proofs.Common.{length, Option, Some, None, Result, Ok, Err, refl, sym, ap, ◌∙◌}
 use Rattle.std.proofs.Common.{subst, arith}
-use Rattle.std.specs.Prelude.{OnOk, ⊤, false, option_map}
-use Rattle.serde_json.specs.Data.{Data}
+use Rattle.std.specs.Prelude.{false, option_map}
 use Rattle.front_mirror.specs.declared.panels.Panel.{Ghosts}
 use Rattle.pipe_frames.specs.Pipe.{Pipe}
 use Rattle.cdp_messages.specs.declared.command.Command.{Command}
@@ -11,7 +10,6 @@ use Rattle.cdp_messages.specs.declared.command.Why.{Why}
 use Rattle.cdp_messages.specs.Asked.{command_of}
 use Rattle.back_end.proofs.EditSizes.{params_size, edits-params}
 use Rattle.replay_script.specs.Forms.{AskForm, LineForm}
-use Rattle.replay_script.specs.Script.{closed_by, styles_ask}
 use Rattle.replay_script.specs.Seen.{seen}
 use Rattle.replay_script.specs.declared.forms.Line.{Line}
 use Rattle.drill_script.specs.Given.{GivesFirst}
@@ -25,12 +23,8 @@ use Rattle.inspect_world.specs.Scripts.{after_line, after_lines}
 use Rattle.inspect_world.specs.ScriptsFit.{IsLater}
 use Rattle.inspect_world.specs.Links.{Started, run_started, one_line_more}
 use Rattle.inspect_replay.specs.declared.ends.Ends.{Ends}
-use Rattle.inspect_replay.specs.declared.stop.Stop.{Stop}
-use Rattle.inspect_replay.specs.Moments.{Moment, Scene, moment, scene}
 use Rattle.inspect_replay.specs.Runs.{InPlay}
-use Rattle.inspect_replay.specs.Stops.{GoesWell}
-use Rattle.inspect_replay.specs.Followed.{FollowsRun, LineFollows, StopFolds, fold_since}
-use Rattle.inspect_replay.specs.Prints.{CarriesOut, numbered_line}
+use Rattle.inspect_replay.specs.Followed.{FollowsRun}
 use Rattle.inspect_replay.specs.Drilled.{lines_more}
 
 -- ---- what may be done with a line

@@ -10,13 +10,13 @@ use Rattle.pipe_frames.specs.Pipe.{Pipe}
 use Rattle.node_tree.specs.Keys.{first_of}
 use Rattle.replay_script.specs.Forms.{LineForm, line_form}
 use Rattle.replay_script.specs.Faults.{line_fault}
-use Rattle.replay_script.specs.Script.{numbered_or, closed_by, panel_missing, panel_fault, panels_after, panels_left, styles_ask}
-use Rattle.replay_script.specs.Script.{styles_missing, styles_fault, want_fault, first_refused, stands_open, dropped}
+use Rattle.replay_script.specs.Script.{numbered_or, closed_by, panel_fault, panels_after, panels_left, styles_ask}
+use Rattle.replay_script.specs.Script.{styles_missing, styles_fault, want_fault, first_refused, dropped}
 use Rattle.replay_script.proofs.FaultLemmas.{first_none}
 use Rattle.replay_script.specs.declared.faults.LineFault.{LineFault}
 use Rattle.front_mirror.specs.declared.panels.PanelKind.{PanelKind}
 use Rattle.front_mirror.specs.Front.{FrontState}
-use Rattle.inspect_world.specs.Links.{Begun, Started, run_started, one_line_more, knows_styles, came_styles}
+use Rattle.inspect_world.specs.Links.{Begun, Started, run_started, knows_styles, came_styles}
 use Rattle.inspect_world.proofs.LinkLemmas.{follows-fold, follows-showing}
 use Rattle.inspect_replay.specs.declared.ends.Ends.{Ends}
 use Rattle.inspect_replay.specs.declared.stop.Stop.{Stop}

@@ -1,5 +1,5 @@
 -- A line that drops a panel, and the lines of a show of the panels.
-use Rattle.std.proofs.Common.{◌≡◌, ℕ, zero, suc, ◌+◌, ◌<◌, ◌≤◌, List, [], ◌∷◌, ◌++◌, length, drop, Bool, true, false, Option, Some, None}
+use Rattle.std.proofs.Common.{◌≡◌, ℕ, zero, suc, ◌+◌, ◌<◌, ◌≤◌, List, [], ◌∷◌, ◌++◌, length, drop, Bool, true, false, Option, None}
 use Rattle.std.proofs.Common.{refl, sym, ◌∙◌, ap, subst, arith, is_some, append_assoc, append-nil, Result, Ok, Err}
 use Rattle.std.specs.Result.{OnOk}
 use Rattle.std.proofs.lemmas.List.{drop_all}
@@ -12,15 +12,15 @@ use Rattle.pipe_frames.proofs.WholeLemmas.{Appends-nil}
 use Rattle.front_mirror.specs.declared.panels.PanelKind.{PanelKind}
 use Rattle.front_mirror.specs.Front.{FrontState}
 use Rattle.front_mirror.specs.Places.{slot_at, emptied_at, open_at, closed_at}
-use Rattle.replay_script.specs.Forms.{LineForm, close}
+use Rattle.replay_script.specs.Forms.{close}
 use Rattle.replay_script.specs.Script.{standing, stands_open, without, dropped, numbered_or, panel_missing, want_fault}
 use Rattle.inspect_world.specs.Stream.{awaited}
 use Rattle.inspect_world.specs.World.{World, Audience, settled}
 use Rattle.inspect_world.specs.RunStates.{RunState, run_step}
-use Rattle.inspect_world.specs.Held.{with_panels, InWorld}
-use Rattle.inspect_world.specs.Links.{Started, came_styles}
+use Rattle.inspect_world.specs.Held.{with_panels}
+use Rattle.inspect_world.specs.Links.{came_styles}
 use Rattle.inspect_world.specs.PanelTexts.{panel_text, panels_after}
-use Rattle.inspect_world.specs.Scripts.{panel_dropped, lacking, has_styles}
+use Rattle.inspect_world.specs.Scripts.{panel_dropped, has_styles}
 use Rattle.inspect_world.proofs.Ends.{world-panels}
 use Rattle.inspect_world.proofs.LinkLemmas.{follows-panels}
 use Rattle.inspect_world.proofs.FetchesFit.{play-line}

@@ -1,7 +1,7 @@
 -- After a settle the numbers of what a front end shows are those of the page and of the messages.
 use Rattle.std.proofs.Common.{◌≡◌, ℕ, suc, ◌+◌, Bool, true, false, not, cond, List}
 use Rattle.std.proofs.Common.{[], ◌∷◌, ◌++◌, length, map, Option, Some, None, Result, Ok, Err}
-use Rattle.std.proofs.Common.{refl, sym, ap, ◌∙◌, subst, arith}
+use Rattle.std.proofs.Common.{refl, sym, ap, ◌∙◌, subst}
 use Rattle.std.specs.Prelude.{⊤}
 use Rattle.std.specs.List.{list_all}
 use Rattle.std.proofs.lemmas.List.{length-map}
@@ -10,7 +10,6 @@ use Rattle.node_tree.specs.Keys.{Spot, spot}
 use Rattle.node_tree.specs.Seen.{Seen, seen_id}
 use Rattle.serde_json.specs.Data.{Data}
 use Rattle.cdp_json.specs.Lookups.{then_ok}
-use Rattle.cdp_messages.specs.declared.down.PauseData.{PauseData}
 use Rattle.cdp_messages.specs.declared.down.ReplyBody.{ReplyBody}
 use Rattle.cdp_messages.specs.Events.{News, set_children, document_updated, attribute_modified, attribute_removed, text_modified}
 use Rattle.cdp_messages.specs.Events.{count_updated, inserted, removed, paused, sheet_added, sheet_changed, sheet_removed}
@@ -22,7 +21,6 @@ use Rattle.client_views.specs.declared.effects.Effect.{Effect}
 use Rattle.client_views.specs.declared.effects.Effect.TheVariants as effect
 use Rattle.dom_objects.specs.Told.{seen_nodes, seen_branch}
 use Rattle.dom_objects.specs.Told as told
-use Rattle.front_mirror.specs.declared.replies.Ask.{Ask}
 use Rattle.front_mirror.specs.declared.replies.Kept.{Kept}
 use Rattle.front_mirror.specs.declared.faults.FrontKind.{FrontKind}
 use Rattle.front_mirror.specs.declared.faults.FrontKind.TheVariants.{NotMessage, UnknownNode, IdTaken, UnknownSheet}
@@ -31,13 +29,13 @@ use Rattle.front_mirror.specs.Sheets.{told_sheet, has_sheet, marked_old, without
 use Rattle.front_mirror.specs.Laws.{KnowsSheets}
 use Rattle.front_mirror.specs.Front.{FrontValue, reply_frame, first_value, take_frame}
 use Rattle.front_mirror.specs.Front.{method_waiting, fetched_sheet, reply_kept, kept_reply}
-use Rattle.front_mirror.specs.Front.{unless_fetch, replied, refused, with_root}
+use Rattle.front_mirror.specs.Front.{unless_fetch, refused, with_root}
 use Rattle.front_mirror.specs.Front.{root_fault, matched_told, with_matched, with_effect, with_body}
 use Rattle.front_mirror.specs.Front.{with_reply, with_fault, with_tree, ToldChange, told_change, at_spot, change_fault, with_change, halted}
 use Rattle.front_mirror.specs.Front.{is_shown, told_sheets, with_news, with_message, seen_pause}
 use Rattle.inspect_world.specs.Fold.{folded, asks_joined}
 use Rattle.inspect_world.specs.Fits.{join}
-use Rattle.inspect_world.specs.ShownReplies.{ShownReply, reply_shown}
+use Rattle.inspect_world.specs.ShownReplies.{reply_shown}
 use Rattle.inspect_world.specs.World.{World, settled}
 use Rattle.inspect_world.specs.RunStates.{RunState, run_step}
 use Rattle.inspect_world.specs.ShownPauses.{pauses_in}

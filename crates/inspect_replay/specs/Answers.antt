@@ -1,5 +1,5 @@
 -- What an answer of the program says of its input, and of what was written.
-use Rattle.std.specs.Prelude.{◌≡◌, ◌^◌, ℕ, Vec, List, [], Bool, true, false, ◌||◌, nat_lt, length, Option, Some, None, Result, Ok, Err, ⊤}
+use Rattle.std.specs.Prelude.{◌≡◌, ℕ, Vec, List, [], Bool, true, false, ◌||◌, nat_lt, length, Option, Some, None, Result, Ok, Err, ⊤}
 use Rattle.std.specs.Io.KnownBytes.{Appends}
 use Rattle.std.specs.declared.alloc.Global.{Global}
 use Rattle.node_tree.specs.Numbers.{max_input, max_line}

@@ -1,5 +1,5 @@
 -- What holds of a run over every link, whatever bytes it gives.
-use Rattle.std.specs.Prelude.{◌≡◌, ◌≤◌, ◌^◌, ℕ, List, [], ◌∷◌, ◌++◌, length, map, codes, All, Bool, true, Option, Some, None, Result, Ok}
+use Rattle.std.specs.Prelude.{◌≡◌, ◌≤◌, ℕ, List, [], ◌∷◌, ◌++◌, length, map, codes, All, Bool, true, Option, Some, None, Result, Ok}
 use Rattle.std.specs.Prelude.{Err, IsOk, OnOk, ⊤}
 use Rattle.std.specs.Io.KnownBytes.{Appends}
 use Rattle.node_tree.specs.Numbers.{sent_when_full}
@@ -10,7 +10,6 @@ use Rattle.front_mirror.specs.declared.faults.FrontFault.{FrontFault}
 use Rattle.front_mirror.specs.declared.panels.PanelKind.{PanelKind}
 use Rattle.front_mirror.specs.Front.{FrontValue}
 use Rattle.front_mirror.specs.Outline.{outline_text, seen_line}
-use Rattle.back_end.specs.States.{State}
 use Rattle.replay_script.specs.Forms.{LineForm}
 use Rattle.replay_script.specs.Script.{numbered_or, panels_after, want_fault, first_refused}
 use Rattle.inspect_world.specs.Links.{Begun, Started, run_started, one_line_more, came_styles, Follows, fold_of}

@@ -1,5 +1,5 @@
 -- Each line is carried out in its turn.
-use Rattle.std.proofs.Common.{◌≡◌, ◌∷◌, ◌+◌, refl, sym, subst, ap, arith, length}
+use Rattle.std.proofs.Common.{◌+◌, refl, ap, arith, length}
 use Rattle.replay_script.specs.Seen.{seen}
 use Rattle.inspect_world.specs.Costs.{lines_cost}
 use Rattle.drill_script.proofs.LineKindLaws.{line-shows}

@@ -1,4 +1,4 @@
-use Rattle.std.proofs.Common.{◌≡◌, true≢false, sym, ◌∙◌, arith}
+use Rattle.std.proofs.Common.{true≢false, sym, ◌∙◌, arith}
 use Rattle.std.proofs.lemmas.Str.Pattern.{starts_char}
 use Rattle.inspect_replay.proofs.WordLemmas.{count_low, count_none, count_read, count_other}
 use Rattle.inspect_replay.proofs.words.count_in.Goals as goal
