@@ -1,5 +1,5 @@
 -- What the moves of a step answer.
-use Rattle.std.proofs.Common.{◌≡◌, ℕ, true, List, [], ◌∷◌, ◌++◌, Option, Some, codes, refl}
+use Rattle.std.proofs.Common.{◌≡◌, ℕ, true, List, [], ◌∷◌, ◌++◌, Option, Some, codes, refl, ap}
 use Rattle.std.specs.List.{flat_map}
 use Rattle.node_binding.specs.Sessions.{Session}
 use Rattle.node_tree.specs.Nodes.{Branch}
@@ -50,14 +50,27 @@ openings-text : (sheet : Option ℕ) (xs : List Showing) (ms : List Move) → Te
 openings-text sheet [] ms h = h
 openings-text sheet (x ∷ xs) ms h = (tt, openings-text sheet xs ms h)
 
+-- further pieces answer nothing
+pieces-answer : (xs : List Showing) → flat_map reply_ids (opening_moves xs) ≡ []
+pieces-answer [] = refl
+pieces-answer (x ∷ xs) = pieces-answer xs
+
+pieces-may : (method : List ℕ) (xs : List Showing) → MayAnswerAll method (opening_moves xs)
+pieces-may method [] = tt
+pieces-may method (x ∷ xs) = (tt, pieces-may method xs)
+
+pieces-text : (sheet : Option ℕ) (xs : List Showing) → TellTextOf sheet (opening_moves xs)
+pieces-text sheet [] = tt
+pieces-text sheet (x ∷ xs) = (tt, pieces-text sheet xs)
+
 -- the DOM agent tells no text of a sheet
 pub outcome-text : (sheet : Option ℕ) (id : ℕ) (o : Outcome Session) → TellTextOf sheet (moves_of id o)
-outcome-text sheet id (shows_root w b) = (tt, tt)
+outcome-text sheet id (shows_root b p) = (tt, pieces-text sheet p.shown)
 outcome-text sheet id (served p body) = openings-text sheet p.shown _ (tt, tt)
 outcome-text sheet id (refused why) = (tt, tt)
 
 pub outcome-answers : (id : ℕ) (o : Outcome Session) → flat_map reply_ids (moves_of id o) ≡ Some id ∷ []
-outcome-answers id (shows_root w b) = refl
+outcome-answers id (shows_root b p) = ap (λ l. Some id ∷ l) (pieces-answer p.shown)
 outcome-answers id (served p body) = openings-answer p.shown _
 outcome-answers id (refused why) = refl
 
@@ -85,6 +98,6 @@ root-asked (ask.GetAttributes id) b e = absurd cc
 root-asked (ask.DescribeNode id serial depth pierce) b e = absurd cc
 
 pub outcome-may : (id : ℕ) (ask : DomAsk) (o : Outcome Session) → IsReplyTo ask o → MayAnswerAll (ask_name ask) (moves_of id o)
-outcome-may id asked (shows_root w b) is = (root-asked asked b is, tt)
+outcome-may id asked (shows_root b p) is = (root-asked asked b is, pieces-may (ask_name asked) p.shown)
 outcome-may id asked (served p body) is = openings-may (ask_name asked) p.shown _ ((is, ask-ends-nothing asked), tt)
 outcome-may id ask (refused why) is = (tt, tt)

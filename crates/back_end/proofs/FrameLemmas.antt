@@ -1,13 +1,16 @@
 -- The step on a frame: the state after it is valid, its moves lead on, and it is answered once.
 use Rattle.std.proofs.Common.{◌≡◌, codes, ℕ, ◌+◌, ◌≤◌, Bool, true, false, not, ◌&&◌, ◌||◌, cond, List, [], ◌∷◌, ◌++◌, length, Option, Some}
-use Rattle.std.proofs.Common.{None, Result, Ok, Err, refl, sym, ◌∙◌, ap, subst, arith}
+use Rattle.std.proofs.Common.{None, unwrap_or, pos, Result, Ok, Err, refl, sym, ◌∙◌, ap, subst, arith}
 use Rattle.std.specs.List.{flat_map}
 use Rattle.serde_json.specs.Data.{Data}
 use Rattle.cdp_json.specs.Kinds.{is_counted, holds_of_some}
 use Rattle.cdp_json.specs.Plain.{HasUtf8}
-use Rattle.node_tree.specs.Nodes.{none, node_count, alone}
-use Rattle.page_tree.specs.Pages.{PageValue, IsValid}
-use Rattle.node_binding.specs.Sessions.{Session, IsSession, is_open, reset}
+use Rattle.node_tree.specs.Nodes.{Nodes, none, node_count, alone}
+use Rattle.node_tree.specs.Levels.{most_told}
+use Rattle.page_tree.specs.Pages.{PageRow, PageValue, IsValid}
+use Rattle.node_binding.specs.Sessions.{Session, IsSession, is_open, reset, document_opened}
+use Rattle.node_binding.specs.Openings.{levels_of, above}
+use Rattle.node_binding.specs.Deals.{capped, dealt, more_told}
 use Rattle.node_binding.proofs.StartLemmas.{count-alone}
 use Rattle.cdp_messages.specs.declared.command.Command.{Command}
 use Rattle.cdp_messages.specs.declared.command.Command.TheVariants.{DomEnable, DomDisable, CssEnable, CssDisable, AskDom, EditDom, AskCss}
@@ -36,6 +39,7 @@ use Rattle.css_agent.specs.EditLaws.{HasEditTexts, css_edit_name}
 use Rattle.dom_agent.specs.Laws.{session_outcome, CanTell, has_depth, IsReplyTo, session_view as seen_by}
 use Rattle.dom_agent.specs.Keepers.{session_keeper}
 use Rattle.dom_agent.specs.Requests.{Outcome, shows_root, served, refused, known_node, named_serial, state_after, moves_of}
+use Rattle.dom_agent.proofs.KnownLemmas.{opened_after}
 use Rattle.dom_agent.proofs.RepliedLemmas.{description-keeps}
 use Rattle.dom_agent.proofs.OutcomeLemmas.{OutcomeGoes, either_ask, root-opened, asks-go, depth-fits, stays_session, draws_few}
 use Rattle.dom_agent.proofs.MoveLemmas.{steps_are_moves, replies_answer}
@@ -118,7 +122,7 @@ was-off false turns h = refl
 goes-unknown : (page : PageValue) (valid : IsValid page) (c : DomAsk) (w : Session) (o : Outcome Session) → IsSession (alone page.tree) w
     → OutcomeGoes page c w o
     → (state_after w o).opened ≡ None → w.opened ≡ None
-goes-unknown page valid c w (shows_root z b) session g h = absurd g
+goes-unknown page valid c w (shows_root b p) session g h = absurd g
 goes-unknown page valid c w (refused why) session g h = h
 goes-unknown page valid c w (served p body) session g h = at w.opened refl where
   at : (o : Option (ℕ → Bool)) → w.opened ≡ o → w.opened ≡ None
@@ -136,7 +140,10 @@ pub unknown-before : (page : PageValue) (ask : DomAsk) (w : Session) → IsValid
     → (state_after w (session_outcome page ask w)).opened ≡ None → w.opened ≡ None
 unknown-before page ask w valid session =
     either_ask (λ c. (state_after w (session_outcome page c w)).opened ≡ None → w.opened ≡ None)
-    (λ depth pierce h. shown-not _ h)
+    (λ depth pierce h. (let d : Option ℕ = levels_of (unwrap_or depth (pos 1)) in
+    let n : Nodes PageRow = alone page.tree in
+    let z : Session = document_opened (capped most_told d) n w in
+    shown-not _ (sym (opened_after n page.tree (dealt more_told most_told d n) (above (capped most_told d) n) z.pushed z.since) ∙ h)))
     (λ c other h. goes-unknown page valid c w (session_outcome page c w) session (asks-go page valid c other w session) h)
     ask
   where
@@ -148,7 +155,7 @@ pub served-is : (ask : DomAsk) (o : Outcome Session) (state : State) → HoldsNo
     → ((state.client.dom_on || turns_on ask) ≡ false → (state_after state.client.session o).opened ≡ None)
     → ((state_after state.client.session o).opened ≡ None → state.client.session.opened ≡ None)
     → IsSession (page_nodes state) (state_after state.client.session o) → HoldsNow (with_client (client_served ask o state.client) state)
-served-is ask (shows_root w b) state is off unknown session = record {
+served-is ask (shows_root b p) state is off unknown session = record {
   page = is.page;
   texts = is.texts;
   sheets = is.sheets;
@@ -182,13 +189,13 @@ served-is ask (refused why) state is off unknown session = record {
 served-view : (ask : DomAsk) (o : Outcome Session) (state : State)
     → seen_by (state_after state.client.session o) state.side.page (sheets_shown state)
     ≡ view_of (with_client (client_served ask o state.client) state)
-served-view ask (shows_root w b) state = refl
+served-view ask (shows_root b p) state = refl
 served-view ask (served p body) state = refl
 served-view ask (refused why) state = refl
 
 served-pushed : (ask : DomAsk) (o : Outcome Session) (state : State)
     → length (client_served ask o state.client).session.pushed ≡ length (state_after state.client.session o).pushed
-served-pushed ask (shows_root w b) state = refl
+served-pushed ask (shows_root b p) state = refl
 served-pushed ask (served p body) state = refl
 served-pushed ask (refused why) state = refl
 
@@ -222,7 +229,7 @@ agent-well id ask state is room small fits on =
 
 agent-recalls : (ask : DomAsk) (o : Outcome Session) (state : State) → HasHistory state
     → Recalls state (with_client (client_served ask o state.client) state) 0 0
-agent-recalls ask (shows_root w b) state history = recalls-same state _ history refl refl (omega arith)
+agent-recalls ask (shows_root b p) state history = recalls-same state _ history refl refl (omega arith)
 agent-recalls ask (served p body) state history = recalls-same state _ history refl refl (omega arith)
 agent-recalls ask (refused why) state history = recalls-same state _ history refl refl (omega arith)
 

@@ -92,7 +92,7 @@ or-false false = refl
 
 -- of an ask that turns nothing on, DOM is as it was
 served-on : (c : DomAsk) (o : Outcome Session) (client : Client) → turns_on c ≡ false → (client_served c o client).dom_on ≡ client.dom_on
-served-on c (shows_root w b) client off = ap (λ t. client.dom_on || t) off ∙ or-false client.dom_on
+served-on c (shows_root b p) client off = ap (λ t. client.dom_on || t) off ∙ or-false client.dom_on
 served-on c (served p body) client off = ap (λ t. client.dom_on || t) off ∙ or-false client.dom_on
 served-on c (refused why) client off = refl
 
@@ -113,22 +113,22 @@ on-after (GetAttributes id) page client on is = still-on (GetAttributes id) page
 on-after (DescribeNode id serial depth pierce) page client on is = still-on (DescribeNode id serial depth pierce) page client on refl is
 
 served-css : (c : DomAsk) (o : Outcome Session) (client : Client) → client.css_on ≡ (client_served c o client).css_on
-served-css c (shows_root w b) client = refl
+served-css c (shows_root b p) client = refl
 served-css c (served p body) client = refl
 served-css c (refused why) client = refl
 
 served-watches : (c : DomAsk) (o : Outcome Session) (client : Client) → client.watched ≡ (client_served c o client).watched
-served-watches c (shows_root w b) client = refl
+served-watches c (shows_root b p) client = refl
 served-watches c (served p body) client = refl
 served-watches c (refused why) client = refl
 
 served-searches : (c : DomAsk) (o : Outcome Session) (client : Client) → client.searches ≡ (client_served c o client).searches
-served-searches c (shows_root w b) client = refl
+served-searches c (shows_root b p) client = refl
 served-searches c (served p body) client = refl
 served-searches c (refused why) client = refl
 
 served-session : (c : DomAsk) (o : Outcome Session) (client : Client) → state_after client.session o ≡ (client_served c o client).session
-served-session c (shows_root w b) client = refl
+served-session c (shows_root b p) client = refl
 served-session c (served p body) client = refl
 served-session c (refused why) client = refl
 

@@ -398,7 +398,7 @@ turns_on ask = turns_dom_on (domains_of (method_of (AskDom ask)))
 
 -- the client after what its DOM agent was asked: one whose ask was refused is as before
 abbrev pub client_served : DomAsk → Outcome Session → Client → Client
-client_served ask (shows_root w b) client = record client { dom_on = client.dom_on || turns_on ask; session = w }
+client_served ask (shows_root b p) client = record client { dom_on = client.dom_on || turns_on ask; session = p.state }
 client_served ask (served p body) client = record client { dom_on = client.dom_on || turns_on ask; session = p.state }
 client_served ask (refused why) client = client
 

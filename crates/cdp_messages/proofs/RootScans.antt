@@ -6,6 +6,7 @@ use Rattle.serde_json.specs.Read.{read, of_json, max_depth}
 use Rattle.cdp_json.specs.Kinds.{is_counted, whole}
 use Rattle.cdp_json.proofs.ReadBack.{tokens-compact_text, read-compact_text}
 use Rattle.node_tree.specs.Nodes.{Branch, alone, height}
+use Rattle.node_tree.specs.Levels.{most_told_root}
 use Rattle.cdp_messages.specs.declared.down.ReplyBody.TheVariants.{Root}
 use Rattle.dom_objects.specs.Told.{Told}
 use Rattle.dom_objects.specs.NodeData.{fits_tree, tree_data}
@@ -19,7 +20,7 @@ use Rattle.json.specs.Token.{Token, begin_object, end_object, key}
 
 pub root_told : (text : List ℕ) (id : ℕ) (tree : Branch Told) → IsUtf8 text
     → tokens text ≡ data_tokens (message_data (reply id (body_data (Root tree)))) → is_counted id ≡ true → fits_tree true tree ≡ true
-    → height (alone tree) ≤ 61 → down_of text ≡ Some (reply id (body_data (Root tree)))
+    → height (alone tree) ≤ most_told_root → down_of text ≡ Some (reply id (body_data (Root tree)))
 root_told text id tree u e c f h =
     let d = message_data (reply id (body_data (Root tree))) in
     let p = reply_plain id (Root tree) c f in

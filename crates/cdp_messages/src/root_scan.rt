@@ -2,7 +2,7 @@
 ghost use Rattle.std.specs.Prelude.{◌≡◌, ◌≤◌, [], Some, true, IfOk, OnOk};
 ghost use Rattle.cdp_json.specs.Kinds.{is_counted};
 ghost use Rattle.node_tree.specs.Nodes.{alone, height};
-ghost use Rattle.node_tree.specs.Levels.{most_levels};
+ghost use Rattle.node_tree.specs.Levels.{most_told_root};
 ghost use Rattle.dom_objects.specs.NodeData.{fits_tree};
 ghost use Rattle.cdp_messages.specs.declared.down.ReplyBody.TheVariants.{Root};
 ghost use Rattle.cdp_messages.specs.Replies.{reply, message_data, body_data, down_of};
@@ -11,10 +11,11 @@ ghost use Rattle.dom_objects.specs.Tokens.{data_tokens};
 use cdp_json::{ScanErr, take_begin_object, take_end_object, take_key};
 use dom_objects::{DownErr, NodeTree, is_counted, scan_node, take_whole_field};
 use json::{Reader, Scratch};
+use node_tree::MOST_TOLD;
 use std::alloc::Global;
 
-// The deepest that nodes may stand: JSON that nests deeper is not read.
-const LEVELS: u64 = 61;
+// The most levels that a document's message tells.
+const LEVELS: u64 = MOST_TOLD + 1;
 
 // That nothing is left.
 fn take_end(reader: &mut Reader<'_>) -> Result<(), ScanErr>
@@ -31,7 +32,7 @@ fn scan_reply(alloc: Global, reader: &mut Reader<'_>) -> Result<(u64, NodeTree),
     ensures read { IfOk result (λ p. reader.old ≡ data_tokens (message_data (reply p.0 (body_data (Root p.1))))) }
     ensures counted { IfOk result (λ p. is_counted p.0 ≡ true) }
     ensures fits { IfOk result (λ p. fits_tree true p.1 ≡ true) }
-    ensures shallow { IfOk result (λ p. height (alone p.1) ≤ most_levels) }
+    ensures shallow { IfOk result (λ p. height (alone p.1) ≤ most_told_root) }
 {
     take_begin_object(reader)?;
     let id = take_whole_field(reader, "id")?;

@@ -4,8 +4,8 @@ use Rattle.std.specs.List.{flat_map}
 use Rattle.std.specs.Option.{option_to_list}
 use Rattle.cdp_json.specs.Kinds.{is_counted, holds_of_some}
 use Rattle.serde_json.specs.Written.{compact_text}
-use Rattle.node_tree.specs.Nodes.{Nodes, none, node, Branch, alone, is_no_node}
-use Rattle.node_tree.specs.Levels.{most_told_root}
+use Rattle.node_tree.specs.Nodes.{Nodes, none, node, Branch, alone, is_no_node, height}
+use Rattle.node_tree.specs.Levels.{most_told, most_told_root}
 use Rattle.node_tree.specs.Keys.{At, has}
 use Rattle.node_tree.specs.Labels.{Label, is_element, has_value}
 use Rattle.node_tree.specs.Names.{is_attribute_name}
@@ -188,13 +188,24 @@ has_named_attribute (sets name value) = is_attribute_name name
 has_named_attribute (drops name) = is_attribute_name name
 has_named_attribute (says value) = true
 
--- one node of that id changes, and the change may be told of it
+-- the nodes that a change tells
+abbrev pub nodes_told : Change → Nodes Seen
+nodes_told (shows kids) = kids
+nodes_told (inserts previous w) = alone w
+nodes_told (removes id) = none
+nodes_told (counts n) = none
+nodes_told (sets name value) = none
+nodes_told (drops name) = none
+nodes_told (says value) = none
+
+-- One node of that id changes, and the change may be told of it: it tells no more levels than a message may.
 pub record ChangesNode (id : ℕ) (c : Change) (v w : Nodes Seen) : Type 0 where
   pub old : Branch Seen
   pub depth : ℕ
   pub is : old.row.id ≡ id
   pub suits : suits_change c old ≡ true
   pub named : has_named_attribute c ≡ true
+  pub low : height (nodes_told c) ≤ most_told
   pub at : At old (changed c old) depth v w
 
 -- the nodes that a pause names
@@ -242,6 +253,7 @@ Moves (added s) v w = (w ≡ record { tree = v.tree; sheets = v.sheets ++ s ∷ 
 Moves (dropped n) v w = (w ≡ record { tree = v.tree; sheets = sheets_without n v.sheets }) × (shows_sheet n v.sheets ≡ true)
 Moves (rewritten n text) v w = (w ≡ record { tree = v.tree; sheets = sheets_with_text n text v.sheets }) × (shows_sheet n v.sheets ≡ true)
 Moves (root id b) v w = (w ≡ record { tree = alone b; sheets = v.sheets }) × (is_counted id ≡ true)
+    × (height (alone b) ≤ most_told_root)
 Moves (texted id n text) v w = (w ≡ v) × (shown_text n v.sheets ≡ Some text) × (is_counted id ≡ true)
 Moves (replied id body) v w = (w ≡ v) × IsPlainReply id body
 Moves (all_off id) v w = (w ≡ record { tree = none; sheets = [] }) × (is_counted id ≡ true)

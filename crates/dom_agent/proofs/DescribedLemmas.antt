@@ -1,5 +1,6 @@
 -- A node that is described is one that a message can tell.
-use Rattle.std.proofs.Common.{◌≡◌, ℕ, suc, ◌+◌, ◌<◌, ◌≤◌, ◌^◌, Bool, true, false, not, ◌&&◌, ◌||◌, cond, Option, Some, ⊎_elim, refl, sym}
+use Rattle.std.proofs.Common.{◌≡◌, ℕ, zero, suc, ◌+◌, ◌<◌, ◌≤◌, ◌^◌, Bool, true, false, not, ◌&&◌, ◌||◌, cond, Option, Some, ⊎_elim, refl}
+use Rattle.std.proofs.Common.{sym}
 use Rattle.std.proofs.Common.{subst, arith, lt-ltb}
 use Rattle.std.specs.Prelude.{⊤}
 use Rattle.std.proofs.lemmas.Bool.{and_parts, and_from, eq-eqb}
@@ -11,7 +12,10 @@ use Rattle.node_tree.specs.Seen.{Hold, Seen, leaf, counted, opened, is_opened}
 use Rattle.node_tree.proofs.NodeLemmas.{width_le-node_count}
 use Rattle.page_tree.specs.Forms.{are_formed, are_named}
 use Rattle.page_tree.specs.Pages.{PageRow, row_label, row_serial, PageValue, IsValid}
+use Rattle.node_tree.specs.Levels.{most_told}
 use Rattle.node_binding.specs.Openings.{less, is_spent}
+use Rattle.node_binding.specs.Deals.{capped, more_told}
+use Rattle.node_binding.proofs.DealLemmas.{capped_some}
 use Rattle.node_binding.specs.Sessions.{Session}
 use Rattle.node_binding.proofs.StartLemmas.{count-alone}
 use Rattle.node_binding.proofs.OpeningLemmas.{self_times}
@@ -29,7 +33,7 @@ use Rattle.dom_agent.specs.Laws.{RowsHaveUtf8, CanTell}
 use Rattle.dom_agent.proofs.StepLemmas.{CanSpell}
 use Rattle.dom_agent.proofs.WritingLemmas.{width-shown_to}
 use Rattle.dom_agent.proofs.TellableLemmas.{Fitting, fitting_row, fitting_later, formed_parts, named_parts, serials_there}
-use Rattle.dom_agent.proofs.TellableLemmas.{document_named_label, tall}
+use Rattle.dom_agent.proofs.TellableLemmas.{document_named_label}
 
 -- ---- what a message can tell of a page
 
@@ -116,14 +120,6 @@ tells-found s (node r c t) x a e =
     at_or_other r.serial s
     (λ here. subst (λ (y : Branch PageRow). AllTell (alone y)) (found_here s r c t x here e) (a.0, a.1, a.2, tt))
     (λ other. ⊎_elim (λ in_c. tells-found s c x a.2 in_c) (λ in_t. tells-found s t x a.3 in_t) (found_later s r c t x other e))
-
-height-found : (s : ℕ) (n : Nodes PageRow) (x : Branch PageRow) → find row_serial s n ≡ Some x → height (alone x) ≤ height n
-height-found s none x e = cc
-height-found s (node r c t) x e =
-    at_or_other r.serial s
-    (λ here. subst (λ (y : Branch PageRow). height (alone y) ≤ height (node r c t)) (found_here s r c t x here e) (omega arith))
-    (λ other. ⊎_elim (λ in_c. omega (arith, height-found s c x in_c)) (λ in_t. omega (arith, height-found s t x in_t))
-    (found_later s r c t x other e))
 
 -- ---- one row
 
@@ -229,19 +225,27 @@ kids_height : (b : Bool) (kids : Nodes Seen) (h : ℕ) → height (told_nodes 0 
 kids_height true kids h e = e
 kids_height false kids h e = omega arith
 
-nodes_height : (levels : Option ℕ) (n : Nodes PageRow) → height (told_nodes 0 (shown_to no_ids levels n)) ≤ height n
-nodes_height levels none = omega arith
-nodes_height levels (node r c t) =
-    let below : height (told_nodes 0 (cond (shows_children levels r) (shown_to no_ids (less levels) c) none)) ≤ height c =
-    kids_height (shows_children levels r) (shown_to no_ids (less levels) c) (height c) (nodes_height (less levels) c) in
-    omega (arith, below, nodes_height levels t)
+-- trees shown to j levels below their roots have one level more
+nodes_height : (j : ℕ) (n : Nodes PageRow) → height (told_nodes 0 (shown_to no_ids (Some j) n)) ≤ suc j
+nodes_height j none = omega arith
+nodes_height zero (node r c t) =
+    let below : height (told_nodes 0 (cond (shows_children (Some 0) r) (shown_to no_ids (Some 0) c) none)) ≤ 0 =
+    none_shown (holds r.label.kind) (shown_to no_ids (Some 0) c) in
+    omega (arith, below, nodes_height zero t)
+  where
+    none_shown : (h : Bool) (kids : Nodes Seen) → height (told_nodes 0 (cond (h && false) kids none)) ≤ 0
+    none_shown true kids = omega arith
+    none_shown false kids = omega arith
+nodes_height (suc j) (node r c t) =
+    let below : height (told_nodes 0 (cond (shows_children (Some (suc j)) r) (shown_to no_ids (Some j) c) none)) ≤ suc j =
+    kids_height (shows_children (Some (suc j)) r) (shown_to no_ids (Some j) c) (suc j) (nodes_height j c) in
+    omega (arith, below, nodes_height (suc j) t)
 
-described_height : (levels : Option ℕ) (x : Branch PageRow) → height (alone (described levels x)) ≤ height (alone x)
-described_height levels x =
-    let below : height (told_nodes 0 (kids_to no_ids levels x)) ≤ height x.children =
-    kids_height (shows_children levels x.row) (shown_to no_ids (less levels) x.children) (height x.children)
-    (nodes_height (less levels) x.children) in
-    omega (arith, below)
+described_height : (j : ℕ) (x : Branch PageRow) → height (alone (described (Some j) x)) ≤ suc j
+described_height zero x =
+    let h = nodes_height zero (alone x) in omega (arith, h)
+described_height (suc j) x =
+    let h = nodes_height (suc j) (alone x) in omega (arith, h)
 
 -- ---- nodes of a page
 
@@ -259,13 +263,16 @@ module _ (page : PageValue) (w : Session) (valid : IsValid page) (s : ℕ) (x : 
   tells : CanTell page w → AllTell (alone x)
   tells can = tells-found s (alone page.tree) x (page-tells page w valid can) found
 
-  -- a node that is described can be told
-  pub described-spells : (levels : Option ℕ) → CanTell page w → CanSpell (ReplyNode (described levels x))
-  described-spells levels can = record {
-    fits = described_fits levels x (tells can);
-    texts = described_utf8 levels x (tells can);
-    levels = omega (arith, described_height levels x, height-found s (alone page.tree) x found, tall page valid can.serials);
-  }
+  -- a node that is described to no more levels than a message tells can be told
+  pub described-spells : (levels : Option ℕ) → CanTell page w → CanSpell (ReplyNode (described (capped most_told levels) x))
+  described-spells levels can =
+      let c = capped_some more_told levels in
+      subst (λ (e : Option ℕ). CanSpell (ReplyNode (described e x))) (sym c.1)
+      (record {
+        fits = described_fits (Some c.0) x (tells can);
+        texts = described_utf8 (Some c.0) x (tells can);
+        levels = omega (arith, described_height c.0 x, c.2);
+      })
 
   -- and so can the attributes of an element
   pub attributes-spell : is_element x.row.label.kind ≡ true → CanTell page w → CanSpell (Attributes x.row.label.attributes)

@@ -38,7 +38,8 @@ use Rattle.client_views.specs.Moves.{has_named_attribute, ChangesNode}
 use Rattle.dom_agent.specs.Requests.{shown}
 use Rattle.dom_agent.specs.Edits.{id_before, unopened}
 use Rattle.dom_agent.proofs.ShownLemmas.{is_root, seen-at}
-use Rattle.dom_agent.proofs.ShownChanges.{Tells, before_after, changes, tells_by, shown-sets, shown-drops, shown-says, shown-counts}
+use Rattle.dom_agent.proofs.ShownChanges.{CanName, Tells, before_after, changes, tells_by, shown-sets, shown-drops, shown-says}
+use Rattle.dom_agent.proofs.ShownChanges.{shown-counts}
 use Rattle.dom_agent.proofs.ShownChanges.{suits-counts, shown-inserts, suits-inserts, shown-removes, suits-removes, kids_tally}
 
 module _ (page : PageValue) (valid : IsValid page) where
@@ -59,7 +60,7 @@ module _ (page : PageValue) (valid : IsValid page) where
     abbrev pub IsTold : ℕ → Change → Nodes PageRow → Type 0
     IsTold serial c m = Tells (session_ids w serial) (knows w n serial) c (view w n) (view w m)
 
-    label_told : (serial : ℕ) (f : Label → Label) (c : Change) → has_named_attribute c ≡ true → is_live serial page.tree ≡ true
+    label_told : (serial : ℕ) (f : Label → Label) (c : Change) → CanName c → is_live serial page.tree ≡ true
         → ((l : Label) → (f l).kind ≡ l.kind)
         → ((o : ℕ → Bool) → (suits_change c (shown o (session_ids w) (node_at serial page.tree)) ≡ true)
         × (shown o (session_ids w) (relabelled f (node_at serial page.tree))
@@ -77,21 +78,22 @@ module _ (page : PageValue) (valid : IsValid page) where
         → IsTold serial (sets name value) (alone (after_tree (SetAttr serial name value) page.tree))
     set_told serial name value can =
         let tests = clear (edit_faults (SetAttr serial name value) page.tree) can.fits in
-        label_told serial (with_attribute name value) (sets name value) (not-false _ tests.1.1.0) (not-false _ tests.0) (λ l. refl)
+        label_told serial (with_attribute name value) (sets name value) (not-false _ tests.1.1.0, omega arith) (not-false _ tests.0)
+        (λ l. refl)
         (λ o. (not-false _ tests.1.0, shown-sets o (session_ids w) (node_at serial page.tree) name value))
 
     pub drop_told : (serial : ℕ) (name : List ℕ) → CanApply page.next (DropAttr serial name) page.tree
         → IsTold serial (drops name) (alone (after_tree (DropAttr serial name) page.tree))
     drop_told serial name can =
         let tests = clear (edit_faults (DropAttr serial name) page.tree) can.fits in
-        label_told serial (without_attribute name) (drops name) (not-false _ tests.1.1.0) (not-false _ tests.0) (λ l. refl)
+        label_told serial (without_attribute name) (drops name) (not-false _ tests.1.1.0, omega arith) (not-false _ tests.0) (λ l. refl)
         (λ o. (not-false _ tests.1.0, shown-drops o (session_ids w) (node_at serial page.tree) name))
 
     pub text_told : (serial : ℕ) (value : List ℕ) → CanApply page.next (SetText serial value) page.tree
         → IsTold serial (says value) (alone (after_tree (SetText serial value) page.tree))
     text_told serial value can =
         let tests = clear (edit_faults (SetText serial value) page.tree) can.fits in
-        label_told serial (with_value value) (says value) refl (not-false _ tests.0) (λ l. refl)
+        label_told serial (with_value value) (says value) (refl, omega arith) (not-false _ tests.0) (λ l. refl)
         (λ o. (not-false _ tests.1.0, shown-says o (session_ids w) (node_at serial page.tree) value))
 
 -- ---- an attach
@@ -157,7 +159,7 @@ module _ (page : PageValue) (valid : IsValid page) (parent before : ℕ) (x : Br
       (counts (width (children_at parent (after_tree (Attach parent before x) page.tree)))) (view w n2) (view w m2)) p_serial
       (subst (λ (c : Nodes PageRow). Tells (session_ids w p.row.serial) (knows w n2 p.row.serial) (counts (width c)) (view w n2)
       (view w m2)) (sym children_after)
-      (tells_by n2 m2 opened_now pushed since (counts (width (put_before before x p.children))) distinct2 refl alike2 at.1
+      (tells_by n2 m2 opened_now pushed since (counts (width (put_before before x p.children))) distinct2 (refl, omega arith) alike2 at.1
       (λ o e. (let shut_p : o p.row.serial ≡ false = ap o p_serial ∙ shut o e in (
         suits-counts o (session_ids w) p (width (put_before before x p.children)) container shut_p,
         shown-counts o (session_ids w) p
@@ -253,7 +255,7 @@ module _ (page : PageValue) (valid : IsValid page) (parent before : ℕ) (x : Br
         (cut o j n2) (cut o j m2)) (sym children_after)
         (subst (λ (s : ℕ). ChangesNode (j s) (inserts (id_before j 0 x.row.serial kids) (unopened (j x.row.serial) x)) (cut o j n2)
         (cut o j m2)) p_serial
-        (changes o j alike2 at.1 (inserts (id_before j 0 x.row.serial kids) (unopened (j x.row.serial) x)) refl
+        (changes o j alike2 at.1 (inserts (id_before j 0 x.row.serial kids) (unopened (j x.row.serial) x)) (refl, omega arith)
         (suits-inserts o j p open_row before x x_apart x_shut once above)
         (shown-inserts o j p open_row before x x_apart x_shut once above) in_view)))
 
@@ -356,7 +358,7 @@ module _ (page : PageValue) (valid : IsValid page) (serial : ℕ) (can : CanAppl
       (counts (width (children_at parent3 (after_tree (Detach serial) page.tree)))) (view w n3) (view w m3)) q_serial
       (subst (λ (c : Nodes PageRow). Tells (session_ids w q.row.serial) (knows w n3 q.row.serial) (counts (width c)) (view w n3)
       (view w m3)) (sym children_left)
-      (tells_by n3 m3 opened_now pushed since (counts (width (taken_out serial q.children))) distinct3 refl alike3 at3.1
+      (tells_by n3 m3 opened_now pushed since (counts (width (taken_out serial q.children))) distinct3 (refl, omega arith) alike3 at3.1
       (λ o e. (let shut_q : o q.row.serial ≡ false = ap o q_serial ∙ shut o e in (
         suits-counts o (session_ids w) q (width (taken_out serial q.children)) container3 shut_q,
         shown-counts o (session_ids w) q
@@ -391,5 +393,5 @@ module _ (page : PageValue) (valid : IsValid page) (serial : ℕ) (can : CanAppl
     detach_removes =
         subst (λ (v : Nodes Seen). ChangesNode (i3 parent3) (removes (i3 serial)) (cut o i3 n3) v) (view_after o i3)
         (subst (λ (s : ℕ). ChangesNode (i3 s) (removes (i3 serial)) (cut o i3 n3) (cut o i3 m3)) q_serial
-        (changes o i3 alike3 at3.1 (removes (i3 serial)) refl (suits-removes o i3 q open_row3 serial there3 once3)
+        (changes o i3 alike3 at3.1 (removes (i3 serial)) (refl, omega arith) (suits-removes o i3 q open_row3 serial there3 once3)
         (shown-removes o i3 q open_row3 serial there3 once3) in_view3))

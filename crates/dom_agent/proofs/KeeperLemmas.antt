@@ -13,7 +13,12 @@ use Rattle.node_binding.specs.Sessions.{Session, IsSession, CanOpen, session_of,
 use Rattle.node_binding.specs.Sessions.{document_opened, grown}
 use Rattle.node_binding.specs.Bindings.{BindingValue, Stands, opened_in, id_in, started, opened_down}
 use Rattle.node_binding.proofs.Places.{times-is_in}
-use Rattle.node_binding.proofs.StartLemmas.{distinct-alone}
+use Rattle.node_binding.specs.Deals.{capped, dealt, more_told}
+use Rattle.node_binding.proofs.DealLemmas.{start-deals, spent-capped}
+use Rattle.node_binding.proofs.SessionLemmas.{IsSession-document_opened}
+use Rattle.node_binding.proofs.StartLemmas.{distinct-alone, root_holds}
+use Rattle.cdp_messages.specs.DomAsks.{fits_ask}
+use Rattle.node_tree.specs.Levels.{most_told}
 use Rattle.node_binding.proofs.StandsLemmas.{Stands-document_opened}
 use Rattle.node_binding.proofs.CutLemmas.{cut-same, ids-stands, cut-stands}
 use Rattle.node_binding.proofs.PairLemmas.{find-there}
@@ -36,9 +41,9 @@ use Rattle.dom_agent.specs.Requests.{of_attributes}
 use Rattle.dom_agent.specs.Requests.{of_description, with_first, first_asked, all_asked, of_query, with_id, with_ids, state_after}
 use Rattle.dom_agent.specs.Requests.{opening_moves, moves_of}
 use Rattle.dom_agent.specs.Laws.{session_outcome, binding_outcome, StaysBound, SameMoves}
-use Rattle.dom_agent.proofs.OpeningsLemmas.{AreOpenings, AreContainers, opened_all, requested-are, pushing-are}
+use Rattle.dom_agent.proofs.OpeningsLemmas.{AreOpenings, AreContainers, opened_all, request-are, pushing-are}
 use Rattle.dom_agent.proofs.StepLemmas.{Goes, goes-pushed}
-use Rattle.dom_agent.proofs.OutcomeLemmas.{containers-page, known-found, root-opened}
+use Rattle.dom_agent.proofs.OutcomeLemmas.{containers-page, known-found, root-opened, document-left}
 use Rattle.dom_agent.proofs.QueryLemmas.{known_query, first-there}
 use Rattle.dom_agent.specs.Queries.{Query, query_of, first_matching, all_matching}
 use Rattle.select_match.specs.Matches.{list_matches}
@@ -190,13 +195,13 @@ module _ (document : Branch PageRow) (distinct : AreDistinct (alone document)) (
 -- ---- commands
 
 abbrev pub AlikeOutcomes : Nodes PageRow → Outcome Session → Outcome BindingValue → Type 0
-AlikeOutcomes n (shows_root z b) (shows_root y d) = Stands n z y × (d ≡ b)
-AlikeOutcomes n (shows_root z b) (served q other) = ⊥
-AlikeOutcomes n (shows_root z b) (refused other) = ⊥
-AlikeOutcomes n (served p body) (shows_root y d) = ⊥
+AlikeOutcomes n (shows_root b p) (shows_root d q) = Stands n p.state q.state × (q.shown ≡ p.shown) × (d ≡ b)
+AlikeOutcomes n (shows_root b p) (served q other) = ⊥
+AlikeOutcomes n (shows_root b p) (refused other) = ⊥
+AlikeOutcomes n (served p body) (shows_root d q) = ⊥
 AlikeOutcomes n (served p body) (served q other) = Stands n p.state q.state × (q.shown ≡ p.shown) × (other ≡ body)
 AlikeOutcomes n (served p body) (refused other) = ⊥
-AlikeOutcomes n (refused why) (shows_root y d) = ⊥
+AlikeOutcomes n (refused why) (shows_root d q) = ⊥
 AlikeOutcomes n (refused why) (served q other) = ⊥
 AlikeOutcomes n (refused why) (refused other) = other ≡ why
 
@@ -235,8 +240,7 @@ module _ (page : PageValue) (valid : IsValid page) where
       let d : Option ℕ = levels_of (unwrap_or depth (pos 1)) in
       let v : InView o x m = there x refl in
       let distinct : AreDistinct m = distinct-alone page valid in
-      let are : AreOpenings m o (requested o d (alone x)) = requested-are m distinct o d (alone x) o
-      (λ s. omega (arith, in_view-tally o x v s, distinct s)) (v, tt) (λ s h. refl) in
+      let are : AreOpenings m o (requested o d (alone x)) = request-are page valid o pushed since session d x v in
       let alike = subst (λ (q : ℕ → Bool). Alike m (all_opened keeper page.tree (requested o d (alone x)) (session_of o pushed since))
       (all_opened binder page.tree (requested q d (alone x)) b))
       (sym (same_tests page.tree distinct (containers-page page valid) o pushed since b stands))
@@ -386,35 +390,46 @@ module _ (page : PageValue) (valid : IsValid page) where
       (λ q is. all_alike (all_matching q.selectors q.root page.tree) o pushed since b session stands
       (root-opened page valid o pushed since session))
 
-  document_alike : (depth : Option ℤ) (pierce : Option Bool) (w : Session) (b : BindingValue) → Stands m w b
+  document_alike : (depth : Option ℤ) (pierce : Option Bool) (w : Session) (b : BindingValue)
+      → is_spent (levels_of (unwrap_or depth (pos 1))) ≡ false → Stands m w b
       → AlikeOutcomes m (session_outcome page (GetDocument depth pierce) w) (binding_outcome page (GetDocument depth pierce) b)
-  document_alike depth pierce w b stands =
+  document_alike depth pierce w b left stands =
       let d : Option ℕ = levels_of (unwrap_or depth (pos 1)) in
-      let after : Session = document_opened d m w in
-      let now : Stands m after (started d m b) = Stands-document_opened d m w b (distinct-alone page valid) stands.next_is in
-      let same = cut-stands m (above d m) after.pushed after.since (started d m b) now in
-      (now, ap (root_of (record { row = record { id = 0; serial = 0; label = page.tree.row.label; hold = leaf }; children = none })) same)
+      let e : Option ℕ = capped most_told d in
+      let after : Session = document_opened e m w in
+      let now : Stands m after (started e m b) = Stands-document_opened e m w b (distinct-alone page valid) stands.next_is in
+      let same = cut-stands m (above e m) after.pushed after.since (started e m b) now in
+      let begun : IsSession m after = IsSession-document_opened e page.tree.row page.tree.children w (distinct-alone page valid)
+      (root_holds page valid) (spent-capped more_told d ∙ left) in
+      let alike = alike-openings m (distinct-alone page valid) page.tree (dealt more_told most_told d m) (above e m) after.pushed
+      after.since (started e m b) begun now (start-deals more_told page d valid left).are in
+      (
+        alike.stands,
+        alike.shown,
+        ap (root_of (record { row = record { id = 0; serial = 0; label = page.tree.row.label; hold = leaf }; children = none })) same,
+      )
 
-  pub outcomes_alike : (c : DomAsk) (w : Session) (b : BindingValue) → IsSession m w → Stands m w b
+  pub outcomes_alike : (c : DomAsk) (w : Session) (b : BindingValue) → fits_ask c ≡ true → IsSession m w → Stands m w b
       → AlikeOutcomes m (session_outcome page c w) (binding_outcome page c b)
-  outcomes_alike (GetDocument depth pierce) w b session stands = document_alike depth pierce w b stands
-  outcomes_alike (RequestChildNodes id depth pierce) w b session stands = request_alike id depth pierce w.opened w.pushed w.since b session
-      stands
-  outcomes_alike (PushByPath path) w b session stands = by_path_alike path w.opened w.pushed w.since b session stands
-  outcomes_alike (PushBySerials serials) w b session stands = by_serials_alike serials w.opened w.pushed w.since b session stands
-  outcomes_alike (QuerySelector id text) w b session stands =
+  outcomes_alike (GetDocument depth pierce) w b fits session stands =
+      document_alike depth pierce w b (document-left depth pierce fits) stands
+  outcomes_alike (RequestChildNodes id depth pierce) w b fits session stands =
+      request_alike id depth pierce w.opened w.pushed w.since b session stands
+  outcomes_alike (PushByPath path) w b fits session stands = by_path_alike path w.opened w.pushed w.since b session stands
+  outcomes_alike (PushBySerials serials) w b fits session stands = by_serials_alike serials w.opened w.pushed w.since b session stands
+  outcomes_alike (QuerySelector id text) w b fits session stands =
       subst (λ (f : Option (Branch PageRow)). AlikeOutcomes m (session_outcome page (QuerySelector id text) w)
       (of_query binder page.tree (first_asked binder page.tree) (query_of f text) b)) (sym (same_known w b stands id))
       (first_queried id text w.opened w.pushed w.since b session stands)
-  outcomes_alike (QuerySelectorAll id text) w b session stands =
+  outcomes_alike (QuerySelectorAll id text) w b fits session stands =
       subst (λ (f : Option (Branch PageRow)). AlikeOutcomes m (session_outcome page (QuerySelectorAll id text) w)
       (of_query binder page.tree (all_asked binder page.tree) (query_of f text) b)) (sym (same_known w b stands id))
       (all_queried id text w.opened w.pushed w.since b session stands)
-  outcomes_alike (GetAttributes id) w b session stands =
+  outcomes_alike (GetAttributes id) w b fits session stands =
       subst (λ (f : Option (Branch PageRow)). AlikeOutcomes m (session_outcome page (GetAttributes id) w)
       (of_attributes binder page.tree f b)) (sym (same_known w b stands id))
       (attributes_alike w b stands (known_node keeper page.tree w (serial_at w m id)))
-  outcomes_alike (DescribeNode id serial depth pierce) w b session stands =
+  outcomes_alike (DescribeNode id serial depth pierce) w b fits session stands =
       subst (λ (f : Option (Branch PageRow)). AlikeOutcomes m (session_outcome page (DescribeNode id serial depth pierce) w)
       (of_description binder page.tree depth f b)) (sym (same_named w b stands id serial))
       (description_alike depth w b stands (known_node keeper page.tree w (named_serial keeper w id serial)))
@@ -423,33 +438,34 @@ module _ (page : PageValue) (valid : IsValid page) where
 
 alike_states : (n : Nodes PageRow) (w : Session) (b : BindingValue) (x : Outcome Session) (y : Outcome BindingValue) → Stands n w b
     → AlikeOutcomes n x y → Stands n (state_after w x) (state_after b y)
-alike_states n w b (shows_root z t) (shows_root y d) stands h = h.0
-alike_states n w b (shows_root z t) (served q other) stands h = absurd h
-alike_states n w b (shows_root z t) (refused other) stands h = absurd h
-alike_states n w b (served p body) (shows_root y d) stands h = absurd h
+alike_states n w b (shows_root t p) (shows_root d q) stands h = h.0
+alike_states n w b (shows_root t p) (served q other) stands h = absurd h
+alike_states n w b (shows_root t p) (refused other) stands h = absurd h
+alike_states n w b (served p body) (shows_root d q) stands h = absurd h
 alike_states n w b (served p body) (served q other) stands h = h.0
 alike_states n w b (served p body) (refused other) stands h = absurd h
-alike_states n w b (refused why) (shows_root y d) stands h = absurd h
+alike_states n w b (refused why) (shows_root d q) stands h = absurd h
 alike_states n w b (refused why) (served q other) stands h = absurd h
 alike_states n w b (refused why) (refused other) stands h = stands
 
 alike_moves : (n : Nodes PageRow) (id : ℕ) (x : Outcome Session) (y : Outcome BindingValue) → AlikeOutcomes n x y
     → moves_of id y ≡ moves_of id x
-alike_moves n id (shows_root z t) (shows_root y d) h = λ i. root id (h.1 i) ∷ []
-alike_moves n id (shows_root z t) (served q other) h = absurd h
-alike_moves n id (shows_root z t) (refused other) h = absurd h
-alike_moves n id (served p body) (shows_root y d) h = absurd h
+alike_moves n id (shows_root t p) (shows_root d q) h = λ i. root id (h.2 i) ∷ opening_moves (h.1 i)
+alike_moves n id (shows_root t p) (served q other) h = absurd h
+alike_moves n id (shows_root t p) (refused other) h = absurd h
+alike_moves n id (served p body) (shows_root d q) h = absurd h
 alike_moves n id (served p body) (served q other) h = λ i. opening_moves (h.1 i) ++ replied id (h.2 i) ∷ []
 alike_moves n id (served p body) (refused other) h = absurd h
-alike_moves n id (refused why) (shows_root y d) h = absurd h
+alike_moves n id (refused why) (shows_root d q) h = absurd h
 alike_moves n id (refused why) (served q other) h = absurd h
 alike_moves n id (refused why) (refused other) h = λ i. failed (record { id = Some id; why = h i }) ∷ []
 
 pub stays_bound : StaysBound
 stays_bound page c w b valid fits session stands =
     alike_states (alone page.tree) w b (session_outcome page c w) (binding_outcome page c b) stands
-    (outcomes_alike page valid c w b session stands)
+    (outcomes_alike page valid c w b fits session stands)
 
 pub same_moves : SameMoves
 same_moves page c w b id valid fits session stands =
-    alike_moves (alone page.tree) id (session_outcome page c w) (binding_outcome page c b) (outcomes_alike page valid c w b session stands)
+    alike_moves (alone page.tree) id (session_outcome page c w) (binding_outcome page c b)
+    (outcomes_alike page valid c w b fits session stands)

@@ -1,13 +1,17 @@
 -- A step is a list of moves, and its reply is one of the command's.
-use Rattle.std.proofs.Common.{◌≡◌, ℕ, ℤ, ◌+◌, ◌≤◌, pos, true, false, List, [], ◌∷◌, length, length-append, Option, unwrap_or, refl, sym}
+use Rattle.std.proofs.Common.{◌≡◌, ℕ, ℤ, ◌+◌, ◌≤◌, pos, true, false, List, [], ◌∷◌, length, Option, unwrap_or, refl, sym}
 use Rattle.std.proofs.Common.{◌∙◌, arith}
 use Rattle.cdp_json.specs.Kinds.{is_counted}
-use Rattle.node_tree.specs.Nodes.{Nodes, Branch, alone, node_count}
+use Rattle.node_tree.specs.Nodes.{Nodes, Branch, alone, node_count, height}
+use Rattle.node_tree.specs.Levels.{most_told, most_told_root}
+use Rattle.node_tree.specs.Seen.{Seen}
 use Rattle.page_tree.specs.Pages.{PageRow, PageValue}
-use Rattle.node_binding.specs.Cuts.{known}
-use Rattle.node_binding.specs.Openings.{levels_of, above}
-use Rattle.node_binding.specs.Sessions.{Session, IsSession, document_opened}
-use Rattle.node_binding.proofs.Known.{length-known}
+use Rattle.node_binding.specs.Openings.{levels_of}
+use Rattle.node_binding.specs.Deals.{capped, dealt, more_told}
+use Rattle.node_binding.specs.Sessions.{Session, IsSession, document_opened, session_ids}
+use Rattle.node_binding.proofs.DealLemmas.{root-low, spent-capped}
+use Rattle.node_binding.proofs.StartLemmas.{distinct-alone, root_holds}
+use Rattle.node_binding.proofs.SessionLemmas.{IsSession-document_opened}
 use Rattle.cdp_messages.specs.declared.dom_ask.DomAsk.{DomAsk}
 use Rattle.cdp_messages.specs.declared.dom_ask.DomAsk.TheVariants.{GetDocument, RequestChildNodes, PushByPath, PushBySerials, QuerySelector}
 use Rattle.cdp_messages.specs.declared.dom_ask.DomAsk.TheVariants.{QuerySelectorAll, GetAttributes, DescribeNode}
@@ -19,10 +23,12 @@ use Rattle.cdp_messages.specs.Laws.{answers}
 use Rattle.client_views.specs.Views.{ShownSheet, View}
 use Rattle.client_views.specs.Moves.{root, replied, failed, tells_view, IsPlainReply, CanBeTold, Course, ends, goes}
 use Rattle.dom_objects.specs.Told.{Told}
-use Rattle.dom_agent.specs.Requests.{Outcome, shows_root, served, refused, state_after, moves_of}
+use Rattle.dom_agent.specs.Requests.{Outcome, shows_root, served, refused, Progress, Showing, all_opened, opening_moves, state_after}
+use Rattle.dom_agent.specs.Requests.{moves_of}
+use Rattle.dom_agent.specs.Keepers.{session_keeper}
 use Rattle.dom_agent.specs.Laws.{session_outcome, CanTell, has_depth, session_view, IsReplyTo, StepsAreMoves, RepliesAnswer}
-use Rattle.dom_agent.proofs.StepLemmas.{CanSay, CanSpell, course-join, goes-few}
-use Rattle.dom_agent.proofs.OutcomeLemmas.{IsOther, either_ask, OutcomeGoes, asks-go, stays_session}
+use Rattle.dom_agent.proofs.StepLemmas.{Goes, CanSay, CanSpell, course-join, goes-few}
+use Rattle.dom_agent.proofs.OutcomeLemmas.{IsOther, either_ask, OutcomeGoes, asks-go, document-left, document-goes, document-few}
 use Rattle.dom_agent.proofs.TellableLemmas.{can_say}
 
 -- the command's reply is no document, and no text of a sheet
@@ -66,7 +72,7 @@ module _ (page : PageValue) (c : DomAsk) (w : Session) (id : ℕ) (sheets : List
     (say : CanSay (alone page.tree) (length w.pushed + node_count (alone page.tree)) sheets) where
   moved : (out : Outcome Session) → TellsNoView c → OutcomeGoes page c w out
       → Course (moves_of id out) (session_view w page sheets) (session_view (state_after w out) page sheets)
-  moved (shows_root z b) other g = absurd g
+  moved (shows_root b p) other g = absurd g
   moved (served p body) other g =
       let few : length p.state.pushed ≤ length w.pushed + node_count (alone page.tree) = goes-few (alone page.tree) w p.state p.shown g.0 in
       course-join (g.0.course _ sheets say few)
@@ -76,12 +82,15 @@ module _ (page : PageValue) (c : DomAsk) (w : Session) (id : ℕ) (sheets : List
       goes (failed _) [] (session_view w page sheets) (session_view w page sheets) (session_view w page sheets) told (refl, small)
       (ends (session_view w page sheets) told)
 
-  document_moved : (depth : Option ℤ) (z : Session) (b : Branch _) → CanBeTold (session_view z page sheets)
-      → session_view z page sheets ≡ record { tree = alone b; sheets = sheets }
-      → Course (root id b ∷ []) (session_view w page sheets) (session_view z page sheets)
-  document_moved depth z b told is =
-      goes (root id b) [] (session_view w page sheets) (session_view z page sheets) (session_view z page sheets)
-      (say w session (omega arith)) (is, small) (ends (session_view z page sheets) told)
+  -- the document, and then further pieces
+  document_moved : (z y : Session) (b : Branch Seen) (xs : List Showing) → Goes (alone page.tree) z y xs
+      → CanBeTold (session_view z page sheets)
+      → session_view z page sheets ≡ record { tree = alone b; sheets = sheets } → height (alone b) ≤ most_told_root
+      → length y.pushed ≤ length w.pushed + node_count (alone page.tree)
+      → Course (root id b ∷ opening_moves xs) (session_view w page sheets) (session_view y page sheets)
+  document_moved z y b xs g told is low few =
+      goes (root id b) (opening_moves xs) (session_view w page sheets) (session_view z page sheets) (session_view y page sheets)
+      (say w session (omega arith)) (is, small, low) (g.course _ sheets say few)
 
 tells_no_view : (c : DomAsk) → IsOther c → TellsNoView c
 tells_no_view (GetDocument depth pierce) other = absurd other
@@ -101,10 +110,15 @@ steps_are_moves page ask w id sheets valid fits session can small can_sheets =
     → (let o = session_outcome page c w in Course (moves_of id o) (session_view w page sheets)
     (session_view (state_after w o) page sheets)))
     (λ depth pierce h. (let d : Option ℕ = levels_of (unwrap_or depth (pos 1)) in
-    let z : Session = document_opened d n w in
-    document_moved page (GetDocument depth pierce) w id sheets session can small say depth z _
-    (say z (stays_session page (GetDocument depth pierce) w valid h session)
-    (omega (arith, length-append w.pushed (known (above d n) n), length-known (above d n) n))) refl))
+    let left = document-left depth pierce h in
+    let z : Session = document_opened (capped most_told d) n w in
+    let p : Progress Session = all_opened (session_keeper n) page.tree (dealt more_told most_told d n) z in
+    let g = document-goes page valid d left w in
+    let few = document-few page valid d left w in
+    document_moved page (GetDocument depth pierce) w id sheets session can small say z p.state _ p.shown g
+    (say z (IsSession-document_opened (capped most_told d) page.tree.row page.tree.children w (distinct-alone page valid)
+    (root_holds page valid) (spent-capped more_told d ∙ left)) (omega (arith, g.longer, few))) refl
+    (root-low more_told page d (session_ids z) valid) few))
     (λ c other h. moved page c w id sheets session can small say (session_outcome page c w) (tells_no_view c other)
     (asks-go page valid c other w session))
     ask fits
@@ -112,7 +126,7 @@ steps_are_moves page ask w id sheets valid fits session can small can_sheets =
 -- ---- the reply
 
 answered : (page : PageValue) (c : DomAsk) (w : Session) (out : Outcome Session) → OutcomeGoes page c w out → IsReplyTo c out
-answered page c w (shows_root z b) g = absurd g
+answered page c w (shows_root b p) g = absurd g
 answered page c w (served p body) g = g.2
 answered page c w (refused why) g = tt
 

@@ -1,11 +1,11 @@
--- What a request makes known, in document order.
+-- What openings make known.
 use Rattle.std.proofs.Common.{◌≡◌, ℕ, ◌+◌, ◌<◌, ◌≤◌, ◌==◌, Bool, true, false, cond, not, ◌&&◌, ◌||◌, List, [], ◌∷◌, ◌++◌, append-nil}
 use Rattle.std.proofs.Common.{append_assoc, Option, refl, sym, ap, ◌∙◌, arith}
 use Rattle.std.specs.List.{filter}
 use Rattle.node_tree.specs.Nodes.{Nodes, none, node, Branch, alone}
 use Rattle.node_tree.specs.Keys.{tally}
 use Rattle.node_tree.specs.Labels.{holds}
-use Rattle.page_tree.specs.Pages.{PageRow, row_serial}
+use Rattle.page_tree.specs.Pages.{PageRow, PageValue, IsValid}
 use Rattle.node_binding.specs.Counts.{times, stands_in}
 use Rattle.node_binding.specs.Cuts.{opens, known, shown_anew}
 use Rattle.node_binding.specs.Openings.{less, is_spent, containers_within, levelled, opened_also, is_unopened, is_closed}
@@ -18,9 +18,11 @@ use Rattle.node_binding.proofs.OpeningLemmas.{AreDistinct, goes_on, self_times, 
 use Rattle.node_binding.proofs.AnewLemmas.{anew-same, same_part, anew-opened, unopened-at, closed_below, is_opened_row, and-first}
 use Rattle.node_binding.proofs.AnewLemmas.{and-second}
 use Rattle.node_binding.proofs.OpenedLemmas.{IsSession-opened}
-use Rattle.node_binding.proofs.InViewLemmas.{InView, root, child, later, in_view-tally}
+use Rattle.node_binding.proofs.InViewLemmas.{InView, root, child, later, opened-grows}
+use Rattle.node_binding.proofs.StartLemmas.{distinct-alone}
 use Rattle.dom_agent.specs.Keepers.{session_keeper}
-use Rattle.dom_agent.specs.Requests.{Opening, requested, all_opened}
+use Rattle.dom_agent.specs.Requests.{Opening, all_opened}
+use Rattle.dom_agent.specs.Sets.{known_in_turn}
 use Rattle.dom_agent.proofs.OpeningsLemmas.{AreOpenings}
 
 -- ---- the new nodes are those that are known and were not
@@ -143,102 +145,18 @@ module _ (n : Nodes PageRow) (document : Branch PageRow) where
       (is_in-times (known o n) x.node.row.serial can.known_now) can.shut can.container session.opened_set.closed)
       ∙ ap (λ l. levelled (less x.levels) x.node.children ++ l) (anew-all xs p (pushed ++ shown_anew o p n) since distinct are.2 after)
 
--- ---- what a request makes known, in document order
+-- ---- what openings make known, one after another
 
-same_count : (v : Bool) (a b : ℕ) → a ≡ b → (v || not (a == 0)) ≡ (v || not (b == 0))
-same_count v a b e = ap (λ m. v || not (m == 0)) e
-
-or_nothing : (v : Bool) → (v || false) ≡ v
-or_nothing true = refl
-or_nothing false = refl
-
-module _ (o q : ℕ → Bool) where
-  -- q is o and the containers at a distance below d
-  abbrev pub Adds : Option ℕ → Nodes PageRow → Type 0
-  Adds d n = (s : ℕ) → 0 < tally row_serial s n → q s ≡ (o s || stands_in s (containers_within d n))
-
-  one_tree : (d : Option ℕ) (r : PageRow) (c : Nodes PageRow) (g h l a b : Bool) → (h && not l) ≡ g → o r.serial ≡ a → q r.serial ≡ b
-      → (g ≡ true → a ≡ true → shown_anew o q c ≡ all_levelled (requested o (less d) c))
-      → (g ≡ true → a ≡ false → (b ≡ true) × (known q c ≡ levelled (less d) c))
-      → (g ≡ false → (a ≡ b) × (shown_anew o q c ≡ []))
-      → cond (cond h a false) (shown_anew o q c) (cond (cond h b false) (known q c) [])
-      ≡ all_levelled (cond g (cond a (requested o (less d) c) (record { levels = d; node = record { row = r; children = c } } ∷ [])) [])
-  one_tree d r c true h l true b g_is a_is b_is was now apart = container h l g_is (was refl refl)
-    where
-      container : (h l : Bool) → (h && not l) ≡ true → shown_anew o q c ≡ all_levelled (requested o (less d) c)
-          → cond (cond h true false) (shown_anew o q c) (cond (cond h b false) (known q c) []) ≡ all_levelled (requested o (less d) c)
-      container true l e f = f
-      container false l e f = cc
-  one_tree d r c true h l false b g_is a_is b_is was now apart =
-      let opened = now refl refl in
-      container h l g_is ∙ ap (λ v. cond v (known q c) []) opened.0 ∙ opened.1 ∙ sym (append-nil (levelled (less d) c))
-    where
-      container : (h l : Bool) → (h && not l) ≡ true
-          → cond (cond h false false) (shown_anew o q c) (cond (cond h b false) (known q c) []) ≡ cond b (known q c) []
-      container true l e = refl
-      container false l e = cc
-  one_tree d r c false h l a b g_is a_is b_is was now apart =
-      let same = apart refl in same_part (cond h a false) (cond h b false) (shown_anew o q c) (known q c)
-      (ap (λ v. cond h v false) same.0) same.1
-
-  pub anew-requested : (d : Option ℕ) (n : Nodes PageRow) → AreDistinct n → is_closed o n ≡ true → Adds d n
-      → shown_anew o q n ≡ all_levelled (requested o d n)
-  anew-requested d none distinct closed adds = refl
-  anew-requested d (node r c t) distinct closed adds =
-      let x : Branch PageRow = record { row = r; children = c } in
-      let first : List Opening = cond (goes_on d r)
-      (cond (o r.serial) (requested o (less d) c) (record { levels = d; node = x } ∷ [])) [] in
-      let in_c : (s : ℕ) → 0 < tally row_serial s c
-      → q s ≡ (o s || not (cond {A = ℕ} (goes_on d r) (times s (containers_within (less d) c)) 0 == 0)) = λ s h.
-      adds s (omega arith) ∙ same_count (o s) _ _ (in_children d r c t distinct s h) in
-      let at_r : q r.serial ≡ (o r.serial || not (cond {A = ℕ} (goes_on d r) 1 0 == 0)) = adds r.serial
-      (omega (arith, self_times r.serial)) ∙ same_count (o r.serial) _ _ (at_root d r c t distinct) in
-      let distinct_c : AreDistinct c = λ s. omega (arith, distinct s) in
-      let unopened : o r.serial ≡ false
-      → is_unopened o c ≡ true = λ e. ap (λ v. cond v (is_closed o c) (is_unopened o c)) (sym e) ∙ and-first
-      (cond (o r.serial) (is_closed o c) (is_unopened o c)) (is_closed o t) closed in
-      ap (λ l. l ++ shown_anew o q t)
-      (one_tree d r c (goes_on d r) (holds r.label.kind) (is_spent d) (o r.serial) (q r.serial) refl refl refl
-      (λ g a. anew-requested (less d) c distinct_c (closed_below (o r.serial) (is_closed o c) (is_unopened o c) (is_closed o t) a closed)
-      (λ s h. in_c s h ∙ ap (λ v. o s || not (cond {A = ℕ} v (times s (containers_within (less d) c)) 0 == 0)) g))
-      (λ g a. (
-        at_r ∙ ap (λ v. v || not (cond {A = ℕ} (goes_on d r) 1 0 == 0)) a ∙ ap
-            (λ v. not (cond {A = ℕ} v 1 0 == 0)) g,
-        known-levelled q (less d) c distinct_c
-            (λ s h. in_c s h ∙ ap (λ v. v || not (cond {A = ℕ} (goes_on d r) (times s (containers_within (less d) c)) 0 == 0))
-            (unopened-at o c (unopened a) s h) ∙ ap (λ v. not (cond {A = ℕ} v (times s (containers_within (less d) c)) 0 == 0)) g),
-      ))
-      (λ g. (
-        sym (at_r ∙ ap (λ v. o r.serial || not (cond {A = ℕ} v 1 0 == 0)) g ∙ or_nothing (o r.serial)),
-        anew-same o q c
-            (λ s h. sym (in_c s h ∙ ap (λ v. o s || not (cond {A = ℕ} v (times s (containers_within (less d) c)) 0 == 0)) g ∙ or_nothing
-            (o s))),
-      )))
-      ∙ ap (λ l. all_levelled first ++ l)
-      (anew-requested d t (λ s. omega (arith, distinct s))
-      (and-second (cond (o r.serial) (is_closed o c) (is_unopened o c)) (is_closed o t) closed)
-      (λ s h. adds s (omega arith) ∙ same_count (o s) _ _ (in_rest d r c t distinct s h)))
-      ∙ sym (all_levelled-append first (requested o d t))
-
-  module _ (x : Branch PageRow) (outside : (s : ℕ) → tally row_serial s (alone x) ≡ 0 → o s ≡ q s) where
-    -- what becomes known is below x
-    pub anew-within : {n : Nodes PageRow} → InView o x n → AreDistinct n → shown_anew o q n ≡ shown_anew o q (alone x)
-    anew-within (root t) distinct =
-        ap (λ l. cond (opens o x.row) (shown_anew o q x.children) (cond (opens q x.row) (known q x.children) []) ++ l)
-        (anew-same o q t (λ s h. outside s (omega (arith, distinct s))))
-    anew-within (child r c t e v) distinct =
-        let rest : shown_anew o q t ≡ [] = anew-same o q t (λ s h. outside s (omega (arith, distinct s, in_view-tally o x v s))) in
-        ap (λ l. cond (opens o r) (shown_anew o q c) (cond (opens q r) (known q c) []) ++ l) rest
-        ∙ append-nil (cond (opens o r) (shown_anew o q c) (cond (opens q r) (known q c) []))
-        ∙ ap (λ b. cond b (shown_anew o q c) (cond (opens q r) (known q c) [])) e
-        ∙ anew-within v (λ s. omega (arith, distinct s))
-    anew-within (later r c t v) distinct =
-        let row : opens o r ≡ opens q r = ap (λ b. cond (holds r.label.kind) b false)
-        (outside r.serial (omega (arith, distinct r.serial, in_view-tally o x v r.serial, self_times r.serial))) in
-        ap (λ l. l ++ shown_anew o q t)
-        (same_part (opens o r) (opens q r) (shown_anew o q c) (known q c) row
-        (anew-same o q c (λ s h. outside s (omega (arith, distinct s, in_view-tally o x v s)))))
-        ∙ anew-within v (λ s. omega (arith, distinct s))
+-- by each those that are known and were not
+pub known-in-turn : (page : PageValue) → IsValid page → (xs : List Opening) (o : ℕ → Bool) (pushed : List ℕ) (since : ℕ)
+    → anew_all (alone page.tree) o xs ≡ known_in_turn page xs (session_of o pushed since)
+known-in-turn page valid [] o pushed since = refl
+known-in-turn page valid (x ∷ xs) o pushed since =
+    let n : Nodes PageRow = alone page.tree in
+    let p : ℕ → Bool = opened_also x.levels x.node o in
+    ap (λ l. l ++ anew_all n p xs) (anew-filter o p (opened-grows o x.levels x.node) n (distinct-alone page valid))
+    ∙ ap (λ l. filter (λ s. not (stands_in s (known o n))) (known p n) ++ l)
+    (known-in-turn page valid xs p (pushed ++ shown_anew o p n) since)
 
 pub closed-in_view : (o : ℕ → Bool) (x : Branch PageRow) {n : Nodes PageRow} → InView o x n → is_closed o n ≡ true
     → is_closed o (alone x) ≡ true

@@ -1,6 +1,6 @@
 -- What a request and a push open.
-use Rattle.std.proofs.Common.{◌≡◌, ℕ, zero, suc, ◌+◌, ◌<◌, ◌≤◌, Bool, true, false, not, ◌||◌, ◌==◌, cond, List, [], ◌∷◌, ◌++◌, map, reverse}
-use Rattle.std.proofs.Common.{append_assoc, append-nil, Option, Some, None, refl, sym, ap, ◌∙◌, subst, inl, inr, arith}
+use Rattle.std.proofs.Common.{◌≡◌, ℕ, zero, suc, ◌+◌, ◌<◌, ◌≤◌, Bool, true, false, not, ◌&&◌, ◌||◌, ◌==◌, cond, List, [], ◌∷◌, ◌++◌, map}
+use Rattle.std.proofs.Common.{reverse, append_assoc, append-nil, Option, Some, None, refl, sym, ap, ◌∙◌, subst, inl, inr, arith}
 use Rattle.std.proofs.lemmas.Bool.{false≢true}
 use Rattle.std.proofs.lemmas.List.{map-append, reverse-append, reverse-reverse}
 use Rattle.std.specs.List.{filter}
@@ -8,7 +8,10 @@ use Rattle.node_tree.specs.Nodes.{Nodes, none, node, Branch, alone, from, tree_a
 use Rattle.node_tree.specs.Keys.{has, tally}
 use Rattle.node_tree.proofs.NodeLemmas.{from-zero}
 use Rattle.node_tree.proofs.KeyLemmas.{tally_cases, has-absent}
+use Rattle.node_tree.specs.Labels.{holds}
 use Rattle.page_tree.specs.Pages.{PageRow, row_serial}
+use Rattle.node_binding.specs.Openings.{less, is_spent}
+use Rattle.node_binding.specs.Deals.{deal, more_told}
 use Rattle.dom_agent.specs.Requests.{Opening, requested, ancestors_down, pushing}
 use Rattle.page_tree.proofs.CursorLemmas.{from-next}
 
@@ -33,6 +36,18 @@ pub request_end : (o : ℕ → Bool) (d : Option ℕ) (left : Nodes PageRow) (be
     → before ++ requested o d left ≡ all → before ≡ all
 request_end o d left before all ended was =
     sym (append-nil before) ∙ ap (λ m. before ++ requested o d m) (sym ended) ∙ was
+
+-- a container that is reached and not opened, by its deal
+pub request_dealt : (o : ℕ → Bool) (d : Option ℕ) (x : Branch PageRow) (reached : Bool) (old new : List Opening)
+    → reached ≡ (holds x.row.label.kind && not (is_spent d)) → reached ≡ true → o x.row.serial ≡ false → new ≡ old ++ deal more_told d x
+    → new ≡ old ++ requested o d (alone x)
+request_dealt o d x reached old new is on shut dealt =
+    dealt
+    ∙ ap (λ l. old ++ l)
+    (sym (append-nil (cond (holds x.row.label.kind && not (is_spent d))
+    (cond (o x.row.serial) (requested o (less d) x.children) (deal more_told d x)) [])
+    ∙ ap (λ g. cond g (cond (o x.row.serial) (requested o (less d) x.children) (deal more_told d x)) []) (sym is ∙ on)
+    ∙ ap (λ b. cond b (requested o (less d) x.children) (deal more_told d x)) shut))
 
 -- ---- ancestors
 

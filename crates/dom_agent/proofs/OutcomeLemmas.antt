@@ -5,6 +5,7 @@ use Rattle.std.proofs.Common.{lt-ltb}
 use Rattle.std.proofs.lemmas.Bool.{and_parts, and_from}
 use Rattle.std.specs.Prelude.{⊤}
 use Rattle.node_tree.specs.Nodes.{Nodes, none, node, Branch, alone, node_count, map_rows, is_no_node}
+use Rattle.node_tree.specs.Levels.{most_told}
 use Rattle.node_tree.specs.Keys.{has, find}
 use Rattle.node_tree.specs.Labels.{is_element, holds, is_formed_label}
 use Rattle.node_tree.proofs.KeyLemmas.{found_key}
@@ -13,7 +14,9 @@ use Rattle.page_tree.specs.Pages.{PageRow, PageValue, IsValid, row_serial, row_l
 use Rattle.node_binding.specs.Counts.{times}
 use Rattle.node_binding.specs.Cuts.{known}
 use Rattle.node_binding.specs.Openings.{levels_of, is_spent, above}
-use Rattle.node_binding.specs.Sessions.{Session, IsSession, session_of, session_ids, serial_at}
+use Rattle.node_binding.specs.Sessions.{Session, IsSession, session_of, session_ids, serial_at, document_opened}
+use Rattle.node_binding.specs.Deals.{capped, dealt, more_told}
+use Rattle.node_binding.proofs.DealLemmas.{asked-pieces, dealt-pieces, start-deals, spent-capped}
 use Rattle.node_binding.proofs.Known.{length-known}
 use Rattle.node_binding.proofs.StartLemmas.{root_holds, distinct-alone}
 use Rattle.node_binding.proofs.SessionLemmas.{IsSession-document_opened}
@@ -30,17 +33,17 @@ use Rattle.cdp_messages.specs.Replies.{fits_body}
 use Rattle.dom_agent.specs.Keepers.{Keeper, session_keeper}
 use Rattle.dom_agent.specs.Paths.{node_at_path}
 use Rattle.dom_agent.specs.Requests.{Outcome, shows_root, served, refused, Progress, Pushes, requested, known_node, named_serial}
-use Rattle.dom_agent.specs.Requests.{of_children}
+use Rattle.dom_agent.specs.Requests.{of_children, all_opened}
 use Rattle.dom_agent.specs.Requests.{of_path, of_attributes, of_description, only_replied, with_first, first_asked, all_asked, of_query}
 use Rattle.dom_agent.specs.Requests.{with_id, with_ids, all_pushed, pushed as push_of, state_after}
 use Rattle.dom_agent.specs.Described.{described}
 use Rattle.dom_agent.specs.Queries.{Query, query_of, first_matching, all_matching}
 use Rattle.cdp_messages.specs.declared.command.Why.{Why}
 use Rattle.dom_agent.specs.Laws.{session_outcome, CanTell, has_depth, StaysSession, DrawsFew}
-use Rattle.dom_agent.proofs.OpeningsLemmas.{AreContainers, requested-are}
+use Rattle.dom_agent.proofs.OpeningsLemmas.{AreContainers, request-are}
 use Rattle.dom_agent.proofs.DescribedLemmas.{described-spells, attributes-spell}
 use Rattle.dom_agent.proofs.StepLemmas.{Goes, CanSpell, goes-none, goes-few, goes-openings, goes-pushed, goes-all_pushed, is_small}
-use Rattle.dom_agent.proofs.StepLemmas.{ids-below}
+use Rattle.dom_agent.proofs.StepLemmas.{ids-below, length-known_by}
 
 -- ---- depths
 
@@ -102,7 +105,7 @@ containers-page page valid = (λ s there. root_holds page valid, containers-form
 
 -- what is served goes from the session as it was, and the reply is one of the command's, and no document
 abbrev pub OutcomeGoes : PageValue → DomAsk → Session → Outcome Session → Type 0
-OutcomeGoes page c w (shows_root z b) = ⊥
+OutcomeGoes page c w (shows_root b p) = ⊥
 OutcomeGoes page c w (served p body) = Goes (alone page.tree) w p.state p.shown × (CanTell page w → CanSpell body)
     × (answers (ask_name c) body ≡ true)
 OutcomeGoes page c w (refused why) = Unit {0}
@@ -140,8 +143,8 @@ module _ (page : PageValue) (valid : IsValid page) where
       let v : InView o x n = there x refl in (
         goes-openings n (distinct-alone page valid) page.tree
             (requested o (levels_of (unwrap_or depth (pos 1))) (alone x)) o pushed since session
-            (requested-are n (distinct-alone page valid) o (levels_of (unwrap_or depth (pos 1))) (alone x) o
-            (λ s. omega (arith, in_view-tally o x v s, distinct-alone page valid s)) (v, tt) (λ s h. refl)),
+            (request-are page valid o pushed since session (levels_of (unwrap_or depth (pos 1))) x v)
+            (asked-pieces more_told o (levels_of (unwrap_or depth (pos 1))) (alone x)),
         λ can. number_spells Nothing refl tt refl,
         one,
       )
@@ -329,29 +332,56 @@ depth-fits (DescribeNode id serial depth pierce) fits = refl
 
 goes_session : (page : PageValue) (c : DomAsk) (w : Session) (out : Outcome Session) → IsSession (alone page.tree) w
     → OutcomeGoes page c w out → IsSession (alone page.tree) (state_after w out)
-goes_session page c w (shows_root z b) session g = absurd g
+goes_session page c w (shows_root b p) session g = absurd g
 goes_session page c w (served p body) session g = g.0.session
 goes_session page c w (refused why) session g = session
 
 goes_few : (page : PageValue) (c : DomAsk) (w : Session) (out : Outcome Session) → OutcomeGoes page c w out
     → length (state_after w out).pushed ≤ length w.pushed + node_count (alone page.tree)
-goes_few page c w (shows_root z b) g = absurd g
+goes_few page c w (shows_root b p) g = absurd g
 goes_few page c w (served p body) g = goes-few (alone page.tree) w p.state p.shown g.0
 goes_few page c w (refused why) g = omega arith
+
+-- what further pieces of the document come to, from the session in which the first is opened
+pub document-goes : (page : PageValue) → IsValid page → (d : Option ℕ) → is_spent d ≡ false → (w : Session)
+    → (let z = document_opened (capped most_told d) (alone page.tree) w in
+    let p = all_opened (session_keeper (alone page.tree)) page.tree (dealt more_told most_told d (alone page.tree)) z in
+    Goes (alone page.tree) z p.state p.shown)
+document-goes page valid d left w =
+    let n : Nodes PageRow = alone page.tree in
+    let z : Session = document_opened (capped most_told d) n w in
+    let begun : IsSession n z = IsSession-document_opened (capped most_told d) page.tree.row page.tree.children w
+    (distinct-alone page valid) (root_holds page valid) (spent-capped more_told d ∙ left) in
+    goes-openings n (distinct-alone page valid) page.tree (dealt more_told most_told d n) (above (capped most_told d) n) z.pushed z.since
+    begun (start-deals more_told page d valid left).are (dealt-pieces more_told most_told d n)
+
+-- these draw no more ids than the page has nodes
+pub document-few : (page : PageValue) → IsValid page → (d : Option ℕ) → is_spent d ≡ false → (w : Session)
+    → (let z = document_opened (capped most_told d) (alone page.tree) w in
+    length (all_opened (session_keeper (alone page.tree)) page.tree (dealt more_told most_told d (alone page.tree)) z).state.pushed
+    ≤ length w.pushed + node_count (alone page.tree))
+document-few page valid d left w =
+    let n : Nodes PageRow = alone page.tree in
+    let z : Session = document_opened (capped most_told d) n w in
+    let p : Progress Session = all_opened (session_keeper n) page.tree (dealt more_told most_told d n) z in
+    omega (
+      arith,
+      (document-goes page valid d left w).counts,
+      length-known_by p.state.opened n,
+      length-append w.pushed (known (above (capped most_told d) n) n),
+    )
 
 pub stays_session : StaysSession
 stays_session page ask w valid fits session =
     either_ask (λ c. has_depth c ≡ true → IsSession (alone page.tree) (state_after w (session_outcome page c w)))
-    (λ depth pierce h. IsSession-document_opened (levels_of (unwrap_or depth (pos 1))) page.tree.row page.tree.children w
-    (distinct-alone page valid) (root_holds page valid) (document-left depth pierce h))
+    (λ depth pierce h. (document-goes page valid (levels_of (unwrap_or depth (pos 1))) (document-left depth pierce h) w).session)
     (λ c other h. goes_session page c w (session_outcome page c w) session (asks-go page valid c other w session))
     ask fits
 
 pub draws_few : DrawsFew
 draws_few page ask w valid fits session =
     let n : Nodes PageRow = alone page.tree in
-    either_ask (λ c. length (state_after w (session_outcome page c w)).pushed ≤ length w.pushed + node_count n)
-    (λ depth pierce. (let d : Option ℕ = levels_of (unwrap_or depth (pos 1)) in omega
-    (arith, length-append w.pushed (known (above d n) n), length-known (above d n) n)))
-    (λ c other. goes_few page c w (session_outcome page c w) (asks-go page valid c other w session))
-    ask
+    either_ask (λ c. fits_ask c ≡ true → length (state_after w (session_outcome page c w)).pushed ≤ length w.pushed + node_count n)
+    (λ depth pierce h. document-few page valid (levels_of (unwrap_or depth (pos 1))) (document-left depth pierce h) w)
+    (λ c other h. goes_few page c w (session_outcome page c w) (asks-go page valid c other w session))
+    ask fits

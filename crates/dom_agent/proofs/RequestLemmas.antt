@@ -1,6 +1,7 @@
 -- The children of a known node are asked for.
 use Rattle.std.proofs.Common.{◌≡◌, ℕ, ◌+◌, ◌<◌, ◌≤◌, ◌^◌, List, [], ◌∷◌, ◌++◌, All, sum_by, Option, Some, None, unwrap_or, ℤ, pos, sym, ap}
 use Rattle.std.proofs.Common.{◌∙◌, subst, arith}
+use Rattle.std.proofs.Math.Nat.{mul-le-mul_left}
 use Rattle.node_tree.specs.Nodes.{Branch, alone, node_count}
 use Rattle.page_tree.specs.Pages.{PageRow, PageValue, IsValid}
 use Rattle.node_binding.specs.Openings.{levels_of}
@@ -29,13 +30,12 @@ module _ (page : PageValue) (valid : IsValid page) (b : BindingValue) (depth : O
 
   pub request_room : b.next < 2 ^ 52 → b.next + sum_by below os < 2 ^ 63
   request_room room =
+      let few : node_count (alone x) ≤ 100001 = omega (arith, known_count page.tree b s x (sym found), count-alone page valid) in
       omega (
         arith,
         ap (sum_by below) listed,
         requested_count (opened_in b) levels (alone x),
-        known_count page.tree b s x
-            (sym found),
-        count-alone page valid,
+        mul-le-mul_left (node_count (alone x)) few,
       )
 
   pub request_known : (b1 : BindingValue) → b1 ≡ (all_opened (binding_keeper (alone page.tree)) page.tree os b).state

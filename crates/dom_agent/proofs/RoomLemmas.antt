@@ -1,5 +1,5 @@
 -- Only containers are opened, and the ids do not run out.
-use Rattle.std.proofs.Common.{◌≡◌, ℕ, suc, ◌+◌, ◌*◌, ◌<◌, ◌≤◌, ◌^◌, Bool, true, false, not, ◌&&◌, ◌||◌, cond, List, [], ◌∷◌, All, map}
+use Rattle.std.proofs.Common.{◌≡◌, ℕ, zero, suc, ◌+◌, ◌*◌, ◌<◌, ◌≤◌, ◌^◌, Bool, true, false, not, ◌&&◌, ◌||◌, cond, List, [], ◌∷◌, All, map}
 use Rattle.std.proofs.Common.{sum_by, Option, Some, refl, arith}
 use Rattle.std.proofs.Math.Nat.{mul-le-mul_left}
 use Rattle.std.proofs.lemmas.List.Elements.{All-nil, All-cons, All-head, All-tail, All-append}
@@ -12,6 +12,7 @@ use Rattle.node_tree.specs.declared.Kind.{Kind}
 use Rattle.page_tree.specs.Forms.{are_formed, may_stand}
 use Rattle.page_tree.specs.Pages.{PageRow, row_serial, row_label, PageValue, IsValid}
 use Rattle.node_binding.specs.Openings.{less, is_spent}
+use Rattle.node_binding.specs.Deals.{capped, dealt, deal, more_told}
 use Rattle.node_binding.proofs.StartLemmas.{count-alone, root_holds}
 use Rattle.dom_agent.specs.Requests.{Opening, requested, ancestors_down, pushing}
 use Rattle.dom_agent.specs.Openings.{IsOfContainer}
@@ -22,42 +23,97 @@ below x = node_count x.node.children
 
 -- ---- by a request
 
-first_containers : (g left open_now : Bool) (x : Opening) (xs : List Opening) → (g ≡ true → IsOfContainer x) → All IsOfContainer xs
-    → All IsOfContainer (cond (g && left) (cond open_now xs (x ∷ [])) [])
-first_containers true true true x xs h all = all
-first_containers true true false x xs h all = All-cons IsOfContainer x [] (h refl) (All-nil IsOfContainer)
-first_containers true false open_now x xs h all = All-nil IsOfContainer
-first_containers false left open_now x xs h all = All-nil IsOfContainer
+begun_containers : (g left : Bool) (x : Opening) (xs : List Opening) → (g ≡ true → IsOfContainer x) → All IsOfContainer xs
+    → All IsOfContainer (cond (g && left) (x ∷ xs) [])
+begun_containers true true x xs h all = All-cons IsOfContainer x xs (h refl) all
+begun_containers true false x xs h all = All-nil IsOfContainer
+begun_containers false left x xs h all = All-nil IsOfContainer
+
+if_containers : (g : Bool) (xs : List Opening) → All IsOfContainer xs → All IsOfContainer (cond g xs [])
+if_containers true xs all = all
+if_containers false xs all = All-nil IsOfContainer
+
+pub dealt_containers : (m left : ℕ) (d : Option ℕ) (n : Nodes PageRow) → All IsOfContainer (dealt m left d n)
+dealt_containers m left d none = All-nil IsOfContainer
+dealt_containers m zero d (node r c t) =
+    let x : Opening = record { levels = capped (suc m) d; node = record { row = r; children = c } } in
+    All-append IsOfContainer (cond (holds r.label.kind && not (is_spent d)) (x ∷ dealt m m (less d) c) []) (dealt m 0 d t)
+    (begun_containers (holds r.label.kind) (not (is_spent d)) x (dealt m m (less d) c) (λ e. e) (dealt_containers m m (less d) c))
+    (dealt_containers m zero d t)
+dealt_containers m (suc k) d (node r c t) =
+    All-append IsOfContainer (cond (holds r.label.kind && not (is_spent d)) (dealt m k (less d) c) []) (dealt m (suc k) d t)
+    (if_containers (holds r.label.kind && not (is_spent d)) (dealt m k (less d) c) (dealt_containers m k (less d) c))
+    (dealt_containers m (suc k) d t)
 
 pub requested_containers : (o : ℕ → Bool) (d : Option ℕ) (n : Nodes PageRow) → All IsOfContainer (requested o d n)
 requested_containers o d none = All-nil IsOfContainer
 requested_containers o d (node r c t) =
-    let x : Opening = record { levels = d; node = record { row = r; children = c } } in
-    All-append IsOfContainer (cond (holds r.label.kind && not (is_spent d)) (cond (o r.serial) (requested o (less d) c) (x ∷ [])) [])
+    let x : Branch PageRow = record { row = r; children = c } in
+    All-append IsOfContainer
+    (cond (holds r.label.kind && not (is_spent d)) (cond (o r.serial) (requested o (less d) c) (deal more_told d x)) [])
     (requested o d t)
-    (first_containers (holds r.label.kind) (not (is_spent d)) (o r.serial) x (requested o (less d) c) (λ e. e)
-    (requested_containers o (less d) c))
+    (if_containers (holds r.label.kind && not (is_spent d)) (cond (o r.serial) (requested o (less d) c) (deal more_told d x))
+    (either (o r.serial)))
     (requested_containers o d t)
+  where
+    either : (b : Bool)
+        → All IsOfContainer (cond b (requested o (less d) c) (deal more_told d (record { row = r; children = c })))
+    either true = requested_containers o (less d) c
+    either false = dealt_containers more_told 0 d (node r c none)
 
-first_count : (g open_now : Bool) (x : Opening) (xs : List Opening) (m : ℕ) → below x ≤ m → sum_by below xs ≤ m
-    → sum_by below (cond g (cond open_now xs (x ∷ [])) []) ≤ m
-first_count true true x xs m one many = many
-first_count true false x xs m one many = omega (arith, sum_by-cons below x [])
-first_count false open_now x xs m one many = omega arith
+-- a node is below each piece above it
+squares : (a b p q : ℕ) → p ≤ a + a * a → q ≤ b * b → p + q ≤ suc (a + b) * suc (a + b)
+squares a b p q h k = omega arith
 
--- the trees that are opened do not meet
-pub requested_count : (o : ℕ → Bool) (d : Option ℕ) (n : Nodes PageRow) → sum_by below (requested o d n) ≤ node_count n
+begun_count : (g : Bool) (x : Opening) (xs : List Opening) (a k : ℕ) → below x ≤ a → sum_by below xs ≤ k
+    → sum_by below (cond g (x ∷ xs) []) ≤ a + k
+begun_count true x xs a k one many = omega (arith, sum_by-cons below x xs)
+begun_count false x xs a k one many = omega arith
+
+if_count : (g : Bool) (xs : List Opening) (a k : ℕ) → sum_by below xs ≤ k → sum_by below (cond g xs []) ≤ a + k
+if_count true xs a k many = omega arith
+if_count false xs a k many = omega arith
+
+pub dealt_count : (m left : ℕ) (d : Option ℕ) (n : Nodes PageRow) → sum_by below (dealt m left d n) ≤ node_count n * node_count n
+dealt_count m left d none = omega arith
+dealt_count m zero d (node r c t) =
+    let x : Opening = record { levels = capped (suc m) d; node = record { row = r; children = c } } in
+    let g : Bool = holds r.label.kind && not (is_spent d) in
+    let first = begun_count g x (dealt m m (less d) c) (node_count c) (node_count c * node_count c) (omega arith)
+    (dealt_count m m (less d) c) in
+    let all = squares (node_count c) (node_count t) _ _ first (dealt_count m zero d t) in
+    omega (arith, sum_by-append below (cond g (x ∷ dealt m m (less d) c) []) (dealt m 0 d t), all)
+dealt_count m (suc k) d (node r c t) =
+    let g : Bool = holds r.label.kind && not (is_spent d) in
+    let first = if_count g (dealt m k (less d) c) (node_count c) (node_count c * node_count c) (dealt_count m k (less d) c) in
+    let all = squares (node_count c) (node_count t) _ _ first (dealt_count m (suc k) d t) in
+    omega (arith, sum_by-append below (cond g (dealt m k (less d) c) []) (dealt m (suc k) d t), all)
+
+either_count : (b : Bool) (xs ys : List Opening) (k : ℕ) → sum_by below xs ≤ k → sum_by below ys ≤ k → sum_by below (cond b xs ys) ≤ k
+either_count true xs ys k h j = h
+either_count false xs ys k h j = j
+
+-- the trees that are opened do not meet, but for the pieces of one
+pub requested_count : (o : ℕ → Bool) (d : Option ℕ) (n : Nodes PageRow) → sum_by below (requested o d n) ≤ node_count n * node_count n
 requested_count o d none = omega arith
 requested_count o d (node r c t) =
-    let x : Opening = record { levels = d; node = record { row = r; children = c } } in
-    omega (
-      arith,
-      sum_by-append below (cond (holds r.label.kind && not (is_spent d)) (cond (o r.serial) (requested o (less d) c) (x ∷ [])) [])
-          (requested o d t),
-      first_count (holds r.label.kind && not (is_spent d)) (o r.serial) x (requested o (less d) c) (node_count c) (omega arith)
-          (requested_count o (less d) c),
-      requested_count o d t,
-    )
+    let x : Branch PageRow = record { row = r; children = c } in
+    let g : Bool = holds r.label.kind && not (is_spent d) in
+    let k : ℕ = suc (node_count c) * suc (node_count c) in
+    let first = if_count g (cond (o r.serial) (requested o (less d) c) (deal more_told d x)) 0 k
+    (either_count (o r.serial) (requested o (less d) c) (deal more_told d x) k
+    (smaller_square (node_count c) _ (requested_count o (less d) c)) (of_alone (node_count c) _ (dealt_count more_told 0 d (alone x)))) in
+    let all = two_squares (node_count c) (node_count t) _ _ first (requested_count o d t) in
+    omega (arith, sum_by-append below (cond g (cond (o r.serial) (requested o (less d) c) (deal more_told d x)) []) (requested o d t), all)
+  where
+    smaller_square : (a p : ℕ) → p ≤ a * a → p ≤ suc a * suc a
+    smaller_square a p h = omega arith
+
+    of_alone : (a p : ℕ) → p ≤ suc (a + 0) * suc (a + 0) → p ≤ suc a * suc a
+    of_alone a p h = omega arith
+
+    two_squares : (a b p q : ℕ) → p ≤ 0 + suc a * suc a → q ≤ b * b → p + q ≤ suc (a + b) * suc (a + b)
+    two_squares a b p q h k = omega arith
 
 -- ---- by a push
 

@@ -14,6 +14,8 @@ use Rattle.node_binding.proofs.Places.{suc-is_zero, times-append, is_in-times, t
 use Rattle.node_binding.proofs.BoundLemmas.{is_in-cons}
 use Rattle.node_binding.proofs.OpeningLemmas.{goes_on, self_times, times-reached}
 use Rattle.node_binding.proofs.AnewLemmas.{and-first, and-second}
+use Rattle.node_binding.specs.Deals.{capped, dealt, deal, more_told}
+use Rattle.node_binding.proofs.DealLemmas.{spent-capped, less-capped, capped-zero}
 use Rattle.dom_agent.specs.Requests.{Opening, requested, ancestors_down}
 use Rattle.dom_agent.specs.Distances.{StandsAt, root, below, beside, IsWithin, IsReached, IsAncestor}
 use Rattle.dom_agent.proofs.OpeningsLemmas.{AreContainers, opened_all, reached-spent}
@@ -72,13 +74,99 @@ opened_all-set (x ∷ xs) p s =
     ∙ or_assoc (p s) (stands_in s (containers_within x.levels (alone x.node))) (stands_in s (all_reached xs))
     ∙ ap (λ v. p s || v) (sym (is_in-append s (containers_within x.levels (alone x.node)) (all_reached xs)))
 
+-- ---- a deal
+
+or_swap : (a b c d : Bool) → ((a || b) || (c || d)) ≡ ((a || c) || (b || d))
+or_swap true b c d = refl
+or_swap false true true d = refl
+or_swap false true false d = refl
+or_swap false false c d = refl
+
+module _ (m : ℕ) (s : ℕ) where
+  abbrev reached : Option ℕ → Nodes PageRow → Bool
+  reached d n = stands_in s (containers_within d n)
+
+  abbrev dealt_there : ℕ → Option ℕ → Nodes PageRow → Bool
+  dealt_there left d n = stands_in s (all_reached (dealt m left d n))
+
+  -- below the first tree's root a piece has a level less
+  first_reached : (k : ℕ) (d : Option ℕ) (r : PageRow) (c : Nodes PageRow) (g : Bool) → (holds r.label.kind && not (is_spent d)) ≡ g
+      → stands_in s (cond (holds r.label.kind && not (is_spent (capped (suc k) d)))
+      (r.serial ∷ containers_within (less (capped (suc k) d)) c) [])
+      ≡ stands_in s (cond g (r.serial ∷ containers_within (capped k (less d)) c) [])
+  first_reached k d r c g is =
+      ap (λ b. stands_in s (cond (holds r.label.kind && not b) (r.serial ∷ containers_within (less (capped (suc k) d)) c) []))
+      (spent-capped k d)
+      ∙ ap (λ b. stands_in s (cond b (r.serial ∷ containers_within (less (capped (suc k) d)) c) [])) is
+      ∙ ap (λ e. stands_in s (cond g (r.serial ∷ containers_within e c) [])) (less-capped k d)
+
+  -- the first tree: what its piece opens, and what further pieces open
+  one_dealt : (g : Bool) (r : PageRow) (k : ℕ) (d : Option ℕ) (c : Nodes PageRow)
+      → (reached (capped k (less d)) c || dealt_there k (less d) c) ≡ reached (less d) c
+      → (stands_in s (cond g (r.serial ∷ containers_within (capped k (less d)) c) [])
+      || stands_in s (all_reached (cond g (dealt m k (less d) c) [])))
+      ≡ stands_in s (cond g (r.serial ∷ containers_within (less d) c) [])
+  one_dealt true r k d c rest =
+      ap (λ b. b || dealt_there k (less d) c) (is_in-cons r.serial s (containers_within (capped k (less d)) c))
+      ∙ or_assoc (r.serial == s) (reached (capped k (less d)) c) (dealt_there k (less d) c)
+      ∙ ap (λ b. (r.serial == s) || b) rest
+      ∙ sym (is_in-cons r.serial s (containers_within (less d) c))
+  one_dealt false r k d c rest = refl
+
+  -- a tree that is opened by a piece of its own
+  new_dealt : (g : Bool) (r : PageRow) (d : Option ℕ) (c : Nodes PageRow) → (holds r.label.kind && not (is_spent d)) ≡ g
+      → (reached (capped m (less d)) c || dealt_there m (less d) c) ≡ reached (less d) c
+      → stands_in s (all_reached (cond g
+      (record { levels = capped (suc m) d; node = record { row = r; children = c } } ∷ dealt m m (less d) c) []))
+      ≡ stands_in s (cond g (r.serial ∷ containers_within (less d) c) [])
+  new_dealt true r d c is rest =
+      is_in-append s (containers_within (capped (suc m) d) (alone (record { row = r; children = c }))) (all_reached (dealt m m (less d) c))
+      ∙ ap (λ b. b || dealt_there m (less d) c)
+      (ap (stands_in s) (append-nil (cond (holds r.label.kind && not (is_spent (capped (suc m) d)))
+      (r.serial ∷ containers_within (less (capped (suc m) d)) c) [])) ∙ first_reached m d r c true is)
+      ∙ one_dealt true r m d c rest
+  new_dealt false r d c is rest = refl
+
+  none_reached : (n : Nodes PageRow) (d : Option ℕ) → reached (capped 0 d) n ≡ false
+  none_reached n d = ap (λ e. reached e n) (capped-zero d) ∙ ap (stands_in s) (reached-spent n)
+
+  -- what is opened already to the levels that are left, and what further pieces open, is what d levels are
+  pub dealt-set : (left : ℕ) (d : Option ℕ) (n : Nodes PageRow) → (reached (capped left d) n || dealt_there left d n) ≡ reached d n
+  dealt-set left d none = refl
+  dealt-set zero d (node r c t) =
+      let x : Opening = record { levels = capped (suc m) d; node = record { row = r; children = c } } in
+      let g : Bool = holds r.label.kind && not (is_spent d) in
+      ap (λ b. b || dealt_there 0 d (node r c t)) (none_reached (node r c t) d)
+      ∙ all_reached-append s (cond g (x ∷ dealt m m (less d) c) []) (dealt m 0 d t)
+      ∙ ap (λ b. b || dealt_there 0 d t) (new_dealt g r d c refl (dealt-set m (less d) c))
+      ∙ ap (λ b. stands_in s (cond g (r.serial ∷ containers_within (less d) c) []) || b)
+      (ap (λ b. b || dealt_there 0 d t) (sym (none_reached t d)) ∙ dealt-set zero d t)
+      ∙ sym (is_in-append s (cond g (r.serial ∷ containers_within (less d) c) []) (containers_within d t))
+  dealt-set (suc k) d (node r c t) =
+      let g : Bool = holds r.label.kind && not (is_spent d) in
+      ap (λ b. b || dealt_there (suc k) d (node r c t))
+      (is_in-append s (cond (holds r.label.kind && not (is_spent (capped (suc k) d)))
+      (r.serial ∷ containers_within (less (capped (suc k) d)) c) []) (containers_within (capped (suc k) d) t)
+      ∙ ap (λ b. b || reached (capped (suc k) d) t) (first_reached k d r c g refl))
+      ∙ ap (λ b. (stands_in s (cond g (r.serial ∷ containers_within (capped k (less d)) c) []) || reached (capped (suc k) d) t) || b)
+      (all_reached-append s (cond g (dealt m k (less d) c) []) (dealt m (suc k) d t))
+      ∙ or_swap (stands_in s (cond g (r.serial ∷ containers_within (capped k (less d)) c) [])) (reached (capped (suc k) d) t)
+      (stands_in s (all_reached (cond g (dealt m k (less d) c) []))) (dealt_there (suc k) d t)
+      ∙ ap (λ b. b || (reached (capped (suc k) d) t || dealt_there (suc k) d t)) (one_dealt g r k d c (dealt-set k (less d) c))
+      ∙ ap (λ b. stands_in s (cond g (r.serial ∷ containers_within (less d) c) []) || b) (dealt-set (suc k) d t)
+      ∙ sym (is_in-append s (cond g (r.serial ∷ containers_within (less d) c) []) (containers_within d t))
+
+  -- a deal opens what one opening would
+  pub deal-set : (d : Option ℕ) (x : Branch PageRow) → stands_in s (all_reached (deal m d x)) ≡ reached d (alone x)
+  deal-set d x = ap (λ b. b || dealt_there 0 d (alone x)) (sym (none_reached (alone x) d)) ∙ dealt-set 0 d (alone x)
+
 -- ---- a request
 
 module _ (o : ℕ → Bool) where
   first_set : (s : ℕ) (d : Option ℕ) (r : PageRow) (c : Nodes PageRow) (g a : Bool) → (holds r.label.kind && not (is_spent d)) ≡ g
       → o r.serial ≡ a → (o s || stands_in s (all_reached (requested o (less d) c))) ≡ (o s || stands_in s (containers_within (less d) c))
       → (o s || stands_in s (all_reached
-      (cond g (cond a (requested o (less d) c) (record { levels = d; node = record { row = r; children = c } } ∷ [])) [])))
+      (cond g (cond a (requested o (less d) c) (deal more_told d (record { row = r; children = c }))) [])))
       ≡ (o s || stands_in s (cond g (r.serial ∷ containers_within (less d) c) []))
   first_set s d r c true true g_is a_is rest =
       rest ∙ passed (r.serial == s) refl ∙ ap (λ v. o s || v) (sym (is_in-cons r.serial s (containers_within (less d) c)))
@@ -91,9 +179,9 @@ module _ (o : ℕ → Bool) where
           (ap (λ v. v || ((r.serial == s) || stands_in s (containers_within (less d) c))) same)
       passed false is = ap (λ v. o s || (v || stands_in s (containers_within (less d) c))) (sym is)
   first_set s d r c true false g_is a_is rest =
-      ap (λ l. o s || stands_in s l)
-      (append-nil (containers_within d (node r c none))
-      ∙ append-nil (cond (holds r.label.kind && not (is_spent d)) (r.serial ∷ containers_within (less d) c) [])
+      ap (λ b. o s || b) (deal-set more_told s d (record { row = r; children = c }))
+      ∙ ap (λ l. o s || stands_in s l)
+      (append-nil (cond (holds r.label.kind && not (is_spent d)) (r.serial ∷ containers_within (less d) c) [])
       ∙ ap (λ b. cond b (r.serial ∷ containers_within (less d) c) []) g_is)
   first_set s d r c false a g_is a_is rest = refl
 
@@ -103,7 +191,7 @@ module _ (o : ℕ → Bool) where
   requested-set s d (node r c t) =
       let g : Bool = holds r.label.kind && not (is_spent d) in
       let first : List Opening = cond g
-      (cond (o r.serial) (requested o (less d) c) (record { levels = d; node = record { row = r; children = c } } ∷ [])) [] in
+      (cond (o r.serial) (requested o (less d) c) (deal more_told d (record { row = r; children = c }))) [] in
       ap (λ v. o s || v) (all_reached-append s first (requested o d t))
       ∙ or_both (o s) _ _ _ _ (first_set s d r c g (o r.serial) refl refl (requested-set s (less d) c)) (requested-set s d t)
       ∙ ap (λ v. o s || v) (sym (is_in-append s (cond g (r.serial ∷ containers_within (less d) c) []) (containers_within d t)))

@@ -6,17 +6,19 @@ use Rattle.std.specs.List.{filter}
 use Rattle.std.proofs.lemmas.Bool.{eq-eqb, eqb-true}
 use Rattle.node_tree.proofs.KeyLemmas.{has-there}
 use Rattle.node_tree.specs.Nodes.{Nodes, none, node, Branch, alone}
+use Rattle.node_tree.specs.Levels.{most_told}
 use Rattle.node_tree.specs.Keys.{tally, has, find}
 use Rattle.node_tree.specs.Labels.{holds}
 use Rattle.page_tree.specs.Pages.{PageRow, row_serial, PageValue, IsValid}
 use Rattle.node_binding.specs.Counts.{times, stands_in}
-use Rattle.node_binding.specs.Openings.{containers_within, levelled}
+use Rattle.node_binding.specs.Openings.{containers_within, levelled, above}
+use Rattle.node_binding.specs.Deals.{capped, dealt, more_told}
 use Rattle.node_binding.specs.Cuts.{known}
-use Rattle.node_binding.specs.Sessions.{Session, IsSession, session_of, is_open, session_ids, known_by, serial_at}
+use Rattle.node_binding.specs.Sessions.{Session, IsSession, session_of, is_open, session_ids, known_by, serial_at, document_opened}
 use Rattle.node_binding.proofs.PairLemmas.{find-there}
 use Rattle.node_binding.proofs.OpeningLemmas.{AreDistinct, reached-tally}
 use Rattle.node_binding.proofs.InViewLemmas.{InView, in_view-tally, roots_in_view}
-use Rattle.dom_agent.proofs.NewlyLemmas.{all_levelled, anew-filter, pushed-all, anew-all, anew-requested, anew-within, closed-in_view}
+use Rattle.dom_agent.proofs.NewlyLemmas.{all_levelled, pushed-all, anew-all, known-in-turn}
 use Rattle.node_binding.proofs.StartLemmas.{distinct-alone}
 use Rattle.node_binding.proofs.BoundLemmas.{is_in-cons}
 use Rattle.node_binding.proofs.AnewLemmas.{at_or_other, found_here, found_later}
@@ -29,12 +31,15 @@ use Rattle.dom_agent.specs.Queries.{Query, all_matching}
 use Rattle.dom_agent.specs.Requests.{of_query, first_asked, with_first, all_asked}
 use Rattle.dom_agent.specs.Requests.{of_path, with_ids, all_opened, all_pushed, pushed as push_of, state_after}
 use Rattle.dom_agent.specs.Distances.{IsReached, IsAncestor, OpensAlso}
-use Rattle.dom_agent.specs.Sets.{levels_asked, DocumentOpens, RequestOpens, newly_known, RequestPushes, PathOpens, IsAncestorOfOne}
+use Rattle.dom_agent.specs.Sets.{levels_asked, DocumentOpens, RequestOpens, known_in_turn, RequestPushes, PathOpens, IsAncestorOfOne}
 use Rattle.dom_agent.specs.Sets.{SerialsOpen, row_serials, children_in_turn, shut_ancestors, PathPushes, FirstFoundOpens, FoundOpen}
-use Rattle.dom_agent.proofs.OpeningsLemmas.{AreContainers, by_one, pushing-are, requested-are, opened_all, opened_all-grows}
+use Rattle.dom_agent.proofs.OpeningsLemmas.{AreContainers, by_one, pushing-are, opened_all, opened_all-grows}
 use Rattle.dom_agent.proofs.KnownLemmas.{opened_after}
 use Rattle.dom_agent.proofs.OutcomeLemmas.{containers-page, known-found}
 use Rattle.dom_agent.proofs.SetLemmas.{there_once, stands-below, or_split, or_joined, opened_all-set, requested-set, reached-set}
+use Rattle.dom_agent.proofs.SetLemmas.{dealt-set}
+use Rattle.cdp_messages.specs.declared.dom_ask.DomAsk.TheVariants.{GetDocument}
+use Rattle.dom_agent.specs.Laws.{session_outcome}
 use Rattle.dom_agent.proofs.SetLemmas.{pushing-set, ancestors-hold, ancestors-set, serials_of}
 
 -- a test that is another or a set's
@@ -45,7 +50,19 @@ by_test a b c {P} e set = (
 )
 
 pub document_opens : DocumentOpens
-document_opens page depth pierce w valid s = reached-set (levels_asked depth) page.tree (containers-page page valid) s
+document_opens page depth pierce w valid s =
+    let n : Nodes PageRow = alone page.tree in
+    let d : Option ℕ = levels_asked depth in
+    let z : Session = document_opened (capped most_told d) n w in
+    let xs : List Opening = dealt more_told most_told d n in
+    let o : ℕ → Bool = above (capped most_told d) n in
+    let is : is_open (state_after w (session_outcome page (GetDocument depth pierce) w)).opened s
+    ≡ stands_in s (containers_within d n) =
+    ap (λ (q : Option (ℕ → Bool)). is_open q s) (opened_after n page.tree xs o z.pushed z.since)
+    ∙ opened_all-set xs o s
+    ∙ dealt-set more_told s most_told d n in
+    subst (λ (b : Bool). (b ≡ true) ↔ IsReached d page.tree s) (sym is)
+    (reached-set d page.tree (containers-page page valid) s)
 
 -- what is found among containers is one
 containers-found : (k : ℕ) (n : Nodes PageRow) (x : Branch PageRow) → find row_serial k n ≡ Some x → AreContainers n
@@ -246,49 +263,22 @@ found_open page id text w q valid begun asked t =
 
 -- ---- what becomes known by a request
 
-request_pushes_by : (page : PageValue) → IsValid page
-    → (depth : Option ℤ) (opened : Option (ℕ → Bool)) (pushed : List ℕ) (since id : ℕ) (x : Branch PageRow)
-    → IsSession (alone page.tree) (record { opened = opened; pushed = pushed; since = since })
+request_pushes_by : (page : PageValue) → IsValid page → (depth : Option ℤ) (opened : Option (ℕ → Bool)) (pushed : List ℕ) (since id : ℕ)
+    (x : Branch PageRow)
     → known_node (session_keeper (alone page.tree)) page.tree (record { opened = opened; pushed = pushed; since = since })
     (serial_at (record { opened = opened; pushed = pushed; since = since }) (alone page.tree) id) ≡ Some x
     → (all_opened (session_keeper (alone page.tree)) page.tree (requested (is_open opened) (levels_asked depth) (alone x))
     (record { opened = opened; pushed = pushed; since = since })).state.pushed
-    ≡ pushed ++ newly_known page (record { opened = opened; pushed = pushed; since = since })
-    (all_opened (session_keeper (alone page.tree)) page.tree (requested (is_open opened) (levels_asked depth) (alone x))
-    (record { opened = opened; pushed = pushed; since = since })).state
-request_pushes_by page valid depth None pushed since id x session found = cc
-request_pushes_by page valid depth (Some o) pushed since id x session found =
-    let n : Nodes PageRow = alone page.tree in
-    let d : Option ℕ = levels_asked depth in
-    let w : Session = session_of o pushed since in
-    let os : List Opening = requested o d (alone x) in
-    let q : ℕ → Bool = opened_all o os in
-    let distinct = distinct-alone page valid in
-    let v : InView o x n = known-found page valid o pushed since (serial_at w n id)
-    (λ s e. (find-there (λ s. session_ids w s == id) (known o n) s e).0) x found in
-    let distinct_x : AreDistinct (alone x) = λ s. omega (arith, in_view-tally o x v s, distinct s) in
-    let set : (s : ℕ) → q s ≡ (o s || stands_in s (containers_within d (alone x))) = λ s. opened_all-set os o s ∙ requested-set o s d
-    (alone x) in
-    let outside : (s : ℕ) → tally row_serial s (alone x) ≡ 0 → o s ≡ q s = λ s h.
-    or_nothing (o s) ∙ sym (set s ∙ ap (λ k. o s || not (k == 0))
-    (let none_there : times s (containers_within d (alone x)) ≡ 0 = omega (arith, reached-tally d s (alone x)) in none_there)) in
-    let are = requested-are n distinct o d (alone x) o distinct_x (v, tt) (λ s h. refl) in
-    pushed-all n page.tree os o pushed since
-    ∙ ap (λ l. pushed ++ l)
-    (anew-all n page.tree os o pushed since distinct are session
-    ∙ sym (anew-requested o q d (alone x) distinct_x (closed-in_view o x v session.opened_set.closed) (λ s h. set s))
-    ∙ sym (anew-within o q x outside v distinct)
-    ∙ anew-filter o q (opened_all-grows o os) n distinct
-    ∙ ap (λ (z : Option (ℕ → Bool)). filter (λ s. not (stands_in s (known o n))) (known_by z n))
-    (sym (opened_after n page.tree os o pushed since)))
-  where
-    or_nothing : (b : Bool) → b ≡ (b || false)
-    or_nothing true = refl
-    or_nothing false = refl
+    ≡ pushed ++ known_in_turn page (requested (is_open opened) (levels_asked depth) (alone x))
+    (record { opened = opened; pushed = pushed; since = since })
+request_pushes_by page valid depth None pushed since id x found = cc
+request_pushes_by page valid depth (Some o) pushed since id x found =
+    let xs : List Opening = requested o (levels_asked depth) (alone x) in
+    pushed-all (alone page.tree) page.tree xs o pushed since ∙ ap (λ l. pushed ++ l) (known-in-turn page valid xs o pushed since)
 
 pub request_pushes : RequestPushes
 request_pushes page id depth pierce w x valid session found =
     let n : Nodes PageRow = alone page.tree in
     subst (λ (f : Option (Branch PageRow)). (state_after w (of_children (session_keeper n) page.tree depth f w)).pushed
-    ≡ w.pushed ++ newly_known page w (state_after w (of_children (session_keeper n) page.tree depth f w))) (sym found)
-    (request_pushes_by page valid depth w.opened w.pushed w.since id x session found)
+    ≡ w.pushed ++ known_in_turn page (requested (is_open w.opened) (levels_asked depth) (alone x)) w) (sym found)
+    (request_pushes_by page valid depth w.opened w.pushed w.since id x found)

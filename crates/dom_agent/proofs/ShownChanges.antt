@@ -5,7 +5,8 @@ use Rattle.std.proofs.lemmas.Bool.{eq-eqb, and_from}
 use Rattle.std.specs.Ordering.{nat_cmp, match_ordering}
 use Rattle.std.specs.Cmp.Lexicographic.{slice_cmp}
 use Rattle.std.specs.Prelude.{bytes_eq}
-use Rattle.node_tree.specs.Nodes.{Nodes, none, Branch, width}
+use Rattle.node_tree.specs.Nodes.{Nodes, none, Branch, width, height}
+use Rattle.node_tree.specs.Levels.{most_told}
 use Rattle.node_tree.specs.Keys.{tally, tally_in, At}
 use Rattle.node_tree.specs.Labels.{Pair, Label, holds}
 use Rattle.node_tree.specs.Seen.{Seen, leaf, counted, opened, is_opened, seen_id}
@@ -22,10 +23,14 @@ use Rattle.node_binding.proofs.OpeningLemmas.{AreDistinct}
 use Rattle.node_binding.proofs.ChangedLemmas.{IsAlike}
 use Rattle.node_tree.specs.LabelChanges as label
 use Rattle.client_views.specs.Moves.{Change, inserts, removes, counts, sets, drops, says, changed, suits_change, has_named_attribute}
-use Rattle.client_views.specs.Moves.{put_after, without_tree, has_tree, ChangesNode}
+use Rattle.client_views.specs.Moves.{put_after, without_tree, has_tree, nodes_told, ChangesNode}
 use Rattle.dom_agent.specs.Requests.{shown}
 use Rattle.dom_agent.specs.Edits.{id_before, unopened}
 use Rattle.dom_agent.proofs.ShownLemmas.{is_root, SeenAt, seen-at, prior_is, insert_shown, root_seen, drop_shown}
+
+-- a change whose parts a message can tell
+abbrev pub CanName : Change → Type 0
+CanName c = (has_named_attribute c ≡ true) × (height (nodes_told c) ≤ most_told)
 
 -- a change of a node that is known, or nothing
 pub record Tells (id : ℕ) (known_now : Bool) (c : Change) (v u : Nodes Seen) : Type 0 where
@@ -37,7 +42,7 @@ module _ (o : ℕ → Bool) (i : ℕ → ℕ) {old new : Branch PageRow} (alike 
   abbrev pub before_after : SeenAt o i old new n m
   before_after = seen-at o i alike at
 
-  pub changes : has_named_attribute c ≡ true → suits_change c (shown o i old) ≡ true → shown o i new ≡ changed c (shown o i old)
+  pub changes : CanName c → suits_change c (shown o i old) ≡ true → shown o i new ≡ changed c (shown o i old)
       → (seen-at o i alike at).in_view ≡ true → ChangesNode (i old.row.serial) c (cut o i n) (cut o i m)
   changes named suits same e =
       let d = before_after.shows e in
@@ -46,11 +51,12 @@ module _ (o : ℕ → Bool) (i : ℕ → ℕ) {old new : Branch PageRow} (alike 
         depth = d.0;
         is = refl;
         suits = suits;
-        named = named;
+        named = named.0;
+        low = named.1;
         at = subst (λ (b : Branch Seen). At (shown o i old) b d.0 (cut o i n) (cut o i m)) same d.1;
       }
 
-  pub tells : AreDistinct n → has_named_attribute c ≡ true → suits_change c (shown o i old) ≡ true
+  pub tells : AreDistinct n → CanName c → suits_change c (shown o i old) ≡ true
       → shown o i new ≡ changed c (shown o i old)
       → Tells (i old.row.serial) (stands_in old.row.serial (known o n)) c (cut o i n) (cut o i m)
   tells distinct named suits same =
@@ -125,7 +131,7 @@ module _ (o : ℕ → Bool) (i : ℕ → ℕ) (b : Branch PageRow) where
 -- ---- a page where one node has another label, or another number of children that are not shown
 
 pub tells_by : (n m : Nodes PageRow) (opened_now : Option (ℕ → Bool)) (pushed : List ℕ) (since : ℕ) {old new : Branch PageRow} {depth : ℕ}
-    (c : Change) → AreDistinct n → has_named_attribute c ≡ true → IsAlike old new → At old new depth n m
+    (c : Change) → AreDistinct n → CanName c → IsAlike old new → At old new depth n m
     → ((o : ℕ → Bool) → opened_now ≡ Some o
     → (suits_change c (shown o (id_of pushed since) old) ≡ true)
     × (shown o (id_of pushed since) new ≡ changed c (shown o (id_of pushed since) old)))

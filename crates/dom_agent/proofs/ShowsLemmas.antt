@@ -1,14 +1,18 @@
 -- The events of a request show the levels that are left.
-use Rattle.std.proofs.Common.{◌≡◌, ℕ, ℤ, zero, suc, ◌==◌, Bool, true, false, cond, not, ◌&&◌, List, [], ◌∷◌, ◌++◌, Option, Some, None, refl}
+use Rattle.std.proofs.Common.{◌≡◌, ℕ, ℤ, zero, suc, ◌==◌, Bool, true, false, cond, not, ◌&&◌, List, [], ◌∷◌, ◌++◌, append-nil, Option}
+use Rattle.std.proofs.Common.{Some, None}
+use Rattle.std.proofs.Common.{refl}
 use Rattle.std.proofs.Common.{sym, ap, subst, ◌∙◌, arith}
 use Rattle.std.specs.List.{All}
 use Rattle.std.proofs.lemmas.List.Elements.{All-cons, All-nil}
 use Rattle.node_tree.specs.Nodes.{Nodes, none, node, Branch, alone, width}
+use Rattle.node_tree.specs.Levels.{most_told}
 use Rattle.node_tree.specs.Labels.{holds}
 use Rattle.node_tree.specs.Seen.{Seen, leaf, counted, opened}
 use Rattle.page_tree.specs.Pages.{PageRow, PageValue, IsValid}
 use Rattle.node_binding.specs.Cuts.{opens, known, cut}
 use Rattle.node_binding.specs.Openings.{less, is_spent, opened_also, is_unopened, is_closed}
+use Rattle.node_binding.specs.Deals.{capped, dealt, deal, more_told}
 use Rattle.node_binding.specs.Sessions.{Session, IsSession, CanOpen, session_of, is_open, session_ids, grown, serial_at}
 use Rattle.node_binding.proofs.StartLemmas.{distinct-alone}
 use Rattle.node_binding.proofs.PairLemmas.{find-there}
@@ -22,7 +26,7 @@ use Rattle.dom_agent.specs.Distances.{StandsAt, root, below, beside, IsWithin}
 use Rattle.dom_agent.specs.Sets.{levels_asked}
 use Rattle.dom_agent.specs.Described.{shown_to}
 use Rattle.dom_agent.specs.Shows.{levels_left, TellsLevels, shown_by_outcome, RequestTells}
-use Rattle.dom_agent.proofs.OpeningsLemmas.{AreOpenings, requested-are}
+use Rattle.dom_agent.proofs.OpeningsLemmas.{AreOpenings, request-are}
 use Rattle.dom_agent.proofs.OutcomeLemmas.{known-found}
 use Rattle.dom_agent.proofs.NewlyLemmas.{closed-in_view}
 use Rattle.dom_agent.proofs.SetLemmas.{near_here, near_below, unspent}
@@ -59,7 +63,7 @@ pub record IsRequested (d : Option ℕ) (n : Nodes PageRow) (o : ℕ → Bool) (
   pub near : IsWithin distance d
   pub can_hold : holds y.node.row.label.kind ≡ true
   pub shut : o y.node.row.serial ≡ false
-  pub levels : y.levels ≡ levels_left distance d
+  pub levels : y.levels ≡ capped most_told (levels_left distance d)
 
 abbrev pub AreRequested : Option ℕ → Nodes PageRow → (ℕ → Bool) → List Opening → Type 0
 AreRequested d n o [] = Unit {0}
@@ -90,7 +94,7 @@ module _ (o : ℕ → Bool) where
       near = near_below d h.0.distance left h.0.near;
       can_hold = h.0.can_hold;
       shut = h.0.shut;
-      levels = h.0.levels ∙ left-below d h.0.distance;
+      levels = h.0.levels ∙ ap (capped most_told) (left-below d h.0.distance);
     },
     all_below d r c t ys left h.1,
   )
@@ -110,33 +114,78 @@ module _ (o : ℕ → Bool) where
     all_beside d r c t ys h.1,
   )
 
-  first_tree : (d : Option ℕ) (r : PageRow) (c t : Nodes PageRow) (g a : Bool) → (holds r.label.kind && not (is_spent d)) ≡ g
-      → o r.serial ≡ a → AreRequested (less d) c o (requested o (less d) c)
-      → AreRequested d (node r c t) o
-      (cond g (cond a (requested o (less d) c) (record { levels = d; node = record { row = r; children = c } } ∷ [])) [])
-  first_tree d r c t true true g_is a_is h = all_below d r c t (requested o (less d) c)
-      (unspent (is_spent d) (and-second (holds r.label.kind) (not (is_spent d)) g_is)) h
-  first_tree d r c t true false g_is a_is h = (
+  -- further pieces: below a container that is not opened none is
+  dealt_first : (d : Option ℕ) (r : PageRow) (c t : Nodes PageRow) (g : Bool) → (holds r.label.kind && not (is_spent d)) ≡ g
+      → o r.serial ≡ false → AreRequested (less d) c o (dealt more_told more_told (less d) c)
+      → AreRequested d (node r c t) o (cond g
+      (record { levels = capped most_told d; node = record { row = r; children = c } } ∷ dealt more_told more_told (less d) c) [])
+  dealt_first d r c t true is shut h = (
     record {
       distance = 0;
       stands = root t;
-      near = near_here d (unspent (is_spent d) (and-second (holds r.label.kind) (not (is_spent d)) g_is));
-      can_hold = and-first (holds r.label.kind) (not (is_spent d)) g_is;
-      shut = a_is;
-      levels = left-here d;
+      near = near_here d (unspent (is_spent d) (and-second (holds r.label.kind) (not (is_spent d)) is));
+      can_hold = and-first (holds r.label.kind) (not (is_spent d)) is;
+      shut = shut;
+      levels = ap (capped most_told) (left-here d);
     },
-    tt,
+    all_below d r c t (dealt more_told more_told (less d) c)
+        (unspent (is_spent d) (and-second (holds r.label.kind) (not (is_spent d)) is)) h,
   )
-  first_tree d r c t false a g_is a_is h = tt
+  dealt_first d r c t false is shut h = tt
 
-  pub requested-at : (d : Option ℕ) (n : Nodes PageRow) → AreRequested d n o (requested o d n)
-  requested-at d none = tt
-  requested-at d (node r c t) =
+  dealt_later : (k : ℕ) (d : Option ℕ) (r : PageRow) (c t : Nodes PageRow) (g : Bool) → (holds r.label.kind && not (is_spent d)) ≡ g
+      → AreRequested (less d) c o (dealt more_told k (less d) c) → AreRequested d (node r c t) o (cond g (dealt more_told k (less d) c) [])
+  dealt_later k d r c t true is h = all_below d r c t (dealt more_told k (less d) c)
+      (unspent (is_spent d) (and-second (holds r.label.kind) (not (is_spent d)) is)) h
+  dealt_later k d r c t false is h = tt
+
+  dealt-at : (left : ℕ) (d : Option ℕ) (n : Nodes PageRow) → is_unopened o n ≡ true → AreRequested d n o (dealt more_told left d n)
+  dealt-at left d none bare = tt
+  dealt-at zero d (node r c t) bare =
+      let first = and-first (not (o r.serial) && is_unopened o c) (is_unopened o t) bare in
+      requested_join d (node r c t) o _ (dealt more_told 0 d t)
+      (dealt_first d r c t (goes_on d r) refl (unspent (o r.serial) (and-first (not (o r.serial)) (is_unopened o c) first))
+      (dealt-at more_told (less d) c (and-second (not (o r.serial)) (is_unopened o c) first)))
+      (all_beside d r c t (dealt more_told 0 d t)
+      (dealt-at zero d t (and-second (not (o r.serial) && is_unopened o c) (is_unopened o t) bare)))
+  dealt-at (suc k) d (node r c t) bare =
+      let first = and-first (not (o r.serial) && is_unopened o c) (is_unopened o t) bare in
+      requested_join d (node r c t) o _ (dealt more_told (suc k) d t)
+      (dealt_later k d r c t (goes_on d r) refl (dealt-at k (less d) c (and-second (not (o r.serial)) (is_unopened o c) first)))
+      (all_beside d r c t (dealt more_told (suc k) d t)
+      (dealt-at (suc k) d t (and-second (not (o r.serial) && is_unopened o c) (is_unopened o t) bare)))
+
+  twice : (g : Bool) (ys : List Opening) → cond g (cond g ys [] ++ []) [] ≡ cond g ys []
+  twice true ys = append-nil ys
+  twice false ys = refl
+
+  pub requested-at : (d : Option ℕ) (n : Nodes PageRow) → is_closed o n ≡ true → AreRequested d n o (requested o d n)
+  requested-at d none closed = tt
+  requested-at d (node r c t) closed =
       requested_join d (node r c t) o
-      (cond (goes_on d r) (cond (o r.serial) (requested o (less d) c)
-      (record { levels = d; node = record { row = r; children = c } } ∷ [])) []) (requested o d t)
-      (first_tree d r c t (goes_on d r) (o r.serial) refl refl (requested-at (less d) c))
-      (all_beside d r c t (requested o d t) (requested-at d t))
+      (cond (goes_on d r) (cond (o r.serial) (requested o (less d) c) (deal more_told d (record { row = r; children = c }))) [])
+      (requested o d t)
+      (by_row (o r.serial) refl)
+      (all_beside d r c t (requested o d t)
+      (requested-at d t (and-second (cond (o r.serial) (is_closed o c) (is_unopened o c)) (is_closed o t) closed)))
+    where
+      by_row : (a : Bool) → o r.serial ≡ a → AreRequested d (node r c t) o
+          (cond (goes_on d r) (cond a (requested o (less d) c) (deal more_told d (record { row = r; children = c }))) [])
+      by_row true is = later (goes_on d r) refl (requested-at (less d) c (sym (ap (λ b. cond b (is_closed o c) (is_unopened o c)) is)
+          ∙ and-first (cond (o r.serial) (is_closed o c) (is_unopened o c)) (is_closed o t) closed))
+        where
+          later : (g : Bool) → (holds r.label.kind && not (is_spent d)) ≡ g → AreRequested (less d) c o (requested o (less d) c)
+              → AreRequested d (node r c t) o (cond g (requested o (less d) c) [])
+          later true e h = all_below d r c t (requested o (less d) c)
+              (unspent (is_spent d) (and-second (holds r.label.kind) (not (is_spent d)) e)) h
+          later false e h = tt
+      by_row false is =
+          let bare : is_unopened o c ≡ true = sym (ap (λ b. cond b (is_closed o c) (is_unopened o c)) is)
+          ∙ and-first (cond (o r.serial) (is_closed o c) (is_unopened o c)) (is_closed o t) closed in
+          subst (AreRequested d (node r c t) o)
+          (sym (twice (goes_on d r) (record { levels = capped most_told d; node = record { row = r; children = c } }
+          ∷ dealt more_told more_told (less d) c)))
+          (dealt_first d r c t (goes_on d r) refl is (dealt-at more_told (less d) c bare))
 
 -- ---- what is told of it
 
@@ -190,8 +239,8 @@ tells_by page valid depth (Some o) pushed since id x session found =
     let v : InView o x n = known-found page valid o pushed since (serial_at w n id)
     (λ s e. (find-there (λ s. session_ids w s == id) (known o n) s e).0) x found in
     tells-all n page.tree distinct d x o w (λ s. refl) (requested o d (alone x)) o pushed since
-    (requested-are n distinct o d (alone x) o (λ s. omega (arith, in_view-tally o x v s, distinct s)) (v, tt) (λ s h. refl))
-    (requested-at o d (alone x)) session
+    (request-are page valid o pushed since session d x v)
+    (requested-at o d (alone x) (closed-in_view o x v session.opened_set.closed)) session
 
 pub request_tells : RequestTells
 request_tells page id depth pierce w x valid session found =

@@ -1,16 +1,21 @@
 -- What a list of openings comes to for a session.
-use Rattle.std.proofs.Common.{◌≡◌, ℕ, ◌+◌, ◌<◌, ◌≤◌, ◌^◌, Bool, true, false, cond, nat_lt, List, [], ◌∷◌, ◌++◌, length, length-append}
+use Rattle.std.proofs.Common.{◌≡◌, ℕ, ◌+◌, ◌<◌, ◌≤◌, ◌^◌, Bool, true, false, cond, not, nat_lt, map, filter, List, [], ◌∷◌, ◌++◌, length}
+use Rattle.std.proofs.Common.{length-append}
 use Rattle.std.proofs.Common.{length-drop, drop, Option, Some, None, refl, sym, subst, arith, lt-ltb}
 use Rattle.std.specs.List.{list_all}
 use Rattle.std.proofs.lemmas.Bool.{and_from}
 use Rattle.std.proofs.lemmas.List.{map-append}
 use Rattle.node_tree.specs.Nodes.{Nodes, none, Branch, alone, width, node_count}
+use Rattle.node_tree.specs.Levels.{most_told_root}
 use Rattle.node_tree.specs.Keys.{has}
 use Rattle.node_tree.specs.Seen.{counted}
 use Rattle.page_tree.specs.Pages.{PageRow, row_serial}
 use Rattle.node_binding.specs.Cuts.{shown_anew, cut}
 use Rattle.node_binding.specs.Openings.{is_spent, opened_also}
 use Rattle.node_binding.specs.Sessions.{Session, IsSession, CanOpen, session_of, is_open, known_by, session_ids, view, grown}
+use Rattle.node_binding.specs.Deals.{more_told}
+use Rattle.node_binding.specs.DealLaws.{IsPiece, ArePieces}
+use Rattle.node_binding.proofs.DealLemmas.{piece-low}
 use Rattle.node_binding.proofs.Places.{place-le}
 use Rattle.node_binding.proofs.Known.{length-known}
 use Rattle.node_binding.proofs.OpeningLemmas.{AreDistinct}
@@ -22,9 +27,10 @@ use Rattle.cdp_messages.specs.Replies.{fits_body}
 use Rattle.client_views.specs.Views.{ShownSheet, View}
 use Rattle.client_views.specs.Moves.{Move, CanBeTold, Course, ends, goes}
 use Rattle.dom_agent.specs.Keepers.{session_keeper}
-use Rattle.dom_agent.specs.Requests.{Opening, Showing, Progress, Pushes, pushing, all_opened, pushed as push_of, all_pushed, opening_move}
+use Rattle.dom_agent.specs.Requests.{Opening, Showing, Progress, Pushes, ancestors_down, pushing, all_opened, pushed as push_of}
+use Rattle.dom_agent.specs.Requests.{all_pushed, opening_move}
 use Rattle.dom_agent.specs.Requests.{opening_moves}
-use Rattle.dom_agent.proofs.OpeningsLemmas.{AreOpenings, AreContainers, pushing-are}
+use Rattle.dom_agent.proofs.OpeningsLemmas.{AreOpenings, AreContainers, pushing-are, by_one, closed_of}
 
 -- what a client sees, beside these sheets
 abbrev pub seen_by : Nodes PageRow → List ShownSheet → Session → View
@@ -48,13 +54,13 @@ pub record Goes (n : Nodes PageRow) (w z : Session) (xs : List Showing) : Type 0
 pub record CanSpell (body : ReplyBody) : Type 0 where
   pub fits : fits_body body ≡ true
   pub texts : BodyHasUtf8 body
-  pub levels : body_height body ≤ 61
+  pub levels : body_height body ≤ most_told_root
 
 pub course-join : {ms ks : List Move} {u v w : View} → Course ms u v → Course ks v w → Course (ms ++ ks) u w
 course-join (ends v t) d = d
 course-join {ks = ks} {w = x} (goes m ms u v w t moved c) d = goes m (ms ++ ks) u v x t moved (course-join c d)
 
-length-known_by : (o : Option (ℕ → Bool)) (n : Nodes PageRow) → length (known_by o n) ≤ node_count n
+pub length-known_by : (o : Option (ℕ → Bool)) (n : Nodes PageRow) → length (known_by o n) ≤ node_count n
 length-known_by None n = omega arith
 length-known_by (Some o) n = length-known o n
 
@@ -91,11 +97,11 @@ module _ (n : Nodes PageRow) where
     told_move z x = opening_move (told z x)
 
     -- one opening
-    pub goes-one : (y : Opening) (o : ℕ → Bool) (pushed : List ℕ) (since : ℕ) → is_spent y.levels ≡ false → CanOpen n o y.node
-        → IsSession n (session_of o pushed since)
+    pub goes-one : (y : Opening) (o : ℕ → Bool) (pushed : List ℕ) (since : ℕ) → is_spent y.levels ≡ false → IsPiece more_told y.levels
+        → CanOpen n o y.node → IsSession n (session_of o pushed since)
         → Goes n (session_of o pushed since) (grown o (opened_also y.levels y.node o) n (session_of o pushed since))
         (told (grown o (opened_also y.levels y.node o) n (session_of o pushed since)) y.node ∷ [])
-    goes-one y o pushed since left can session =
+    goes-one y o pushed since left small can session =
         let d : Option ℕ = y.levels in
         let x : Branch PageRow = y.node in
         let w : Session = session_of o pushed since in
@@ -117,6 +123,7 @@ module _ (n : Nodes PageRow) where
                   is = refl;
                   suits = refl;
                   named = refl;
+                  low = piece-low more_told n distinct o pushed since d x (session_ids z) left small session can;
                   at = at.1;
                 },
                 refl,
@@ -127,19 +134,29 @@ module _ (n : Nodes PageRow) where
     module _ (document : Branch PageRow) where
       -- several
       pub goes-openings : (xs : List Opening) (o : ℕ → Bool) (pushed : List ℕ) (since : ℕ) → IsSession n (session_of o pushed since)
-          → AreOpenings n o xs
+          → AreOpenings n o xs → ArePieces more_told xs
           → Goes n (session_of o pushed since) (all_opened (session_keeper n) document xs (session_of o pushed since)).state
           (all_opened (session_keeper n) document xs (session_of o pushed since)).shown
-      goes-openings [] o pushed since session are = goes-none (session_of o pushed since) session
-      goes-openings (y ∷ ys) o pushed since session are =
+      goes-openings [] o pushed since session are small = goes-none (session_of o pushed since) session
+      goes-openings (y ∷ ys) o pushed since session are small =
           let w : Session = session_of o pushed since in
           let p : ℕ → Bool = opened_also y.levels y.node o in
           let z : Session = grown o p n w in
-          let first = goes-one y o pushed since are.0 are.1 session in
+          let first = goes-one y o pushed since are.0 small.0 are.1 session in
           let rest : Progress Session = all_opened (session_keeper n) document ys z in
-          goes-on w z rest.state (told z y.node ∷ []) rest.shown first (goes-openings ys p z.pushed z.since first.session are.2)
+          goes-on w z rest.state (told z y.node ∷ []) rest.shown first (goes-openings ys p z.pushed z.since first.session are.2 small.1)
 
 -- ---- pushes
+
+-- each opens one level
+pub small-pushes : (o : ℕ → Bool) (ys : List (Branch PageRow)) → ArePieces more_told (closed_of o ys)
+small-pushes o [] = tt
+small-pushes o (y ∷ ys) = step (not (o y.row.serial))
+  where
+    step : (b : Bool) → ArePieces more_told (map by_one (cond b (y ∷ filter (λ (x : Branch PageRow). not (o x.row.serial)) ys)
+        (filter (λ (x : Branch PageRow). not (o x.row.serial)) ys)))
+    step true = (omega arith, small-pushes o ys)
+    step false = small-pushes o ys
 
 -- an id that a reply can tell
 abbrev pub is_small : ℕ → Bool
@@ -168,7 +185,7 @@ module _ (document : Branch PageRow) (distinct : AreDistinct (alone document)) (
       (push_of (session_keeper n) document s (session_of o pushed since)).shown
   goes-pushed s o pushed since session =
       goes-openings n distinct document (pushing o s n) o pushed since session
-      (pushing-are n distinct o s n o containers distinct (roots_in_view o n) (λ k h. refl))
+      (pushing-are n distinct o s n o containers distinct (roots_in_view o n) (λ k h. refl)) (small-pushes o (ancestors_down s n))
 
   pub goes-all_pushed : (ss : List ℕ) (opened : Option (ℕ → Bool)) (pushed : List ℕ) (since : ℕ)
       → is_open opened document.row.serial ≡ true → IsSession n (record { opened = opened; pushed = pushed; since = since })

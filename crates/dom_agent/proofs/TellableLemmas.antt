@@ -6,6 +6,7 @@ use Rattle.std.proofs.lemmas.Bool.{and_parts, and_from}
 use Rattle.node_tree.specs.declared.Kind.{Kind}
 use Rattle.node_tree.specs.declared.Kind.TheVariants.{Document, Element, Text, Comment, Doctype}
 use Rattle.node_tree.specs.Names.{is_element_name, is_attribute_name}
+use Rattle.node_tree.specs.Levels.{max_level, most_levels}
 use Rattle.node_tree.specs.Nodes.{Nodes, none, node, alone, width, height, node_count, map_rows, is_no_node}
 use Rattle.node_tree.specs.Keys.{tally}
 use Rattle.node_tree.specs.Labels.{Pair, is_document, is_element, holds, has_name, is_empty as is_nothing, is_ascending, is_formed_label}
@@ -241,9 +242,9 @@ module _ (page : PageValue) (valid : IsValid page) (next : page.next ≤ 2 ^ 53)
       (and_parts (cond (is_element r.label.kind) (is_ascending r.label.attributes) (is_nothing r.label.attributes) && _) _ d.1).0 in
       document_named r.label.kind r.label.name r.label.attributes d.0 label.0
 
-  pub tall : height n ≤ 61
+  pub tall : height n ≤ most_levels
   tall =
-      let h : height (map_rows row_label page.tree.children) ≤ 60 = valid.nodes.levels in
+      let h : height (map_rows row_label page.tree.children) ≤ max_level = valid.nodes.levels in
       let e : height (map_rows row_label page.tree.children) ≡ height page.tree.children = height-map_rows row_label page.tree.children in
       omega (arith, h, e)
 

@@ -95,7 +95,7 @@ StepsAreMoves =
 
 -- the reply is one of the command's method
 abbrev pub IsReplyTo : DomAsk → Outcome Session → Type 0
-IsReplyTo ask (shows_root w b) = answers (ask_name ask) (Root (told_branch 0 b)) ≡ true
+IsReplyTo ask (shows_root b p) = answers (ask_name ask) (Root (told_branch 0 b)) ≡ true
 IsReplyTo ask (served p body) = answers (ask_name ask) body ≡ true
 IsReplyTo ask (refused why) = ⊤
 

@@ -1,13 +1,16 @@
 -- What each command of a client comes to: what becomes opened, what is told of it, and the reply.
-use Rattle.std.specs.Prelude.{ℕ, ℤ, pos, Bool, not, ◌&&◌, cond, List, [], ◌∷◌, ◌++◌, map, filter, Option, Some, None, unwrap_or, Result, Ok}
+use Rattle.std.specs.Prelude.{ℕ, ℤ, pos, Bool, not, cond, List, [], ◌∷◌, ◌++◌, map, filter, Option, Some, None, unwrap_or, Result, Ok}
 use Rattle.std.specs.Prelude.{Err}
 use Rattle.node_tree.specs.Nodes.{Nodes, none, node, Branch, alone}
+use Rattle.node_tree.specs.Levels.{most_told}
 use Rattle.node_tree.specs.Keys.{has, find}
-use Rattle.node_tree.specs.Labels.{holds, is_element}
+use Rattle.node_tree.specs.Labels.{is_element}
 use Rattle.node_tree.specs.Seen.{Seen}
 use Rattle.page_tree.specs.Pages.{PageRow, row_serial}
 use Rattle.node_binding.specs.Cuts.{opens, seen_of, cut}
-use Rattle.node_binding.specs.Openings.{levels_of, less, is_spent}
+use Rattle.node_binding.specs.Openings.{levels_of}
+pub use Rattle.node_binding.specs.Deals.{Opening}
+use Rattle.node_binding.specs.Deals.{capped, dealt, asked, more_told}
 use Rattle.cdp_messages.specs.declared.dom_ask.DomAsk.{DomAsk}
 use Rattle.cdp_messages.specs.declared.dom_ask.DomAsk.TheVariants.{GetDocument, RequestChildNodes, PushByPath, PushBySerials, QuerySelector}
 use Rattle.cdp_messages.specs.declared.dom_ask.DomAsk.TheVariants.{QuerySelectorAll, GetAttributes, DescribeNode}
@@ -21,11 +24,6 @@ use Rattle.dom_agent.specs.Paths.{node_at_path}
 use Rattle.dom_agent.specs.Described.{described}
 use Rattle.dom_agent.specs.Queries.{Query, query_of, first_matching, all_matching}
 
--- a container that is opened, and by how many levels
-pub record Opening : Type 0 where
-  pub levels : Option ℕ
-  pub node : Branch PageRow
-
 -- what is told of an opening: the children of the node of that id, with what is shown below them
 pub record Showing : Type 0 where
   pub parent : ℕ
@@ -34,13 +32,9 @@ pub record Showing : Type 0 where
 -- ---- which containers are opened
 
 -- By a request for the nodes n: in document order each container, at a distance k below d, that is not opened itself and is
--- one of n or has an opened parent; by d - k levels.
+-- one of n or has an opened parent; by d - k levels, in pieces of as many as a message tells.
 abbrev pub requested : (ℕ → Bool) → Option ℕ → Nodes PageRow → List Opening
-requested o d none = []
-requested o d (node r c t) =
-    cond (holds r.label.kind && not (is_spent d))
-    (cond (o r.serial) (requested o (less d) c) (record { levels = d; node = record { row = r; children = c } } ∷ [])) []
-    ++ requested o d t
+requested = asked more_told
 
 -- the proper ancestors of a node, from the top down
 abbrev pub ancestors_down : ℕ → Nodes PageRow → List (Branch PageRow)
@@ -69,9 +63,9 @@ pub record Pushes (S : Type 0) : Type 0 where
   pub progress : Progress S
   pub ids : List ℕ
 
--- A command shows the document, or it is served otherwise, or it is refused and changes nothing.
+-- A command shows the document and then further pieces of it, or it is served otherwise, or it is refused and changes nothing.
 pub data Outcome (S : Type 0) : Type 0 where
-  shows_root : S → Branch Seen → Outcome S
+  shows_root : Branch Seen → Progress S → Outcome S
   served : Progress S → ReplyBody → Outcome S
   refused : Why → Outcome S
 
@@ -112,9 +106,12 @@ module _ {S : Type 0} (k : Keeper S) (document : Branch PageRow) where
       (let first = pushed s w in and_id (k.id_of first.state s) first (all_pushed ss first.state))
       (and_id 0 (record { state = w; shown = [] }) (all_pushed ss w))
 
-  -- the document, as it is shown in the reply to `DOM.getDocument`
-  abbrev pub with_document : S → Outcome S
-  with_document w = shows_root w (shown (k.is_open w) (k.id_of w) document)
+  -- The document is opened to d levels: by as many as a message tells, as it is shown then in the reply to `DOM.getDocument`, and
+  -- then by the further pieces.
+  abbrev pub with_document : Option ℕ → S → Outcome S
+  with_document d w =
+      let z = k.started (capped most_told d) w in
+      shows_root (shown (k.is_open z) (k.id_of z) document) (all_opened (dealt more_told most_told d (alone document)) z)
 
   -- the children of the node x are asked for
   abbrev pub of_children : Option ℤ → Option (Branch PageRow) → S → Outcome S
@@ -170,14 +167,14 @@ module _ {S : Type 0} (k : Keeper S) (document : Branch PageRow) where
   of_attributes None w = refused UnknownNode
   of_attributes (Some x) w = cond (is_element x.row.label.kind) (only_replied (Attributes x.row.label.attributes) w) (refused NotElement)
 
-  -- the node x is to be described
+  -- the node x is to be described, to no more levels than a message tells
   abbrev pub of_description : Option ℤ → Option (Branch PageRow) → S → Outcome S
   of_description depth None w = refused UnknownNode
-  of_description depth (Some x) w = only_replied (Node (described (levels_of (unwrap_or depth (pos 1))) x)) w
+  of_description depth (Some x) w = only_replied (Node (described (capped most_told (levels_of (unwrap_or depth (pos 1)))) x)) w
 
   -- what a command comes to
   abbrev pub outcome : DomAsk → S → Outcome S
-  outcome (GetDocument depth pierce) w = with_document (k.started (levels_of (unwrap_or depth (pos 1))) w)
+  outcome (GetDocument depth pierce) w = with_document (levels_of (unwrap_or depth (pos 1))) w
   outcome (RequestChildNodes id depth pierce) w = of_children depth (known_node w (k.serial_of w id)) w
   outcome (PushByPath path) w = once_begun w (of_path (node_at_path path document) w)
   outcome (PushBySerials serials) w = once_begun w (with_ids (all_pushed serials w))
@@ -190,7 +187,7 @@ module _ {S : Type 0} (k : Keeper S) (document : Branch PageRow) where
 
 -- what is kept after a command; a refusal keeps what was there
 abbrev pub state_after : {S : Type 0} → S → Outcome S → S
-state_after w (shows_root z b) = z
+state_after w (shows_root b p) = p.state
 state_after w (served p body) = p.state
 state_after w (refused why) = w
 
@@ -202,9 +199,9 @@ opening_move x = change x.parent (shows x.children)
 abbrev pub opening_moves : List Showing → List Move
 opening_moves xs = map opening_move xs
 
--- the moves that answer the command with that id, the reply last
+-- the moves that answer the command with that id: the reply last, but for a document's, behind which further pieces come
 abbrev pub moves_of : {S : Type 0} → ℕ → Outcome S → List Move
-moves_of id (shows_root w b) = root id b ∷ []
+moves_of id (shows_root b p) = root id b ∷ opening_moves p.shown
 moves_of id (served p body) = opening_moves p.shown ++ replied id body ∷ []
 moves_of id (refused why) = failed (record { id = Some id; why = why }) ∷ []
 

@@ -11,7 +11,7 @@ use Rattle.cdp_messages.specs.declared.dom_ask.DomAsk.TheVariants.{QuerySelector
 use Rattle.dom_agent.specs.Keepers.{session_keeper}
 use Rattle.dom_agent.specs.Paths.{node_at_path}
 use Rattle.dom_agent.specs.Queries.{Query, query_of, first_matching, all_matching}
-use Rattle.dom_agent.specs.Requests.{ancestors_down, known_node, state_after}
+use Rattle.dom_agent.specs.Requests.{Opening, requested, ancestors_down, known_node, state_after}
 use Rattle.dom_agent.specs.Distances.{IsReached, IsAncestor, OpensAlso}
 use Rattle.dom_agent.specs.Laws.{session_outcome}
 
@@ -35,12 +35,19 @@ RequestOpens = (page : PageValue) (id : ℕ) (depth : Option ℤ) (pierce : Opti
 abbrev pub newly_known : PageValue → Session → Session → List ℕ
 newly_known page w z = filter (λ s. not (knows w (alone page.tree) s)) (known_by z.opened (alone page.tree))
 
--- the nodes that become known by a request for children get the next ids, in document order
+-- the nodes that become known by openings, one after another: by each in document order
+abbrev pub known_in_turn : PageValue → List Opening → Session → List ℕ
+known_in_turn page [] w = []
+known_in_turn page (x ∷ xs) w =
+    let z = (session_keeper (alone page.tree)).opened x.levels x.node w in newly_known page w z ++ known_in_turn page xs z
+
+-- the nodes that become known by a request for children get the next ids, in the order of its openings
 abbrev pub RequestPushes : Type 0
 RequestPushes = (page : PageValue) (id : ℕ) (depth : Option ℤ) (pierce : Option Bool) (w : Session) (x : Branch PageRow) → IsValid page
     → IsSession (alone page.tree) w
     → known_node (session_keeper (alone page.tree)) page.tree w (serial_at w (alone page.tree) id) ≡ Some x
-    → (let z = state_after w (session_outcome page (RequestChildNodes id depth pierce) w) in z.pushed ≡ w.pushed ++ newly_known page w z)
+    → (state_after w (session_outcome page (RequestChildNodes id depth pierce) w)).pushed
+    ≡ w.pushed ++ known_in_turn page (requested (is_open w.opened) (levels_asked depth) (alone x)) w
 
 -- a push of the node that a path leads to opens its proper ancestors
 abbrev pub PathOpens : Type 0

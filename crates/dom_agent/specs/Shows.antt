@@ -4,7 +4,9 @@ use Rattle.std.specs.List.{All}
 use Rattle.node_tree.specs.Nodes.{Branch, alone}
 use Rattle.node_tree.specs.Labels.{holds}
 use Rattle.page_tree.specs.Pages.{PageRow, PageValue, IsValid}
+use Rattle.node_tree.specs.Levels.{most_told}
 use Rattle.node_binding.specs.Openings.{less}
+use Rattle.node_binding.specs.Deals.{capped}
 use Rattle.node_binding.specs.Sessions.{Session, IsSession, is_open, serial_at}
 use Rattle.cdp_messages.specs.declared.dom_ask.DomAsk.TheVariants.{RequestChildNodes}
 use Rattle.dom_agent.specs.Keepers.{session_keeper}
@@ -19,7 +21,8 @@ abbrev pub levels_left : ℕ → Option ℕ → Option ℕ
 levels_left k None = None
 levels_left k (Some d) = Some (d - k)
 
--- The event tells the children of a container at or below x, at a distance k below d, that was not opened: to d - k levels.
+-- The event tells the children of a container at or below x, at a distance k below d, that was not opened: to d - k levels, or to as
+-- many as a message tells where these are fewer.
 pub record TellsLevels (d : Option ℕ) (x : Branch PageRow) (w : Session) (e : Showing) : Type 0 where
   pub container : Branch PageRow
   pub distance : ℕ
@@ -29,11 +32,11 @@ pub record TellsLevels (d : Option ℕ) (x : Branch PageRow) (w : Session) (e : 
   pub shut : is_open w.opened container.row.serial ≡ false
   pub ids : ℕ → ℕ
   pub parent : e.parent ≡ ids container.row.serial
-  pub shows : e.children ≡ shown_to ids (less (levels_left distance d)) container.children
+  pub shows : e.children ≡ shown_to ids (less (capped most_told (levels_left distance d))) container.children
 
--- what an outcome tells before the reply
+-- what an outcome tells beside the reply
 abbrev pub shown_by_outcome : Outcome Session → List Showing
-shown_by_outcome (shows_root w b) = []
+shown_by_outcome (shows_root b p) = p.shown
 shown_by_outcome (served p body) = p.shown
 shown_by_outcome (refused why) = []
 

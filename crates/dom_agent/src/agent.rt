@@ -14,7 +14,9 @@ ghost use Rattle.client_views.specs.Moves.{replied, failed, frames_of_moves};
 ghost use Rattle.dom_agent.specs.Keepers.{binding_keeper};
 ghost use Rattle.dom_agent.specs.Queries.{query_seen};
 ghost use Rattle.dom_agent.specs.Requests.{state_after, answer, pushed, all_pushed, with_id, with_ids, first_asked, all_asked, frames_told};
-ghost use Rattle.dom_agent.specs.Requests.{known_node, named_serial};
+ghost use Rattle.dom_agent.specs.Requests.{known_node, named_serial, all_opened};
+ghost use Rattle.node_tree.specs.Levels.{most_told};
+ghost use Rattle.node_binding.specs.Deals.{dealt, more_told};
 ghost use Rattle.dom_agent.specs.Laws.{binding_outcome};
 ghost use Rattle.dom_agent.specs.Edits.{OnFault};
 ghost use Rattle.dom_agent.specs.EditLaws.{binding_edited};
@@ -28,7 +30,8 @@ use crate::queries::{Query, QueryErr, read_query};
 use crate::serving::open_all;
 use crate::told::tell_root;
 use cdp_messages::{DomAsk, Numbers, Refused, ReplyBody, Why, write_refused, write_reply};
-use node_binding::{Binding, find_in, levels_of};
+use node_binding::{Binding, capped, deal_node, find_in, levels_of};
+use node_tree::MOST_TOLD;
 use page_tree::{EditErr, Node, Page, TreeEdit};
 use select_match::{all_matches, first_match};
 use std::alloc::{AllocError, Global};
@@ -62,8 +65,8 @@ impl DomAgent {
         }
     }
 
-    /// Carries the command out, and appends the frames that answer it to `out`, the reply last, with the id of the command's
-    /// frame. What the command's own row of refusals names is answered by an error reply, and changes nothing.
+    /// Carries the command out, and appends the frames that answer it to `out`, with the id of the command's frame: the reply last,
+    /// but for a document's, behind which events tell what lies deeper than one message tells. What the command's own row of refusals names is answered by an error reply, and changes nothing.
     pub fn ask(
         &mut self,
         page: &Page,
@@ -122,8 +125,31 @@ impl DomAgent {
             (out.new.items ≡ out.old.items
             ++ answer id (binding_outcome page.now (GetDocument depth None) self.old)) }
     {
-        self.binding.start(page, depth.unwrap_or(1))?;
+        page.valid();
+        let levels = levels_asked(depth);
+        self.binding.begin(page, capped(levels))?;
         tell_root(self.alloc, &self.binding, &page.root(), id, out)?;
+        self.tell_pieces(page, levels, out)
+    }
+
+    /// Opens what is left of the document's levels behind its first piece, and appends for each piece the event that tells it.
+    fn tell_pieces(
+        &mut self,
+        page: &Page,
+        levels: Option<u64>,
+        out: &mut Vec<u8>,
+    ) -> Result<(), AllocError>
+        requires room { self.old.next < drawn_before_nodes }
+        ensures known { OnOk result (self.new ≡ (all_opened (binding_keeper (alone page.now.tree)) page.now.tree
+            (dealt more_told most_told levels (alone page.now.tree)) self.old).state) }
+        ensures sent { OnOk result (out.new.items ≡ out.old.items ++ frames_told
+            (all_opened (binding_keeper (alone page.now.tree)) page.now.tree
+            (dealt more_told most_told levels (alone page.now.tree)) self.old).shown) }
+    {
+        page.valid();
+        let mut openings = Vec::new(self.alloc);
+        deal_node(&page.root(), MOST_TOLD, levels, &mut openings)?;
+        open_all(self.alloc, &mut self.binding, &openings, out)?;
         Ok(())
     }
 
@@ -390,7 +416,7 @@ impl DomAgent {
         let Some(found) = self.named_node(page, node, serial) else {
             return refuse(self.alloc, id, Why::UnknownNode, out);
         };
-        tell_described(self.alloc, &found, levels_asked(depth), id, out)
+        tell_described(self.alloc, &found, capped(levels_asked(depth)), id, out)
     }
 
     /// Opens each ancestor of the node that is not opened yet, from the top down, by one level; appends a frame for each.

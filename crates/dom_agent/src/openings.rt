@@ -8,19 +8,12 @@ ghost use Rattle.node_binding.specs.Bindings.{opened_in};
 ghost use Rattle.dom_agent.specs.Requests.{requested, pushing};
 ghost use Rattle.dom_agent.specs.Openings.{opening_of};
 
-use node_binding::{Binding, is_reached, less};
+use node_binding::{Binding, Opening, deal_node, is_reached, less};
 use page_tree::{Children, Node, Page};
 use std::alloc::{AllocError, Global};
 
-/// A container that is to be opened, and by how many levels; `None` stands for all.
-#[derive(Drop)]
-pub(crate) struct Opening<'a> {
-    pub levels: Option<u64>,
-    pub node: Node<'a>,
-}
-
 /// Appends what a request for this node opens, in document order: the containers at and below it that are not opened
-/// themselves and stand below opened ones alone, by the levels that are left there.
+/// themselves and stand below opened ones alone, by the levels that are left there, in pieces of as many as a message tells.
 #[cycle(request)]
 pub(crate) fn request_node<'a>(
     binding: &Binding,
@@ -35,11 +28,7 @@ pub(crate) fn request_node<'a>(
         return Ok(());
     }
     if !binding.is_opened(node.serial()) {
-        openings.push(Opening {
-            levels,
-            node: node.again(),
-        })?;
-        return Ok(());
+        return deal_node(node, 0, levels, openings);
     }
     let left = less(levels);
     request_children(binding, &node.children(), left, openings)?;

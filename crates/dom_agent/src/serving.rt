@@ -6,9 +6,8 @@ ghost use Rattle.dom_agent.specs.Keepers.{binding_keeper};
 ghost use Rattle.dom_agent.specs.Requests.{told_of, all_opened, frames_told};
 ghost use Rattle.dom_agent.specs.Openings.{opening_of, IsOfContainer};
 
-use crate::openings::Opening;
 use crate::told::tell_shows;
-use node_binding::Binding;
+use node_binding::{Binding, Opening};
 use page_tree::Node;
 use std::alloc::{AllocError, Global};
 

@@ -16,7 +16,7 @@ use Rattle.node_tree.proofs.PairLemmas.{is_ascending-placed, names-placed, names
 use Rattle.dom_objects.specs.Told.{seen_nodes}
 use Rattle.dom_objects.specs.NodeData.{fits_nodes}
 use Rattle.client_views.specs.Moves.{Change, shows, inserts, removes, counts, sets, drops, says, changed, suits_change, has_tree, put_after}
-use Rattle.client_views.specs.Moves.{without_tree, has_named_attribute}
+use Rattle.client_views.specs.Moves.{without_tree, has_named_attribute, nodes_told}
 use Rattle.client_views.specs.Views.{IsMirror, is_bare, has_formed_labels, is_document_tree}
 use Rattle.node_tree.specs.Levels.{most_levels}
 use Rattle.front_mirror.specs.declared.faults.FrontKind.{FrontKind}
@@ -103,13 +103,7 @@ said_with kind.Doctype name value other ps e f = absurd cc
 
 -- the nodes that come with a change
 abbrev pub added : Change → Nodes Seen
-added (shows kids) = kids
-added (inserts previous w) = alone w
-added (removes id) = none
-added (counts n) = none
-added (sets name value) = none
-added (drops name) = none
-added (says value) = none
+added = nodes_told
 
 -- the nodes that come are bare, and their labels have their forms
 pub record Fine (c : Change) : Type 0 where

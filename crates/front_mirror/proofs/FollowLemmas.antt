@@ -29,7 +29,7 @@ use Rattle.cdp_messages.specs.Laws.{NewsHaveUtf8, news_height}
 use Rattle.client_views.specs.Moves.{Change, shows, inserts, removes, counts, sets, drops, says, changed, suits_change, has_tree}
 use Rattle.client_views.specs.Moves.{change_news, has_named_attribute, ChangesNode, SeenHaveUtf8, suits_view, IsTellable}
 use Rattle.client_views.specs.Views.{IsView, is_bare}
-use Rattle.node_tree.specs.Levels.{most_levels}
+use Rattle.node_tree.specs.Levels.{most_levels, most_told}
 use Rattle.dom_objects.proofs.TellableLaws.{fits-told_nodes}
 use Rattle.cdp_messages.proofs.NewsLaws.{shown_children_fit}
 use Rattle.front_mirror.specs.declared.faults.FrontKind.{FrontKind}
@@ -380,14 +380,14 @@ news_levels id (says value) = refl
 pub record CanTellNews (n : News) : Type 0 where
   pub fits : fits_news n ≡ true
   pub texts : NewsHaveUtf8 n
-  pub levels : news_height n ≤ 60
+  pub levels : news_height n ≤ most_told
 
 pub told_change_news : (u w : Nodes Seen) (id : ℕ) (c : Change) → IsTellable u → IsTellable w → ChangesNode id c u w
     → CanTellNews (change_news id c)
 told_change_news u w id c before after move = record {
   fits = news_fit id c move.old move.suits move.named (suited-at move.at before.forms) (suited-at (at-back move.at) after.forms) move.is;
   texts = news_texts id c move.old move.suits move.named (texts-at (at-back move.at) after.texts);
-  levels = let h = told_levels u w id c before.view after.view move in let k = news_levels id c in omega arith;
+  levels = let h = move.low in let k = news_levels id c in let j = height-told id (added c) in omega arith;
 }
 
 -- a node that is shown has an id that a message can name

@@ -5,7 +5,8 @@ use Rattle.std.specs.List.{flat_map, list_all}
 use Rattle.std.specs.Option.{option_to_list}
 use Rattle.std.proofs.lemmas.Bool.{eq-eqb}
 use Rattle.cdp_json.specs.Kinds.{is_counted, holds_of_some}
-use Rattle.node_tree.specs.Nodes.{Nodes, none, Branch, alone}
+use Rattle.node_tree.specs.Levels.{most_told_root}
+use Rattle.node_tree.specs.Nodes.{Nodes, none, Branch, alone, height}
 use Rattle.node_tree.specs.Seen.{Seen}
 use Rattle.cdp_messages.specs.declared.command.Refused.{Refused}
 use Rattle.cdp_messages.specs.declared.down.ReplyBody.{ReplyBody}
@@ -134,7 +135,7 @@ gives_pause why u v before are has =
 
 -- a reply that is written is read as one of its method
 reply_taken : (v : FrontValue) (id : ℕ) (body : ReplyBody) (method : List ℕ) → is_counted id ≡ true → fits_body body ≡ true
-    → BodyHasUtf8 body → body_height body ≤ 61
+    → BodyHasUtf8 body → body_height body ≤ most_told_root
     → IsAskOf id method v.asks → answers method body ≡ true
     → take_frame v (reply_text id body)
     ≡ with_effect (with_matched v (matched_told id body)) (reply_frame id (reply_text id body)) (effect_of method body)
@@ -145,13 +146,13 @@ reply_taken v id body method counted fits texts levels waits is =
     ∙ ap (with_body v (reply_frame id (reply_text id body)) method) (results_are_read method body is fits)
 
 gives_root : (id : ℕ) (b : Branch Seen) (w : View) (v : FrontValue) → CanBeTold w → alone b ≡ w.tree → KnowsSheets v.sheets w.sheets
-    → is_counted id ≡ true
+    → is_counted id ≡ true → height (alone b) ≤ most_told_root
     → IsAskOf id (codes "DOM.getDocument") v.asks → IsTaken (move.root id b) v w
-gives_root id b w v after is knows counted waits =
+gives_root id b w v after is knows counted low waits =
     let can : IsTellable (alone b) = subst IsTellable (sym is) after.tree in
     let body = Root (told_branch 0 b) in
     let fits = shown_trees_fit b (and_left (suits_tree true b) true can.forms) in
-    let levels : body_height body ≤ 61 = rw (height-told 0 (alone b)) can.view.levels in
+    let levels : body_height body ≤ most_told_root = rw (height-told 0 (alone b)) low in
     let same = with_matched v [] in
     record {
       after = replied same (reply_frame id (reply_text id body)) true (alone b);
@@ -190,7 +191,7 @@ gives_reply id body w v plain is has = record {
   taken = refl;
 }
 
-nothing_levels : body_height Nothing ≤ 61
+nothing_levels : body_height Nothing ≤ most_told_root
 nothing_levels = omega arith
 
 gives_end : (id : ℕ) (w : View) (v : FrontValue) → none ≡ w.tree → w.sheets ≡ [] → is_counted id ≡ true
@@ -335,7 +336,7 @@ gives_rewritten n text u w v before is shown has =
       taken = refl;
     }
 
-text_levels : (text : List ℕ) → body_height (SheetText text) ≤ 61
+text_levels : (text : List ℕ) → body_height (SheetText text) ≤ most_told_root
 text_levels text = omega arith
 
 gives_text : (id n : ℕ) (text : List ℕ) (u : View) (v : FrontValue) → CanBeTold u → shown_text n u.sheets ≡ Some text → is_counted id ≡ true
@@ -382,7 +383,7 @@ move_gives (move.dropped n) u w v before after moves has waits = gives_dropped n
 move_gives (move.rewritten n text) u w v before after moves has waits = gives_rewritten n text u w v before moves.0 moves.1 has
 move_gives (move.root id b) u w v before after moves has waits =
     gives_root id b w v after (ap (λ (x : View). x.tree) (sym moves.0))
-    (still_knows v u w (ap (λ (x : View). x.sheets) moves.0) has) moves.1 waits
+    (still_knows v u w (ap (λ (x : View). x.sheets) moves.0) has) moves.1 moves.2 waits
 move_gives (move.texted id n text) u w v before after moves has waits =
     subst (IsTaken (move.texted id n text) v) (sym moves.0) (gives_text id n text u v before moves.1 moves.2 waits has)
 move_gives (move.replied id body) u w v before after moves has waits = gives_reply id body w v moves.1 waits (still_has v u w moves.0 has)

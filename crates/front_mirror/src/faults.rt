@@ -17,7 +17,7 @@ pub enum FrontKind {
     IdTaken,
     /// An event names a sheet that is not known.
     UnknownSheet,
-    /// A node would stand at a level above 60.
+    /// A node would stand at a level above 500.
     TooDeep,
 }
 

@@ -106,7 +106,7 @@ impl Mirror {
         Ok(())
     }
 
-    /// What each mirror is: ids and serials are distinct, no node stands at a level above 60, names have their forms, and
+    /// What each mirror is: ids and serials are distinct, no node stands at a level above 500, names have their forms, and
     /// the one root is a document. Called for the proof alone.
     pub fn valid(&self)
         ensures { IsMirror self.now }

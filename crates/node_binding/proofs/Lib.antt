@@ -19,3 +19,6 @@ pub mod ChangedLemmas
 pub mod AttachLemmas
 pub mod DetachLemmas
 pub mod ChangesLemmas
+pub mod DealLemmas
+pub mod PieceLemmas
+pub mod BindLemmas

@@ -45,18 +45,18 @@ module _ (page : PageValue) (valid : IsValid page) where
       ∙ ap (λ g. after_first (g && not (is_spent d)) d page.tree.row page.tree.children (cleared b)) root_holds
       ∙ ap (λ g. after_first (not g) d page.tree.row page.tree.children (cleared b)) left
 
-  pub start_root : (depth : ℤ) → IsDepth depth
-      → (levels left : Option ℕ) (serial : ℕ) (kids : Nodes PageRow) (b b1 b2 b3 b4 : BindingValue) → levels ≡ levels_of depth
+  pub start_root : (levels : Option ℕ) → is_spent levels ≡ false
+      → (left : Option ℕ) (serial : ℕ) (kids : Nodes PageRow) (b b1 b2 b3 b4 : BindingValue)
       → left ≡ less levels → serial ≡ page.tree.row.serial → kids ≡ page.tree.children → b1 ≡ cleared b → b2 ≡ with_bound serial b1
-      → b3 ≡ with_opened serial b2 → b4 ≡ revealed left kids b3 → b4 ≡ started (levels_of depth) (alone page.tree) b
-  start_root depth is_depth levels left serial kids b b1 b2 b3 b4 levels_are left_is serial_is kids_are cleared_is bound opened below =
+      → b3 ≡ with_opened serial b2 → b4 ≡ revealed left kids b3 → b4 ≡ started levels (alone page.tree) b
+  start_root levels unspent left serial kids b b1 b2 b3 b4 left_is serial_is kids_are cleared_is bound opened below =
       below
-      ∙ ap (λ l. revealed l kids b3) (left_is ∙ ap less levels_are)
-      ∙ ap (λ n. revealed (less (levels_of depth)) n b3) kids_are
-      ∙ ap (revealed (less (levels_of depth)) page.tree.children)
+      ∙ ap (λ l. revealed l kids b3) left_is
+      ∙ ap (λ n. revealed (less levels) n b3) kids_are
+      ∙ ap (revealed (less levels) page.tree.children)
       (opened ∙ ap (with_opened serial) (bound ∙ ap (with_bound serial) cleared_is) ∙ ap
       (λ s. with_opened s (with_bound s (cleared b))) serial_is)
-      ∙ sym (started-root (levels_of depth) b (levels-left depth is_depth))
+      ∙ sym (started-root levels b unspent)
 
   pub start_room : (kids : Nodes PageRow) (serial : ℕ) (b b1 b2 b3 : BindingValue) → b.next < 2 ^ 60 → kids ≡ page.tree.children
       → b1 ≡ cleared b → b2 ≡ with_bound serial b1 → b3 ≡ with_opened serial b2 → b3.next + node_count kids < 2 ^ 63

@@ -5,3 +5,7 @@ pub mod Ids
 pub mod Sessions
 pub mod Bindings
 pub mod Changes
+pub mod Deals
+pub mod DealLaws
+pub mod Pieces
+pub mod DealBindings

@@ -1,4 +1,4 @@
-ghost use Rattle.std.specs.Prelude.{◌≡◌, ◌+◌, ◌<◌, ◌&&◌, not, cond, IsTrue, IsSome, IfOk, OnOk};
+ghost use Rattle.std.specs.Prelude.{◌≡◌, ◌+◌, ◌<◌, ◌&&◌, false, not, cond, IsTrue, IsSome, IfOk, OnOk};
 ghost use Rattle.std.specs.FinMap as map;
 ghost use Rattle.std.specs.FinSet as set;
 ghost use Rattle.node_tree.specs.Numbers.{drawn_before_nodes, drawn_limit};
@@ -58,10 +58,18 @@ impl Binding {
         ensures { OnOk result
             (self.new ≡ started (levels_of depth) (alone page.now.tree) self.old) }
     {
+        self.begin(page, levels_of(depth))
+    }
+
+    /// The same by levels that may be few already, at least 1 of them.
+    pub fn begin(&mut self, page: &Page, levels: Option<u64>) -> Result<(), AllocError>
+        requires left { is_spent levels ≡ false }
+        requires room { self.old.next < drawn_before_nodes }
+        ensures { OnOk result (self.new ≡ started levels (alone page.now.tree) self.old) }
+    {
         page.valid();
         self.reset();
         let root = page.root();
-        let levels = levels_of(depth);
         let serial = root.serial();
         self.bind(serial)?;
         self.open(serial)?;

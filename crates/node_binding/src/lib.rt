@@ -6,7 +6,8 @@
 //! Way in: `Binding` with a change for each thing that happens (reset, start, an opening, an attach, a detach), and `id_of` and
 //! `serial_of` between.
 //!
-//! Law: `binding_law` (src/laws.rt): a binding that stands for a session with a page stands for the session after each change.
+//! Laws: `binding_law` (src/laws.rt): a binding that stands for a session with a page stands for the session after each change;
+//! `deal_law`: openings to many levels come in pieces of as many as a message tells (`deal_node`, specs/Deals).
 //! The cut of a page to the opened nodes stands in specs/Cuts, what an opening opens in specs/Openings, sessions in
 //! specs/Sessions.
 #![tactic(auto)]
@@ -14,9 +15,11 @@
 mod binding;
 mod laws;
 mod levels;
+mod pieces;
 mod search;
 
 pub use binding::Binding;
-pub use laws::binding_law;
+pub use laws::{binding_law, deal_law};
 pub use levels::{is_reached, less, levels_of};
+pub use pieces::{Opening, capped, deal_node};
 pub use search::find_in;

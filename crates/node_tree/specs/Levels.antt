@@ -1,9 +1,9 @@
--- How deep a page may be, and how many levels of it one message tells: two numbers, which are the same today.
+-- How deep a page may be, and how many levels of it one message tells: two numbers.
 use Rattle.std.specs.Prelude.{ℕ, suc}
 
 -- the highest level of a node; the document has level 0
 abbrev pub max_level : ℕ
-max_level = 60
+max_level = 500
 
 -- how many levels a page may have, and so the mirror of one
 abbrev pub most_levels : ℕ

@@ -1,5 +1,5 @@
 /// The highest level of a node of a page; the document has level 0.
-pub const MAX_LEVEL: u64 = 60;
+pub const MAX_LEVEL: u64 = 500;
 
 /// How many levels a page has at most, the document's among them.
 pub const MOST_LEVELS: u64 = MAX_LEVEL + 1;

@@ -13,12 +13,12 @@ use cdp_json::{
     ScanErr, take_begin_array, take_begin_object, take_end_object, take_key, take_text,
 };
 use json::{Reader, Token};
-use node_tree::{MAX_LEVEL, Text};
+use node_tree::{MOST_TOLD, Text};
 use page_tree::limit_fault;
 use std::alloc::Global;
 
-// The most levels of nodes that a page may have.
-const LEVELS: u64 = MAX_LEVEL;
+// The most levels of nodes that a page in its usual form has: JSON that nests deeper is not read.
+const LEVELS: u64 = MOST_TOLD;
 
 fn scan_sheet(alloc: Global, reader: &mut Reader<'_>) -> Result<SheetForm, ScanErr>
     ensures { IfOk result (λ sheet. ReadsAs sheet_value reader.old sheet reader.new) }

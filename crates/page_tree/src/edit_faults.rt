@@ -22,7 +22,7 @@ pub enum EditFault {
     /// The parent is the moved node or stands below it.
     #[error("the parent is the node itself or below it")]
     Inside,
-    /// A node would stand above level 60; the document has level 0.
+    /// A node would stand above level 500; the document has level 0.
     #[error("a node would stand above the highest level")]
     TooDeep,
     /// The page would have more than 100,000 nodes with the document.

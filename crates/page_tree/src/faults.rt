@@ -7,7 +7,7 @@ pub enum LoadFault {
     /// Not the form of nodes: an odd attribute list, a repeated attribute name and a doctype below an element are none.
     #[error("the nodes have not their form")]
     BadForm,
-    /// A node stands above level 60; the document has level 0.
+    /// A node stands above level 500; the document has level 0.
     #[error("a node stands above the highest level")]
     TooDeep,
     /// More than 100,000 nodes with the document.

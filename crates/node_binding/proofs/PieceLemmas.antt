@@ -1,0 +1,71 @@
+-- The openings of a deal, one tree after another.
+use Rattle.std.proofs.Common.{◌≡◌, ℕ, zero, suc, ◌+◌, ◌-◌, ◌<◌, ◌≤◌, ◌&&◌, not, Bool, true, false, cond, List, [], ◌∷◌, ◌++◌}
+use Rattle.std.proofs.Common.{append_assoc, append-nil}
+use Rattle.std.proofs.Common.{Option, Some, None, refl, sym, ap, ◌∙◌, arith}
+use Rattle.node_tree.specs.Nodes.{Nodes, none, node, Branch, alone, from, tree_at, width}
+use Rattle.node_tree.specs.Labels.{holds}
+use Rattle.page_tree.specs.Pages.{PageRow}
+use Rattle.page_tree.proofs.CursorLemmas.{from-next}
+use Rattle.node_binding.specs.Openings.{less, is_spent}
+use Rattle.node_binding.specs.Deals.{Opening, smaller, capped, dealt}
+use Rattle.node_binding.specs.Pieces.{begun, left_below}
+
+pub smaller-less : (k d : ℕ) → d ≤ k → smaller k d ≡ d
+smaller-less zero d h = omega arith
+smaller-less (suc k) zero h = refl
+smaller-less (suc k) (suc d) h = ap suc (smaller-less k d (omega arith))
+
+pub smaller-more : (k d : ℕ) → k ≤ d → smaller k d ≡ k
+smaller-more zero d h = refl
+smaller-more (suc k) zero h = absurd (omega arith)
+smaller-more (suc k) (suc d) h = ap suc (smaller-more k d (omega arith))
+
+module _ (m : ℕ) where
+  -- the first tree, and then the others
+  pub dealt-node : (left : ℕ) (d : Option ℕ) (x : Branch PageRow) (t : Nodes PageRow)
+      → dealt m left d (node x.row x.children t)
+      ≡ cond (holds x.row.label.kind && not (is_spent d)) (begun m left d x ++ dealt m (left_below m left) (less d) x.children) []
+      ++ dealt m left d t
+  dealt-node zero d x t = refl
+  dealt-node (suc k) d x t = refl
+
+  -- a container that is reached
+  pub dealt-reached : (left : ℕ) (d : Option ℕ) (x : Branch PageRow) (reached : Bool) (old mid new : List Opening) (below : ℕ)
+      (rest : Option ℕ) (kids : Nodes PageRow) → reached ≡ (holds x.row.label.kind && not (is_spent d)) → reached ≡ true
+      → mid ≡ old ++ begun m left d x → below ≡ left_below m left → rest ≡ less d → kids ≡ x.children
+      → new ≡ mid ++ dealt m below rest kids → new ≡ old ++ dealt m left d (alone x)
+  dealt-reached left d x reached old mid new below rest kids is goes first left_is rest_is kids_are more =
+      more
+      ∙ ap (λ l. l ++ dealt m below rest kids) first
+      ∙ append_assoc old (begun m left d x) (dealt m below rest kids)
+      ∙ ap (λ k. old ++ (begun m left d x ++ dealt m k rest kids)) left_is
+      ∙ ap (λ e. old ++ (begun m left d x ++ dealt m (left_below m left) e kids)) rest_is
+      ∙ ap (λ c. old ++ (begun m left d x ++ dealt m (left_below m left) (less d) c)) kids_are
+      ∙ ap (λ l. old ++ l) (sym (append-nil (begun m left d x ++ dealt m (left_below m left) (less d) x.children)))
+      ∙ ap (λ b. old ++ (cond b (begun m left d x ++ dealt m (left_below m left) (less d) x.children) [] ++ [])) (sym goes ∙ is)
+      ∙ ap (λ l. old ++ l) (sym (dealt-node left d x none))
+
+  -- and one that is not
+  pub dealt-not : (left : ℕ) (d : Option ℕ) (x : Branch PageRow) (reached : Bool) (old new : List Opening)
+      → reached ≡ (holds x.row.label.kind && not (is_spent d)) → reached ≡ false → new ≡ old → new ≡ old ++ dealt m left d (alone x)
+  dealt-not left d x reached old new is off same =
+      same
+      ∙ sym (append-nil old)
+      ∙ ap (λ b. old ++ (cond b (begun m left d x ++ dealt m (left_below m left) (less d) x.children) [] ++ [])) (sym off ∙ is)
+      ∙ ap (λ l. old ++ l) (sym (dealt-node left d x none))
+
+  pub deal_turn : (left : ℕ) (d : Option ℕ) (n : Nodes PageRow) (k : ℕ) (x : Branch PageRow) (before after all : List Opening)
+      → k < width n → tree_at k n ≡ Some x → after ≡ before ++ dealt m left d (alone x) → before ++ dealt m left d (from k n) ≡ all
+      → after ++ dealt m left d (from (k + 1) n) ≡ all
+  deal_turn left d n k x before after all h at this was =
+      ap (λ l. l ++ dealt m left d (from (k + 1) n)) this
+      ∙ append_assoc before (dealt m left d (alone x)) (dealt m left d (from (k + 1) n))
+      ∙ ap (λ l. before ++ l) (ap (λ l. l ++ dealt m left d (from (k + 1) n)) (dealt-node left d x none ∙ append-nil _)
+      ∙ sym (dealt-node left d x (from (k + 1) n)))
+      ∙ ap (λ t. before ++ dealt m left d t) (sym (from-next n k x h at))
+      ∙ was
+
+  pub deal_end : (left : ℕ) (d : Option ℕ) (rest : Nodes PageRow) (before all : List Opening) → rest ≡ none
+      → before ++ dealt m left d rest ≡ all → before ≡ all
+  deal_end left d rest before all ended was =
+      sym (append-nil before) ∙ ap (λ t. before ++ dealt m left d t) (sym ended) ∙ was
