@@ -17,7 +17,6 @@ use Rattle.node_binding.specs.Deals.{capped, dealt, more_told}
 use Rattle.node_binding.proofs.DealLemmas.{start-deals, spent-capped}
 use Rattle.node_binding.proofs.SessionLemmas.{IsSession-document_opened}
 use Rattle.node_binding.proofs.StartLemmas.{distinct-alone, root_holds}
-use Rattle.cdp_messages.specs.DomAsks.{fits_ask}
 use Rattle.node_tree.specs.Levels.{most_told}
 use Rattle.node_binding.proofs.StandsLemmas.{Stands-document_opened}
 use Rattle.node_binding.proofs.CutLemmas.{cut-same, ids-stands, cut-stands}
@@ -40,7 +39,7 @@ use Rattle.dom_agent.specs.Requests.{all_opened, pushed as push_of, all_pushed, 
 use Rattle.dom_agent.specs.Requests.{of_attributes}
 use Rattle.dom_agent.specs.Requests.{of_description, with_first, first_asked, all_asked, of_query, with_id, with_ids, state_after}
 use Rattle.dom_agent.specs.Requests.{opening_moves, moves_of}
-use Rattle.dom_agent.specs.Laws.{session_outcome, binding_outcome, StaysBound, SameMoves}
+use Rattle.dom_agent.specs.Laws.{session_outcome, binding_outcome, has_depth, StaysBound, SameMoves}
 use Rattle.dom_agent.proofs.OpeningsLemmas.{AreOpenings, AreContainers, opened_all, request-are, pushing-are}
 use Rattle.dom_agent.proofs.StepLemmas.{Goes, goes-pushed}
 use Rattle.dom_agent.proofs.OutcomeLemmas.{containers-page, known-found, root-opened, document-left}
@@ -409,7 +408,7 @@ module _ (page : PageValue) (valid : IsValid page) where
         ap (root_of (record { row = record { id = 0; serial = 0; label = page.tree.row.label; hold = leaf }; children = none })) same,
       )
 
-  pub outcomes_alike : (c : DomAsk) (w : Session) (b : BindingValue) → fits_ask c ≡ true → IsSession m w → Stands m w b
+  pub outcomes_alike : (c : DomAsk) (w : Session) (b : BindingValue) → has_depth c ≡ true → IsSession m w → Stands m w b
       → AlikeOutcomes m (session_outcome page c w) (binding_outcome page c b)
   outcomes_alike (GetDocument depth pierce) w b fits session stands =
       document_alike depth pierce w b (document-left depth pierce fits) stands

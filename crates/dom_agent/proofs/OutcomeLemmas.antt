@@ -261,7 +261,7 @@ module _ (page : PageValue) (valid : IsValid page) where
   description-goes id serial depth pierce w session (Some x) there =
       let levels : Option ℕ = levels_of (unwrap_or depth (pos 1)) in
       let at = there x refl in
-      reply-goes (DescribeNode id serial depth pierce) w (ReplyNode (described levels x)) session
+      reply-goes (DescribeNode id serial depth pierce) w (ReplyNode (described (capped most_told levels) x)) session
       (described-spells page w valid at.0 x at.1 levels) refl
 
   -- ---- queries
@@ -381,7 +381,7 @@ stays_session page ask w valid fits session =
 pub draws_few : DrawsFew
 draws_few page ask w valid fits session =
     let n : Nodes PageRow = alone page.tree in
-    either_ask (λ c. fits_ask c ≡ true → length (state_after w (session_outcome page c w)).pushed ≤ length w.pushed + node_count n)
+    either_ask (λ c. has_depth c ≡ true → length (state_after w (session_outcome page c w)).pushed ≤ length w.pushed + node_count n)
     (λ depth pierce h. document-few page valid (levels_of (unwrap_or depth (pos 1))) (document-left depth pierce h) w)
     (λ c other h. goes_few page c w (session_outcome page c w) (asks-go page valid c other w session))
     ask fits
