@@ -401,8 +401,7 @@ module _ (page : PageValue) (valid : IsValid page) where
       let begun : IsSession m after = IsSession-document_opened e page.tree.row page.tree.children w (distinct-alone page valid)
       (root_holds page valid) (spent-capped more_told d ∙ left) in
       let alike = alike-openings m (distinct-alone page valid) page.tree (dealt more_told most_told d m) (above e m) after.pushed
-      after.since (started e m b) begun now (start-deals more_told page d valid left).are in
-      (
+      after.since (started e m b) begun now (start-deals more_told page d valid left).are in (
         alike.stands,
         alike.shown,
         ap (root_of (record { row = record { id = 0; serial = 0; label = page.tree.row.label; hold = leaf }; children = none })) same,
