@@ -1,9 +1,9 @@
 -- The document is opened and told piece by piece.
-use Rattle.std.proofs.Common.{◌≡◌, ℕ, ◌+◌, ◌<◌, ◌≤◌, ◌^◌, List, [], ◌∷◌, ◌++◌, All, sum_by, Option, append_assoc, append-nil, sym, ap, ◌∙◌}
+use Rattle.std.proofs.Common.{◌≡◌, ℕ, ◌+◌, ◌<◌, List, [], ◌∷◌, ◌++◌, All, sum_by, Option, append_assoc, append-nil, sym, ap, ◌∙◌}
 use Rattle.std.proofs.Common.{subst, arith}
 use Rattle.std.proofs.Math.Nat.{mul-le-mul_left}
 use Rattle.node_tree.specs.Levels.{most_told}
-use Rattle.node_tree.specs.Numbers.{drawn_before_call}
+use Rattle.node_tree.specs.Numbers.{drawn_before_call, drawn_before_nodes, drawn_limit}
 use Rattle.node_tree.specs.Nodes.{Branch, alone, node_count}
 use Rattle.node_tree.specs.Seen.{Seen}
 use Rattle.page_tree.specs.Pages.{PageRow, PageValue, IsValid}
@@ -28,7 +28,7 @@ module _ (page : PageValue) (valid : IsValid page) (d : Option ℕ) (os : List O
   pub pieces_containers : All IsOfContainer os
   pieces_containers = subst (All IsOfContainer) (sym listed) (dealt_containers more_told most_told d (alone page.tree))
 
-  pub pieces_room : (next : ℕ) → next < 2 ^ 60 → next + sum_by below os < 2 ^ 63
+  pub pieces_room : (next : ℕ) → next < drawn_before_nodes → next + sum_by below os < drawn_limit
   pieces_room next room =
       omega (
         arith,
@@ -42,7 +42,7 @@ module _ (page : PageValue) (valid : IsValid page) (d : Option ℕ) (os : List O
 
 -- the first piece draws no more ids than the page has nodes
 pub started_room : (page : PageValue) → IsValid page → (d : Option ℕ) (b b1 : BindingValue) → b1 ≡ started d (alone page.tree) b
-    → b.next < drawn_before_call → b1.next < 2 ^ 60
+    → b.next < drawn_before_call → b1.next < drawn_before_nodes
 started_room page valid d b b1 begun room =
     omega (
       arith,

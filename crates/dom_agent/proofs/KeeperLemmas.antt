@@ -1,6 +1,6 @@
 -- By a binding that stands for a session each command comes to the same.
 use Rattle.std.proofs.Common.{◌≡◌, ℕ, ℤ, pos, ◌<◌, ◌==◌, Bool, true, false, cond, List, [], ◌∷◌, ◌++◌, Option, Some, None, unwrap_or}
-use Rattle.std.proofs.Common.{Result, Ok, Err, refl, sym, ap, subst, ◌∙◌, arith}
+use Rattle.std.proofs.Common.{Result, Ok, Err, refl, sym, ap, subst, ◌∙◌}
 use Rattle.node_tree.specs.Nodes.{Nodes, none, node, Branch, alone}
 use Rattle.node_tree.specs.Keys.{has}
 use Rattle.node_tree.specs.Labels.{is_element, holds}
@@ -23,7 +23,7 @@ use Rattle.node_binding.proofs.CutLemmas.{cut-same, ids-stands, cut-stands}
 use Rattle.node_binding.proofs.PairLemmas.{find-there}
 use Rattle.node_binding.proofs.OpeningLemmas.{AreDistinct}
 use Rattle.node_binding.proofs.LawLemmas.{Stands-open_down}
-use Rattle.node_binding.proofs.InViewLemmas.{InView, in_view-known, in_view-tally, in_view-grows, can_open-in_view, known-in_view}
+use Rattle.node_binding.proofs.InViewLemmas.{InView, in_view-known, in_view-grows, can_open-in_view, known-in_view}
 use Rattle.node_binding.proofs.InViewLemmas.{roots_in_view, opened-grows}
 use Rattle.node_binding.proofs.OpenedLemmas.{IsSession-opened, open_afterwards}
 use Rattle.cdp_messages.specs.declared.dom_ask.DomAsk.{DomAsk}

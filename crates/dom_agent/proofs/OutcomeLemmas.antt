@@ -17,11 +17,10 @@ use Rattle.node_binding.specs.Openings.{levels_of, is_spent, above}
 use Rattle.node_binding.specs.Sessions.{Session, IsSession, session_of, session_ids, serial_at, document_opened}
 use Rattle.node_binding.specs.Deals.{capped, dealt, more_told}
 use Rattle.node_binding.proofs.DealLemmas.{asked-pieces, dealt-pieces, start-deals, spent-capped}
-use Rattle.node_binding.proofs.Known.{length-known}
 use Rattle.node_binding.proofs.StartLemmas.{root_holds, distinct-alone}
 use Rattle.node_binding.proofs.SessionLemmas.{IsSession-document_opened}
 use Rattle.node_binding.proofs.PairLemmas.{find-there}
-use Rattle.node_binding.proofs.InViewLemmas.{InView, in_view, in_view-tally}
+use Rattle.node_binding.proofs.InViewLemmas.{InView, in_view}
 use Rattle.cdp_messages.specs.declared.dom_ask.DomAsk.{DomAsk}
 use Rattle.cdp_messages.specs.declared.dom_ask.DomAsk.TheVariants.{GetDocument, RequestChildNodes, PushByPath, PushBySerials, QuerySelector}
 use Rattle.cdp_messages.specs.declared.dom_ask.DomAsk.TheVariants.{QuerySelectorAll, GetAttributes, DescribeNode}
