@@ -116,8 +116,8 @@ record Shows (mode : Mode) (o : Option (Branch PageRow)) : Type 0 where
   there : o ≡ Some branch
   shown : option_and_then (shown_if mode) o ≡ Some (shown_branch mode branch)
 
-shows_by : (mode : Mode) (b : Branch PageRow) (h : Bool) → hidden_in mode b.row.label ≡ h → IsSome (cond h None (Some (shown_branch mode b)))
-    → Shows mode (Some b)
+shows_by : (mode : Mode) (b : Branch PageRow) (h : Bool) → hidden_in mode b.row.label ≡ h
+    → IsSome (cond h None (Some (shown_branch mode b))) → Shows mode (Some b)
 shows_by mode b true is e = absurd (cc)
 shows_by mode b false is e = record { branch = b; there = refl; shown = rw is refl }
 

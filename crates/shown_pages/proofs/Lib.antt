@@ -6,4 +6,3 @@ pub mod ShownSteps
 pub mod FoundLemmas
 pub mod AboveLemmas
 pub mod StopLemmas
-pub mod TakenLemmas

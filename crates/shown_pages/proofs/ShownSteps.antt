@@ -1,6 +1,6 @@
 -- An edit of a page is, in the shown page, an edit that it takes, or none.
-use Rattle.std.proofs.Common.{◌≡◌, ◌⊎◌, ℕ, zero, suc, ◌+◌, ◌<◌, ◌≤◌, ◌==◌, ◌&&◌, ◌||◌, not, Bool, true, false, cond, List, Option, Some, None}
-use Rattle.std.proofs.Common.{unwrap_or, is_some, IfSome, inl, inr, subst, refl, sym, ap, ◌∙◌, arith}
+use Rattle.std.proofs.Common.{◌≡◌, ◌⊎◌, ℕ, zero, suc, ◌+◌, ◌<◌, ◌≤◌, ◌==◌, ◌&&◌, ◌||◌, not, Bool, true, false, cond, List}
+use Rattle.std.proofs.Common.{Option, Some, None, unwrap_or, is_some, IfSome, inl, inr, subst, refl, sym, ap, ◌∙◌, arith}
 use Rattle.std.proofs.lemmas.Bool.{not-false, eq-eqb}
 use Rattle.std.proofs.lemmas.Bool.Decides.{nat_tests}
 use Rattle.std.specs.Prelude.{nat_le}
@@ -29,7 +29,7 @@ use Rattle.page_tree.proofs.InsertLemmas.{next-stays}
 use Rattle.shown_pages.specs.declared.modes.Mode.{Mode}
 use Rattle.shown_pages.specs.Modes.{hidden_in}
 use Rattle.shown_pages.specs.ShownPages.{shown_nodes, shown_branch, shown_page}
-use Rattle.shown_pages.specs.ShownEdits.{shown_from, shown_after, shown_text_edit, shown_edit, after_some}
+use Rattle.shown_pages.specs.ShownEdits.{shown_from, shown_after, sight_of, shown_text_edit, shown_edit, after_some}
 use Rattle.shown_pages.specs.ShownLaws.{IsShownStep, ShownSteps}
 use Rattle.shown_pages.proofs.HiddenLemmas.{holder-shown}
 use Rattle.shown_pages.proofs.PlaceLemmas.{AreKeys, IsPlace, from-place, after-place}
@@ -115,7 +115,8 @@ can-attach {next} tree parent before w whole live place later =
     let zero_or_live : is_live_or_0 before tree ≡ true = elim place [
       | inl z ↦ or_first (before == 0) (is_live before tree) (eq-eqb before 0 z)
       | inr p ↦ or_second (before == 0) (is_live before tree)
-          (live-tally before tree (let a = among-tally before (children_at parent tree) p in let b = tally_in-at row_serial before e.1 in omega arith))
+          (let a = among-tally before (children_at parent tree) p in
+          let b = tally_in-at row_serial before e.1 in live-tally before tree (omega arith))
     ] in
     let placed : is_place parent before tree ≡ true = elim place [
       | inl z ↦ or_first (before == 0) (is_among before (children_at parent tree)) (eq-eqb before 0 z)
@@ -414,7 +415,7 @@ module _ (mode : Mode) (next : ℕ) (tree : Branch PageRow) (whole : Whole next 
 
   text_step : (was will : Bool) (serial : ℕ) (value : List ℕ) → hidden_in mode (label_at serial tree) ≡ was
       → hidden_in mode (with_value value (label_at serial tree)) ≡ will → CanApply next (SetText serial value) tree
-      → IsStep next (shown_text_edit mode was will serial value tree) (shown_branch mode tree)
+      → IsStep next (shown_text_edit mode (sight_of was will) serial value tree) (shown_branch mode tree)
       (shown_branch mode (after_tree (SetText serial value) tree))
   text_step false false serial value e f can =
       let tests = clear (edit_faults (SetText serial value) tree) can.fits in
@@ -442,7 +443,8 @@ module _ (mode : Mode) (next : ℕ) (tree : Branch PageRow) (whole : Whole next 
       record {
         taken = tt;
         leads =
-            seen_still (parent_at serial tree) (turned serial (relabelled (with_value value) (node_at serial tree))) part.live later holder holder
+            seen_still (parent_at serial tree) (turned serial (relabelled (with_value value) (node_at serial tree))) part.live later
+            holder holder
             (ap (λ (m : Nodes PageRow). record { row = (node_at (parent_at serial tree) tree).row; children = m })
             (child-hidden mode serial (node_at serial tree) (relabelled (with_value value) (node_at serial tree))
             (children_at (parent_at serial tree) tree) part.child e f))
@@ -515,7 +517,8 @@ module _ (mode : Mode) (next : ℕ) (tree : Branch PageRow) (whole : Whole next 
   any_step (SetAttr serial name value) can = set_step serial name value can
   any_step (DropAttr serial name) can = drop_step serial name can
   any_step (SetText serial value) can =
-      text_step (hidden_in mode (label_at serial tree)) (hidden_in mode (with_value value (label_at serial tree))) serial value refl refl can
+      text_step (hidden_in mode (label_at serial tree)) (hidden_in mode (with_value value (label_at serial tree))) serial value
+      refl refl can
   any_step (Attach parent before w) can = attach_step (hidden_in mode w.row.label) parent before w refl can
   any_step (Detach serial) can = detach_step (hidden_in mode (label_at serial tree)) serial refl can
 

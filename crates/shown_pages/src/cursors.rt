@@ -97,7 +97,7 @@ fn count_shown(children: &Children<'_>, mode: Mode) -> usize
 impl<'a> ShownNode<'a> {
     /// A node of a page, with what the mode shows below it.
     pub(crate) fn of(node: Node<'a>, mode: Mode) -> ShownNode<'a>
-        ensures { result ≡ shown_branch mode node }
+        ensures { result ≡ shown_branch mode node.entry }
     {
         ShownNode { node, mode }
     }

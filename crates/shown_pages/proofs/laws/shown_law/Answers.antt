@@ -6,4 +6,11 @@ use Rattle.shown_pages.proofs.AboveLemmas.{stands-shown}
 use Rattle.shown_pages.proofs.laws.shown_law.Goals as goal
 
 pub returns : goal.returns
-returns c = record { valid = shown-valid; all = all-shown; steps = shown-steps; found = found-shown; stands = stands-shown; below = below-shown }
+returns c = record {
+  valid = shown-valid;
+  all = all-shown;
+  steps = shown-steps;
+  found = found-shown;
+  stands = stands-shown;
+  below = below-shown;
+}
