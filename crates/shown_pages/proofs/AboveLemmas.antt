@@ -1,21 +1,20 @@
 -- What stands above a shown node, in the page and in the shown page.
-use Rattle.std.proofs.Common.{◌≡◌, ◌⊎◌, ◌≢◌, ℕ, zero, suc, ◌+◌, ◌<◌, ◌≤◌, ◌==◌, Bool, true, false, cond, List, [], ◌∷◌}
-use Rattle.std.proofs.Common.{◌++◌, map, Option, Some, None, IsSome, unwrap_or, inl, inr, subst, refl, sym, ap, ◌∙◌, arith}
+use Rattle.std.proofs.Common.{◌≡◌, ◌≢◌, ℕ, zero, suc, ◌+◌, ◌<◌, ◌≤◌, ◌==◌, Bool, true, false, cond, List, [], ◌∷◌}
+use Rattle.std.proofs.Common.{map, Option, Some, None, unwrap_or, inl, inr, subst, refl, sym, ap, ◌∙◌, arith}
 use Rattle.std.specs.List.{find}
 use Rattle.std.specs.Option.{option_map}
 use Rattle.std.proofs.lemmas.Bool.{eq-eqb, ne_eqb}
 use Rattle.node_tree.specs.Nodes.{Nodes, none, node, Branch, alone}
 use Rattle.node_tree.specs.Keys.{tally, first_of}
-use Rattle.node_tree.specs.Keys as keys
 use Rattle.node_tree.proofs.KeyLemmas.{tally_cases, tally_below, find-absent, stands-find, found_key, At-tally}
-use Rattle.page_tree.specs.Pages.{PageRow, row_serial, PageValue, IsValid, find_in, parent_at}
-use Rattle.page_tree.specs.Zippers.{Generation, Zipper, all_in, has_serial, ancestors, ancestors_in, find_zipper, zipper_at, root_of}
+use Rattle.page_tree.specs.Pages.{PageRow, row_serial, parent_at}
+use Rattle.page_tree.specs.Zippers.{Generation, Zipper, all_in, has_serial, ancestors, ancestors_in, find_zipper, root_of}
 use Rattle.page_tree.proofs.ZipperLemmas.{find-append, branch-found, serial_above, parent-found}
 use Rattle.page_tree.proofs.WholeLemmas.{whole-valid}
 use Rattle.shown_pages.specs.declared.modes.Mode.{Mode}
 use Rattle.shown_pages.specs.Modes.{hidden_in}
-use Rattle.shown_pages.specs.ShownPages.{shown_nodes, shown_branch, shown_page}
-use Rattle.shown_pages.specs.ShownLaws.{branches_above, StandsAlike, StandsShown}
+use Rattle.shown_pages.specs.ShownPages.{shown_nodes, shown_branch}
+use Rattle.shown_pages.specs.ShownLaws.{branches_above, StandsShown}
 use Rattle.shown_pages.proofs.HiddenLemmas.{tally-shown}
 use Rattle.shown_pages.proofs.ShownTrees.{alone-shown}
 use Rattle.shown_pages.proofs.FoundLemmas.{found-both}

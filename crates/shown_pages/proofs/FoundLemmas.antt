@@ -1,19 +1,19 @@
 -- Which nodes of a page stand in the shown page.
-use Rattle.std.proofs.Common.{◌≡◌, ◌⊎◌, ℕ, zero, suc, ◌+◌, ◌<◌, ◌≤◌, ◌==◌, Bool, true, false, cond, List, [], ◌∷◌, ◌++◌, Option, Some, None}
-use Rattle.std.proofs.Common.{IsSome, is_some, unwrap_or, inl, inr, subst, refl, sym, ap, ◌∙◌, arith}
+use Rattle.std.proofs.Common.{◌≡◌, ◌⊎◌, ℕ, zero, suc, ◌+◌, ◌<◌, ◌≤◌, ◌==◌, Bool, true, false, cond, List, [], ◌∷◌, Option, Some, None}
+use Rattle.std.proofs.Common.{IsSome, unwrap_or, inl, inr, subst, refl, sym, ap, ◌∙◌, arith}
 use Rattle.std.specs.Option.{option_map, option_and_then}
 use Rattle.std.proofs.lemmas.Bool.{eqb-true}
 use Rattle.node_tree.specs.Nodes.{Nodes, none, node, Branch, alone}
 use Rattle.node_tree.specs.Keys.{tally, find, first_of}
-use Rattle.node_tree.specs.Labels.{Label, holds}
+use Rattle.node_tree.specs.Labels.{holds}
 use Rattle.node_tree.specs.declared.Kind.{Kind}
 use Rattle.node_tree.proofs.KeyLemmas.{has-there, tally_cases, tally_row, tally_below, find-absent, stands-find}
 use Rattle.node_tree.proofs.ChangeLemmas.{tally_in-at}
-use Rattle.page_tree.specs.Pages.{PageRow, row_serial, PageValue, IsValid, find_in, node_at}
+use Rattle.page_tree.specs.Pages.{PageRow, row_serial, PageValue, IsValid, find_in}
 use Rattle.page_tree.specs.Members.{IsIn, at_head, in_tail}
 use Rattle.page_tree.specs.Zippers.{Generation, Zipper, generation_of, serial_of, all_in, below, root_of, find_zipper, zipper_at}
 use Rattle.page_tree.proofs.ZipperLemmas.{IsIn-append, branch-found}
-use Rattle.page_tree.proofs.WholeLemmas.{Sound, Whole, whole-valid, sound-there}
+use Rattle.page_tree.proofs.WholeLemmas.{Sound, whole-valid, sound-there}
 use Rattle.shown_pages.specs.declared.modes.Mode.{Mode}
 use Rattle.shown_pages.specs.Modes.{hidden_in}
 use Rattle.shown_pages.specs.ShownPages.{shown_nodes, shown_branch, shown_page}

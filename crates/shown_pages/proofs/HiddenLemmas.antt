@@ -1,16 +1,16 @@
 -- What a mode hides, and how few nodes are left.
-use Rattle.std.proofs.Common.{◌≡◌, ℕ, ◌<◌, ◌≤◌, ◌+◌, Bool, true, false, cond, refl, sym, ◌∙◌, ap, arith}
-use Rattle.node_tree.specs.Nodes.{Nodes, none, node, Branch, node_count, height}
+use Rattle.std.proofs.Common.{◌≡◌, ℕ, ◌≤◌, Bool, true, false, cond, refl, sym, ◌∙◌, arith}
+use Rattle.node_tree.specs.Nodes.{Nodes, none, node, node_count, height}
 use Rattle.node_tree.specs.Keys.{tally}
 use Rattle.node_tree.specs.Labels.{Label, holds}
 use Rattle.node_tree.specs.declared.Kind.{Kind}
 use Rattle.node_tree.specs.declared.Kind.TheVariants.{Document, Element, Text, Comment, Doctype}
 use Rattle.node_tree.proofs.KeyLemmas.{tally_below}
-use Rattle.page_tree.specs.Pages.{PageRow, row_serial, PageValue}
+use Rattle.page_tree.specs.Pages.{PageRow, row_serial}
 use Rattle.shown_pages.specs.declared.modes.Mode.{Mode}
 use Rattle.shown_pages.specs.declared.modes.Mode.TheVariants.{All, NoBlank}
 use Rattle.shown_pages.specs.Modes.{is_blank_text, hidden_in}
-use Rattle.shown_pages.specs.ShownPages.{shown_nodes, shown_branch, shown_page}
+use Rattle.shown_pages.specs.ShownPages.{shown_nodes}
 use Rattle.shown_pages.specs.ShownLaws.{AllIsShown}
 
 -- ---- a container is shown

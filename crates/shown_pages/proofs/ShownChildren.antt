@@ -1,5 +1,5 @@
 -- Shown trees side by side where a tree comes in, goes out or has another in its place.
-use Rattle.std.proofs.Common.{◌≡◌, ℕ, ◌==◌, Bool, true, false, cond, Option, Some, None, subst, refl, sym, ap, ◌∙◌}
+use Rattle.std.proofs.Common.{◌≡◌, ℕ, ◌==◌, Bool, true, false, cond, Some, subst, refl, sym, ap, ◌∙◌}
 use Rattle.node_tree.specs.Nodes.{Nodes, none, node, Branch}
 use Rattle.node_tree.specs.Keys.{At, here, past}
 use Rattle.node_tree.proofs.ChangeLemmas.{child_of}

@@ -1,10 +1,10 @@
 -- An edit of a page is, in the shown page, an edit that it takes, or none.
-use Rattle.std.proofs.Common.{◌≡◌, ◌⊎◌, ℕ, zero, suc, ◌+◌, ◌<◌, ◌≤◌, ◌==◌, ◌&&◌, ◌||◌, not, Bool, true, false, cond, List}
+use Rattle.std.proofs.Common.{◌≡◌, ℕ, suc, ◌+◌, ◌≤◌, ◌==◌, ◌||◌, not, Bool, true, false, cond, List}
 use Rattle.std.proofs.Common.{Option, Some, None, unwrap_or, is_some, IfSome, inl, inr, subst, refl, sym, ap, ◌∙◌, arith}
 use Rattle.std.proofs.lemmas.Bool.{not-false, eq-eqb}
 use Rattle.std.proofs.lemmas.Bool.Decides.{nat_tests}
 use Rattle.std.specs.Prelude.{nat_le}
-use Rattle.node_tree.specs.Nodes.{Nodes, none, node, Branch, alone, branch_count, height, map_branch}
+use Rattle.node_tree.specs.Nodes.{Nodes, node, Branch, alone, branch_count, height, map_branch}
 use Rattle.node_tree.specs.Labels.{Label, holds, has_value, is_document, is_element, value_of}
 use Rattle.node_tree.specs.LabelChanges.{with_attribute, without_attribute, with_value}
 use Rattle.node_tree.specs.Keys.{tally, tally_in, At, here, within, past}
@@ -30,7 +30,7 @@ use Rattle.shown_pages.specs.declared.modes.Mode.{Mode}
 use Rattle.shown_pages.specs.Modes.{hidden_in}
 use Rattle.shown_pages.specs.ShownPages.{shown_nodes, shown_branch, shown_page}
 use Rattle.shown_pages.specs.ShownEdits.{shown_from, shown_after, sight_of, shown_text_edit, shown_edit, after_some}
-use Rattle.shown_pages.specs.ShownLaws.{IsShownStep, ShownSteps}
+use Rattle.shown_pages.specs.ShownLaws.{ShownSteps}
 use Rattle.shown_pages.proofs.HiddenLemmas.{holder-shown}
 use Rattle.shown_pages.proofs.PlaceLemmas.{AreKeys, IsPlace, from-place, after-place}
 use Rattle.shown_pages.proofs.ShownChildren.{taken-shown, taken-hidden, child-shown, put-hidden, put-shown}
@@ -180,10 +180,12 @@ module _ (mode : Mode) (next : ℕ) (tree : Branch PageRow) (whole : Whole next 
       let a = at-shown mode None c.1 whole.sound e f in
       let first = subst (λ (m : Nodes PageRow). At (shown_branch mode (node_at serial tree))
       (shown_branch mode (change (node_at serial tree))) c.0 m (shown_nodes mode (alone (changed_at serial change tree))))
-      (alone-shown mode tree whole) a in
-      (c.0, subst (λ (m : Nodes PageRow). At (shown_branch mode (node_at serial tree))
-      (shown_branch mode (change (node_at serial tree))) c.0 (alone (shown_branch mode tree)) m)
-      (alone-shown mode (changed_at serial change tree) later) first)
+      (alone-shown mode tree whole) a in (
+        c.0,
+        subst (λ (m : Nodes PageRow). At (shown_branch mode (node_at serial tree))
+            (shown_branch mode (change (node_at serial tree))) c.0 (alone (shown_branch mode tree)) m)
+            (alone-shown mode (changed_at serial change tree) later) first,
+      )
 
   -- is this one of what is shown
   pub seen_step : (serial : ℕ) (change f : Branch PageRow → Branch PageRow) → is_live serial tree ≡ true

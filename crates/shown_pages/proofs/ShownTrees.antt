@@ -1,16 +1,16 @@
 -- A shown page is valid, and a change of a shown node is a change in what is shown.
-use Rattle.std.proofs.Common.{◌≡◌, ℕ, suc, ◌+◌, ◌<◌, ◌≤◌, ◌==◌, ◌&&◌, not, Bool, true, false, cond, Option, Some, None, unwrap_or}
+use Rattle.std.proofs.Common.{◌≡◌, ℕ, ◌≤◌, ◌&&◌, not, Bool, true, false, cond, Option, Some, None, unwrap_or}
 use Rattle.std.proofs.Common.{subst, refl, sym, ap, ◌∙◌, arith}
 use Rattle.node_tree.specs.Nodes.{Nodes, none, node, Branch, alone}
-use Rattle.node_tree.specs.Labels.{Label, holds, is_document}
+use Rattle.node_tree.specs.Labels.{holds, is_document}
 use Rattle.node_tree.specs.Keys.{tally, At, here, within, past}
 use Rattle.node_tree.specs.declared.Kind.{Kind}
 use Rattle.node_tree.specs.declared.Kind.TheVariants.{Document, Element, Text, Comment, Doctype}
 use Rattle.node_tree.proofs.KeyLemmas.{find-stands, put-at}
 use Rattle.node_tree.proofs.ChangeLemmas.{at-old, alone-put}
-use Rattle.page_tree.specs.Pages.{PageRow, row_serial, PageValue, IsValid, find_in, node_at}
+use Rattle.page_tree.specs.Pages.{PageRow, row_serial, find_in, node_at}
 use Rattle.page_tree.specs.Edits.{put_in, changed_at}
-use Rattle.page_tree.proofs.WholeLemmas.{Fits, Sound, Whole, whole-valid, valid-whole}
+use Rattle.page_tree.proofs.WholeLemmas.{Sound, Whole, whole-valid, valid-whole}
 use Rattle.shown_pages.specs.declared.modes.Mode.{Mode}
 use Rattle.shown_pages.specs.Modes.{hidden_in}
 use Rattle.shown_pages.specs.ShownPages.{shown_nodes, shown_branch, shown_page}

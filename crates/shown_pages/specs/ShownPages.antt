@@ -1,5 +1,5 @@
 -- The shown page: a page without the nodes that a mode hides.
-use Rattle.std.specs.Prelude.{Bool, cond}
+use Rattle.std.specs.Prelude.{cond}
 use Rattle.node_tree.specs.Nodes.{Nodes, none, node, Branch}
 use Rattle.page_tree.specs.Pages.{PageRow, PageValue}
 use Rattle.shown_pages.specs.declared.modes.Mode.{Mode}

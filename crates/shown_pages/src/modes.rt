@@ -20,7 +20,9 @@ pub enum Mode {
 fn is_white(text: &str) -> bool
     ensures { result ≡ list_all is_ascii_whitespace text.now }
 {
-    text.as_bytes().iter().all(|byte| byte.is_ascii_whitespace())
+    text.as_bytes()
+        .iter()
+        .all(|byte| byte.is_ascii_whitespace())
 }
 
 fn is_blank_text(kind: Kind, value: &str) -> bool

@@ -1,5 +1,5 @@
-use Rattle.std.proofs.Common.{◌<◌, ◌+◌, ◌≡◌, sym, ap, ◌∙◌, arith}
-use Rattle.node_tree.specs.Nodes.{width, from}
+use Rattle.std.proofs.Common.{◌<◌, sym, ap, ◌∙◌, arith}
+use Rattle.node_tree.specs.Nodes.{width}
 use Rattle.node_tree.proofs.NodeLemmas.{from-zero}
 use Rattle.shown_pages.specs.ShownPages.{shown_nodes}
 use Rattle.shown_pages.proofs.StopLemmas.{past-hidden, next-shown, past-end}

@@ -1,4 +1,4 @@
-use Rattle.std.proofs.Common.{◌<◌, ◌+◌, sym, ◌∙◌, arith}
+use Rattle.std.proofs.Common.{◌<◌, sym, ◌∙◌, arith}
 use Rattle.node_tree.specs.Nodes.{width}
 use Rattle.shown_pages.proofs.StopLemmas.{past-hidden, next-shown, past-end}
 use Rattle.shown_pages.proofs.cursors.next_shown.Goals as goal

@@ -1,5 +1,5 @@
 use Rattle.std.proofs.Common.{◌≡◌, ◌<◌, Option, Some, None, sym, ap, ◌∙◌, subst}
-use Rattle.node_tree.specs.Nodes.{Branch, width, tree_at}
+use Rattle.node_tree.specs.Nodes.{Branch, width}
 use Rattle.node_tree.proofs.NodeLemmas.{from-tree_at}
 use Rattle.page_tree.specs.Pages.{PageRow}
 use Rattle.shown_pages.specs.ShownPages.{shown_branch}

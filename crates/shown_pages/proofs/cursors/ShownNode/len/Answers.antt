@@ -1,4 +1,4 @@
-use Rattle.std.proofs.Common.{◌≡◌, sym, ap, ◌∙◌}
+use Rattle.std.proofs.Common.{sym, ap, ◌∙◌}
 use Rattle.node_tree.specs.Nodes.{Branch, width}
 use Rattle.page_tree.specs.Pages.{PageRow}
 use Rattle.shown_pages.specs.ShownPages.{shown_nodes}

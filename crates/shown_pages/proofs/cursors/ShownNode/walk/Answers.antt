@@ -1,4 +1,4 @@
-use Rattle.std.proofs.Common.{◌≡◌, ap, ◌∙◌}
+use Rattle.std.proofs.Common.{ap, ◌∙◌}
 use Rattle.node_tree.specs.Nodes.{Branch}
 use Rattle.node_tree.proofs.NodeLemmas.{from-zero}
 use Rattle.page_tree.specs.Pages.{PageRow}
