@@ -1,6 +1,6 @@
 -- What a mode hides, and how few nodes are left.
-use Rattle.std.proofs.Common.{◌≡◌, ℕ, ◌≤◌, Bool, true, false, cond, refl, sym, ◌∙◌, arith}
-use Rattle.node_tree.specs.Nodes.{Nodes, none, node, node_count, height}
+use Rattle.std.proofs.Common.{◌≡◌, ℕ, ◌≤◌, Bool, true, false, cond, refl, ap, sym, ◌∙◌, arith}
+use Rattle.node_tree.specs.Nodes.{Nodes, none, node, Branch, node_count, height}
 use Rattle.node_tree.specs.Keys.{tally}
 use Rattle.node_tree.specs.Labels.{Label, holds}
 use Rattle.node_tree.specs.declared.Kind.{Kind}
@@ -10,7 +10,7 @@ use Rattle.page_tree.specs.Pages.{PageRow, row_serial}
 use Rattle.shown_pages.specs.declared.modes.Mode.{Mode}
 use Rattle.shown_pages.specs.declared.modes.Mode.TheVariants.{All, NoBlank}
 use Rattle.shown_pages.specs.Modes.{is_blank_text, hidden_in}
-use Rattle.shown_pages.specs.ShownPages.{shown_nodes}
+use Rattle.shown_pages.specs.ShownPages.{shown_nodes, shown_branch}
 use Rattle.shown_pages.specs.ShownLaws.{AllIsShown}
 
 -- ---- a container is shown
@@ -73,5 +73,13 @@ pub all-nodes : (n : Nodes PageRow) → shown_nodes All n ≡ n
 all-nodes none = refl
 all-nodes (node r c t) = λ i. node r (all-nodes c i) (all-nodes t i)
 
+pub all-branch : (b : Branch PageRow) → shown_branch All b ≡ b
+all-branch b = λ i. record { row = b.row; children = all-nodes b.children i }
+
+-- the children of a node are the shown ones
+pub all-children : (mode : Mode) (b seen : Branch PageRow) → mode ≡ All → shown_branch mode b ≡ seen → b.children ≡ seen.children
+all-children mode b seen e f = sym (all-nodes b.children) ∙ ap (λ m. shown_nodes m b.children) (sym e) ∙ ap
+    (λ (x : Branch PageRow). x.children) f
+
 pub all-shown : AllIsShown
-all-shown page = λ i. record { tree = record { row = page.tree.row; children = all-nodes page.tree.children i }; next = page.next }
+all-shown page = λ i. record { tree = all-branch page.tree i; next = page.next }

@@ -1,5 +1,5 @@
 -- The children of a node one after another, of which some are hidden.
-use Rattle.std.proofs.Common.{◌≡◌, ℕ, ◌+◌, ◌<◌, ◌≤◌, true, false, cond, Some, refl, ap, ◌∙◌}
+use Rattle.std.proofs.Common.{◌≡◌, ℕ, zero, suc, ◌+◌, ◌<◌, ◌≤◌, true, false, cond, Some, None, refl, ap, ◌∙◌, arith}
 use Rattle.node_tree.specs.Nodes.{Nodes, none, node, Branch, from, tree_at, width}
 use Rattle.page_tree.specs.Pages.{PageRow}
 use Rattle.page_tree.proofs.CursorLemmas.{from-next, from-end}
@@ -26,3 +26,9 @@ module _ (mode : Mode) (n : Nodes PageRow) (i : ℕ) where
   -- at the end there is none
   pub past-end : width n ≤ i → shown_nodes mode (from i n) ≡ none
   past-end h = ap (shown_nodes mode) (from-end n i h)
+
+-- past the last place there is no tree
+pub tree_at-past : (n : Nodes PageRow) (i : ℕ) → width n ≤ i → tree_at i n ≡ None
+tree_at-past none i h = refl
+tree_at-past (node r c t) zero h = absurd (omega arith)
+tree_at-past (node r c t) (suc i) h = tree_at-past t i (omega arith)

@@ -94,6 +94,16 @@ fn count_shown(children: &Children<'_>, mode: Mode) -> usize
     count
 }
 
+/// The child at that place among all, if there is one.
+fn child_of_all<'a>(children: &Children<'a>, i: usize) -> Option<Node<'a>>
+    ensures { result ≡ tree_at i children.now }
+{
+    if i >= children.len() {
+        return None;
+    }
+    Some(children.at(i))
+}
+
 impl<'a> ShownNode<'a> {
     /// A node of a page, with what the mode shows below it.
     pub(crate) fn of(node: Node<'a>, mode: Mode) -> ShownNode<'a>
@@ -217,10 +227,17 @@ impl<'a> ShownNode<'a> {
         }
     }
 
-    /// The shown child at place `i` among the shown ones, counted from 0, if there is one. All children before it are looked at.
+    /// The shown child at place `i` among the shown ones, counted from 0, if there is one. Where texts may be hidden all children
+    /// before it are looked at.
     pub fn child_at(&self, i: usize) -> Option<ShownNode<'a>>
         ensures { result ≡ tree_at i self.now.children }
     {
+        if let Mode::All = self.mode {
+            let Some(node) = child_of_all(&self.node.children(), i) else {
+                return None;
+            };
+            return Some(ShownNode::of(node, Mode::All));
+        }
         let mut walk = self.walk();
         for _ in 0..i {
             walk.next()?;
