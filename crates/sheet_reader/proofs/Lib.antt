@@ -36,3 +36,5 @@ pub mod RulePaths
 pub mod MovedParts
 pub mod MovedLaw
 pub mod ClearBodies
+pub mod JoinForms
+pub mod JoinedLaw

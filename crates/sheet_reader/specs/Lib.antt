@@ -16,3 +16,4 @@ pub mod Around
 pub mod Lone
 pub mod Moves
 pub mod Rereads
+pub mod Joins

@@ -37,7 +37,7 @@ mod sheet;
 
 pub use book::{Origin, SheetBook, SheetEntry};
 pub use declarations::read_style;
-pub use laws::{around_law, grammar_law, moved_law, nesting_law, position_law, usable_law};
+pub use laws::{around_law, grammar_law, joined_law, moved_law, nesting_law, position_law, usable_law};
 pub use lists::{MediaRules, Places, Properties, StyleRules};
 pub use lone::{LoneRule, lone_rule};
 pub use moves::move_body;
