@@ -58,7 +58,7 @@ shut_rest level _ rest other shut (qualified_part prelude ending begins r) =
     qualified_part prelude ending begins (closed_rest stops.Block prelude ending rest other shut r)
 
 -- a part has a piece
-some_piece : (level : Level) (p : PartForm) (rest more : List Token) → IsPart level p rest → part_pieces p ++ more ≡ [] → ⊥
+pub some_piece : (level : Level) (p : PartForm) (rest more : List Token) → IsPart level p rest → part_pieces p ++ more ≡ [] → ⊥
 some_piece level _ rest more (passed_part t e) is = cc
 some_piece level _ rest more (at_rule_part keyword prelude ending e r) is = cc
 some_piece level _ rest more (qualified_part prelude ending begins r) is = by prelude (ending_pieces ending) begins is

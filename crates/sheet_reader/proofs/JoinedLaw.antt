@@ -67,17 +67,17 @@ shut_whole text shut after =
     ]
 
 -- ---- nothing moves
-same_list : {X : Type 0} (f : X → X) → ((x : X) → f x ≡ x) → (xs : List X) → map f xs ≡ xs
+pub same_list : {X : Type 0} (f : X → X) → ((x : X) → f x ≡ x) → (xs : List X) → map f xs ≡ xs
 same_list f e [] = refl
 same_list f e (x ∷ xs) = let a = e x in let more = same_list f e xs in λ i. a i ∷ more i
 
-same_rule : (r : RuleForm) → placed_rule (λ x. x) r ≡ r
+pub same_rule : (r : RuleForm) → placed_rule (λ x. x) r ≡ r
 same_rule r =
     let ss = same_list (placed_selector (λ x. x)) (λ s. refl) r.selectors in
     let ps = same_list (placed_property (λ x. x)) (λ p. refl) r.properties in
     λ i. record { prelude = r.prelude; selectors = ss i; body = r.body; properties = ps i; media = r.media }
 
-map_both : {X : Type 0} (f g h : X → X) → ((x : X) → f (g x) ≡ h x) → (xs : List X) → map f (map g xs) ≡ map h xs
+pub map_both : {X : Type 0} (f g h : X → X) → ((x : X) → f (g x) ≡ h x) → (xs : List X) → map f (map g xs) ≡ map h xs
 map_both f g h e [] = refl
 map_both f g h e (x ∷ xs) = let a = e x in let more = map_both f g h e xs in λ i. a i ∷ more i
 

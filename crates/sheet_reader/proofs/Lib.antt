@@ -38,3 +38,4 @@ pub mod MovedLaw
 pub mod ClearBodies
 pub mod JoinForms
 pub mod JoinedLaw
+pub mod ShutForms

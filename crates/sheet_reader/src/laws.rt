@@ -1,6 +1,6 @@
 //! Laws of the definitions: sheets and bodies in the words of their grammar.
 
-ghost use Rattle.std.specs.Prelude.{◌≡◌, ◌<◌, ◌≤◌, ◌+◌, ◌++◌, ◌∷◌, [], ℕ, Bool, true, List, length, slice_get, Option, Some, None};
+ghost use Rattle.std.specs.Prelude.{◌≡◌, ◌<◌, ◌≤◌, ◌+◌, ◌++◌, ◌∷◌, [], ℕ, Bool, true, List, length, take, slice_get, Option, Some, None};
 ghost use Rattle.node_tree.specs.Numbers.{number_limit};
 ghost use Rattle.css_tokens.specs.declared.token.Token.{Token};
 ghost use Rattle.sheet_reader.specs.declared.parts.Level.{Level};
@@ -86,8 +86,13 @@ pub fn moved_law()
 {}
 
 /// Where a text ends with a rule, and has its `}`, what stands behind it is read as it is alone: the reading of both is that of the
-/// first, and behind it that of the second.
+/// first, and behind it that of the second. So ends the text up to the `}` of each of its style rules at top level, and it has those
+/// rules up to that one.
 pub fn joined_law()
     ensures joined { (text other : List ℕ) → is_shut_text text ≡ true
         → sheet_of (text ++ other) ≡ joined (length text) (sheet_of text) (sheet_of other) }
+    ensures ends { (text : List ℕ) (k : ℕ) (r : RuleForm) → slice_get (sheet_of text).rules k ≡ Some r → r.media ≡ None
+        → r.body.end < length text → is_shut_text (take (r.body.end + 1) text) ≡ true }
+    ensures rules { (text : List ℕ) (k : ℕ) (r : RuleForm) → slice_get (sheet_of text).rules k ≡ Some r → r.media ≡ None
+        → r.body.end < length text → length (sheet_of (take (r.body.end + 1) text)).rules ≡ k + 1 }
 {}
