@@ -229,7 +229,7 @@ medias_numbered text n (l ∷ ls) =
     let b = medias_numbered text n ls in
     (λ i. option_to_list (a i) ++ b i) ∙ list_again (media_numbered n) (media_of text l) (media_in text ls)
 
-map_append : {X Y : Type 0} (f : X → Y) (xs ys : List X) → map f (xs ++ ys) ≡ map f xs ++ map f ys
+pub map_append : {X Y : Type 0} (f : X → Y) (xs ys : List X) → map f (xs ++ ys) ≡ map f xs ++ map f ys
 map_append f [] ys = refl
 map_append f (x ∷ xs) ys = ap (λ zs. f x ∷ zs) (map_append f xs ys)
 

@@ -106,7 +106,7 @@ record InFront (text other : List ℕ) : Type 0 where
   media : media_in (text ++ other) (laid_out text None 0 (pieces text)) ≡ media_in text (laid_out text None 0 (pieces text))
   places : places_in (text ++ other) (parts Top (pieces text)) ≡ places_in text (parts Top (pieces text))
 
-all_there : (after text : List ℕ) → IsWholeBefore after 0 text (pieces text) → AllTokens 0 (length text) (pieces text)
+pub all_there : (after text : List ℕ) → IsWholeBefore after 0 text (pieces text) → AllTokens 0 (length text) (pieces text)
 all_there after text whole =
     widen 0 (0 + length text) 0 (length text) (pieces text) (omega arith) (omega arith) (whole_tokens after 0 text (pieces text) whole)
 

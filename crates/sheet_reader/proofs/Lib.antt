@@ -39,3 +39,8 @@ pub mod ClearBodies
 pub mod JoinForms
 pub mod JoinedLaw
 pub mod ShutForms
+pub mod RepairSeams
+pub mod RepairBounds
+pub mod RepairLaw
+pub mod RepairForms
+pub mod RepairMoves
