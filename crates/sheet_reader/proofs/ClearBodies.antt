@@ -43,7 +43,7 @@ use Rattle.sheet_reader.proofs.RulePaths.{path_over}
 use Rattle.sheet_reader.proofs.MovedParts.{places_cons}
 use Rattle.sheet_reader.proofs.MovedLaw.{head_of, path_body, apart, tail_of, text_len}
 
-same_self : (text : List ℕ) (f : ℕ → ℕ) (lo hi : ℕ) → ((x : ℕ) → lo ≤ x → x ≤ hi → f x ≡ x) → SamePart text text f lo hi
+pub same_self : (text : List ℕ) (f : ℕ → ℕ) (lo hi : ℕ) → ((x : ℕ) → lo ≤ x → x ≤ hi → f x ≡ x) → SamePart text text f lo hi
 same_self text f lo hi keep = record {
   cut = λ a b la ah lb bh. λ i. between text (sym (keep a la ah) i) (sym (keep b lb bh) i);
   code = λ a la ah. ap (slice_index text) (sym (keep a la (omega (arith, ah))));
@@ -52,16 +52,16 @@ same_self text f lo hi keep = record {
 
 -- ---- what a function keeps stays in a reading
 module _ (text : List ℕ) (g : ℕ → ℕ) (lo hi : ℕ) (keep : (x : ℕ) → lo ≤ x → x ≤ hi → g x ≡ x) (ended : g (length text) ≡ length text) where
-  rules_kept : (ls : List Laid) → LaidIn lo hi ls → rules_in text ls ≡ map (placed_rule g) (rules_in text ls)
+  pub rules_kept : (ls : List Laid) → LaidIn lo hi ls → rules_in text ls ≡ map (placed_rule g) (rules_in text ls)
   rules_kept ls all =
       sym (ap (rules_in text) (laid_kept g lo hi keep ls all))
       ∙ rules_same text text g lo hi (same_self text g lo hi keep) ls all (any_moved text text g ended ls)
 
-  media_kept : (ls : List Laid) → LaidIn lo hi ls → media_in text ls ≡ map (placed_media g) (media_in text ls)
+  pub media_kept : (ls : List Laid) → LaidIn lo hi ls → media_in text ls ≡ map (placed_media g) (media_in text ls)
   media_kept ls all =
       sym (ap (media_in text) (laid_kept g lo hi keep ls all)) ∙ media_same text text g lo hi (same_self text g lo hi keep) ls all
 
-  places_kept : (ps : List PartForm) → AllTokens lo hi (flat ps) → places_in text ps ≡ map g (places_in text ps)
+  pub places_kept : (ps : List PartForm) → AllTokens lo hi (flat ps) → places_in text ps ≡ map g (places_in text ps)
   places_kept ps all =
       sym (ap (places_in text) (parts_kept g lo hi keep ps all)) ∙ places_same text text g lo hi (same_self text g lo hi keep) ps all
 
@@ -212,21 +212,21 @@ module _ (g : ℕ → ℕ) (c : Cut) (can : (x : ℕ) → x ≡ g x → CanPlace
 
 -- ---- the declarations of a text
 -- a place, or the last one where it is behind that
-unfoldable up_to : ℕ → ℕ → ℕ
+unfoldable pub up_to : ℕ → ℕ → ℕ
 up_to n x = cond (nat_le x n) x n
 
-up_to_keeps : (n x : ℕ) → 0 ≤ x → x ≤ n → up_to n x ≡ x
+pub up_to_keeps : (n x : ℕ) → 0 ≤ x → x ≤ n → up_to n x ≡ x
 unfolding up_to
 up_to_keeps n x a b = grind (arith, nat_tests)
 
-up_to_fixed : (n x : ℕ) → x ≡ up_to n x → x ≤ n
+pub up_to_fixed : (n x : ℕ) → x ≡ up_to n x → x ≤ n
 unfolding up_to
 up_to_fixed n x e = subst (λ (y : ℕ). y ≤ n) (sym e) (most n x)
   where
     most : (n x : ℕ) → cond (nat_le x n) x n ≤ n
     most n x = grind (arith, nat_tests)
 
-properties_within : (n : ℕ) (ps : List Property) → ps ≡ map (placed_property (up_to n)) ps → All (IsPropertyWithin n) ps
+pub properties_within : (n : ℕ) (ps : List Property) → ps ≡ map (placed_property (up_to n)) ps → All (IsPropertyWithin n) ps
 properties_within n [] e = All-nil (IsPropertyWithin n)
 properties_within n (p ∷ ps) e =
     let one : p ≡ placed_property (up_to n) p = cc in

@@ -36,3 +36,11 @@ pub mod RulePaths
 pub mod MovedParts
 pub mod MovedLaw
 pub mod ClearBodies
+pub mod JoinForms
+pub mod JoinedLaw
+pub mod ShutForms
+pub mod RepairSeams
+pub mod RepairBounds
+pub mod RepairLaw
+pub mod RepairForms
+pub mod RepairMoves

@@ -1,11 +1,9 @@
 -- The rule that has a body is found, and the reading is moved.
-use Rattle.std.proofs.Common.{◌≡◌, ℕ, ◌<◌, ◌+◌, ◌-◌, Bool, true, false, nat_eq, ◌&&◌, List, [], ◌∷◌, All, map, length}
-use Rattle.std.proofs.Common.{get_or, Option, Some, None, refl, sym, ap, subst, ◌∙◌, arith}
-use Rattle.std.specs.Prelude.{nat_lt, slice_get, position, option_map, IfSome, IsSomeAnd}
-use Rattle.std.proofs.lemmas.Bool.{eqb-true}
+use Rattle.std.proofs.Common.{◌≡◌, ℕ, ◌<◌, ◌+◌, ◌-◌, true, List, [], ◌∷◌, All, map, length}
+use Rattle.std.proofs.Common.{Option, Some, None, refl, sym, ap, subst, ◌∙◌, arith}
+use Rattle.std.specs.Prelude.{nat_lt, slice_get, option_map, IfSome, IsSomeAnd}
 use Rattle.std.proofs.lemmas.Bool.Decides.{nat_tests}
-use Rattle.std.proofs.lemmas.List.Quantifiers.{position-Some}
-use Rattle.std.proofs.lemmas.Option.{slice_get-get_or, slice_get-map, slice_get_within}
+use Rattle.std.proofs.lemmas.Option.{slice_get-map, slice_get_within}
 use Rattle.node_tree.specs.Numbers.{number_limit}
 use Rattle.css_tokens.specs.declared.token.Range.{Range}
 use Rattle.sheet_reader.specs.declared.rereads.NewBody.{NewBody}
@@ -16,42 +14,18 @@ use Rattle.sheet_reader.specs.declared.sheet.StyleRule.{StyleRule}
 use Rattle.sheet_reader.specs.Declarations.{style_of}
 use Rattle.sheet_reader.specs.Forms.{range, RuleForm, rule_seen}
 use Rattle.sheet_reader.specs.Moves.{moved_sheet, replaced, CanMoveBody, IsPropertyWithin}
-use Rattle.sheet_reader.specs.Rereads.{has_body, LeadsTo}
+use Rattle.sheet_reader.specs.Rereads.{HasBody, LeadsTo}
 use Rattle.sheet_reader.specs.Sealing.{is_sealed}
 use Rattle.sheet_reader.specs.Sheets.{sheet_of}
 use Rattle.sheet_reader.proofs.MovedLaw.{moved_holds}
 use Rattle.sheet_reader.proofs.ClearBodies.{style_within, body_clear}
 
-and_is : (a b : Bool) → (a && b) ≡ true → (a ≡ true) × (b ≡ true)
-and_is true b e = (refl, e)
-and_is false b e = absurd (cc)
-
-same_body : (wanted body : Range) → has_body wanted body ≡ true → body ≡ wanted
-same_body wanted body e =
-    let k = and_is (nat_eq body.start wanted.start) (nat_eq body.end wanted.end) e in
-    let s = eqb-true body.start wanted.start k.0 in
-    let t = eqb-true body.end wanted.end k.1 in
-    λ i. range (s i) (t i)
-
--- the rule has this body
-abbrev pub HasBody : Range → RuleForm → Type 0
-HasBody body r = r.body ≡ body
-
-no_place : (k : ℕ) → ◌≡◌ {A = Option ℕ} None (Some k) → ⊥
-no_place k e = cc
-
-pub rule_found : (rules : List StyleRule) (all : List RuleForm) (wanted : Range) (k : ℕ) → map rule_seen rules ≡ all
-    → position (λ r. has_body wanted r.body) rules ≡ Some k → IsSomeAnd (slice_get all k) (HasBody wanted)
-rule_found rules all wanted k seen at = subst (λ (rs : List RuleForm). IsSomeAnd (slice_get rs k) (HasBody wanted)) seen (own rules at)
-  where
-    own : (rules : List StyleRule) → position (λ r. has_body wanted r.body) rules ≡ Some k
-        → IsSomeAnd (slice_get (map rule_seen rules) k) (HasBody wanted)
-    own [] at = absurd (no_place k at)
-    own (d ∷ rules) at =
-        let p = position-Some (λ (r : StyleRule). has_body wanted r.body) (d ∷ rules) k d at in
-        let is : slice_get (map rule_seen (d ∷ rules)) k ≡ Some (rule_seen (get_or (d ∷ rules) k d)) =
-        slice_get-map rule_seen (d ∷ rules) k ∙ ap (option_map rule_seen) (slice_get-get_or (d ∷ rules) k d p.0) in
-        subst (λ (o : Option RuleForm). IsSomeAnd o (HasBody wanted)) (sym is) (same_body wanted (get_or (d ∷ rules) k d).body p.1)
+-- the rule that was found has the body
+pub body_found : (rules : List StyleRule) (k : ℕ) (r : StyleRule) (wanted : Range) → slice_get rules k ≡ Some r
+    → r.body.start ≡ wanted.start → r.body.end ≡ wanted.end → IsSomeAnd (slice_get (map rule_seen rules) k) (HasBody wanted)
+body_found rules k r wanted e start end =
+    subst (λ (o : Option RuleForm). IsSomeAnd o (HasBody wanted)) (sym (slice_get-map rule_seen rules k ∙ ap (option_map rule_seen) e))
+    (λ i. range (start i) (end i))
 
 -- a rule that can get another body is there
 pub can_within : (s : Sheet) (k : ℕ) (P : RuleForm → Type 0) → IsSomeAnd (slice_get s.rules k) P

@@ -15,4 +15,6 @@ pub mod Usable
 pub mod Around
 pub mod Lone
 pub mod Moves
+pub mod Repairs
 pub mod Rereads
+pub mod Joins

@@ -1,26 +1,30 @@
 -- The reading of a text of which a part was replaced, by what of the old reading is kept.
-use Rattle.std.specs.Prelude.{◌≡◌, ℕ, ◌≤◌, Bool, ◌&&◌, ◌==◌, List, length, slice_get, IsSomeAnd}
+use Rattle.std.specs.Prelude.{◌≡◌, ℕ, ◌≤◌, List, length, slice_get, IsSomeAnd}
 use Rattle.node_tree.specs.Numbers.{max_sheet_bytes}
 use Rattle.css_tokens.specs.declared.token.Range.{Range}
 use Rattle.sheet_reader.specs.declared.book.SheetEntry.{SheetEntry}
 use Rattle.sheet_reader.specs.declared.rereads.Rereading.{Rereading}
-use Rattle.sheet_reader.specs.declared.rereads.Rereading.TheVariants.{Body, Whole}
+use Rattle.sheet_reader.specs.declared.rereads.Rereading.TheVariants.{Body, Part, Whole}
 use Rattle.sheet_reader.specs.declared.sheet.Sheet.{Sheet}
+use Rattle.sheet_reader.specs.Forms.{RuleForm}
 use Rattle.sheet_reader.specs.Moves.{moved_sheet, CanMoveBody}
+use Rattle.sheet_reader.specs.Repairs.{repaired, CanRepair}
 use Rattle.sheet_reader.specs.Sheets.{sheet_of}
 
--- the ranges are the same
-abbrev pub has_body : Range → Range → Bool
-has_body wanted body = body.start == wanted.start && body.end == wanted.end
+-- the rule has this body
+abbrev pub HasBody : Range → RuleForm → Type 0
+HasBody wanted r = r.body ≡ wanted
 
--- what a reading becomes: the old one moved around a new body, or the one that was read
+-- what a reading becomes: the old one moved around a new body or a new part, or the one that was read
 abbrev pub reread_by : Sheet → Rereading → Sheet
 reread_by s (Body new) = moved_sheet s new.rule new.properties.items new.size
+reread_by s (Part new) = repaired s new
 reread_by s (Whole new) = new
 
 -- it can become that
 abbrev pub CanReread : Sheet → Rereading → Type 0
 CanReread s (Body new) = IsSomeAnd (slice_get s.rules new.rule) (CanMoveBody s new.rule new.properties.items new.size)
+CanReread s (Part new) = CanRepair s new
 CanReread s (Whole new) = Unit {0}
 
 -- the old reading can become the new one so

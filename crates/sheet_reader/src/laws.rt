@@ -1,6 +1,6 @@
 //! Laws of the definitions: sheets and bodies in the words of their grammar.
 
-ghost use Rattle.std.specs.Prelude.{◌≡◌, ◌<◌, ◌≤◌, ◌+◌, ◌++◌, ◌∷◌, [], ℕ, Bool, true, List, length, slice_get, Option, Some, None};
+ghost use Rattle.std.specs.Prelude.{◌≡◌, ◌<◌, ◌≤◌, ◌+◌, ◌++◌, ◌∷◌, [], ℕ, Bool, true, List, length, take, slice_get, Option, Some, None};
 ghost use Rattle.node_tree.specs.Numbers.{number_limit};
 ghost use Rattle.css_tokens.specs.declared.token.Token.{Token};
 ghost use Rattle.sheet_reader.specs.declared.parts.Level.{Level};
@@ -24,6 +24,7 @@ ghost use Rattle.sheet_reader.specs.Sealing.{is_sealed};
 ghost use Rattle.sheet_reader.specs.Moves.{moved_sheet, replaced, CanMoveBody};
 ghost use Rattle.sheet_reader.specs.Around.{AreThere, AreBelow, IsBelow, AllHold, held, held_at};
 ghost use Rattle.sheet_reader.specs.declared.sheet.MediaRule.{MediaRule};
+ghost use Rattle.sheet_reader.specs.Joins.{is_shut_text, joined};
 ghost use Rattle.sheet_reader.specs.Usable.{IsSheetOf, AreDeclarationsOf};
 
 /// Pieces are cut into the parts of a sheet, and into the items of a body, as the grammar of CSS Syntax 3, section 5, has it, and
@@ -82,4 +83,16 @@ pub fn moved_law()
         → sheet_of (replaced text r.body put) ≡ moved_sheet (sheet_of text) k (style_of put) (length put) }
     ensures can_move { (text put : List ℕ) (k : ℕ) (r : RuleForm) → slice_get (sheet_of text).rules k ≡ Some r
         → length text + length put < number_limit → CanMoveBody (sheet_of text) k (style_of put) (length put) r }
+{}
+
+/// Where a text ends with a rule, and has its `}`, what stands behind it is read as it is alone: the reading of both is that of the
+/// first, and behind it that of the second. So ends the text up to the `}` of each of its style rules at top level, and it has those
+/// rules up to that one.
+pub fn joined_law()
+    ensures joined { (text other : List ℕ) → is_shut_text text ≡ true
+        → sheet_of (text ++ other) ≡ joined (length text) (sheet_of text) (sheet_of other) }
+    ensures ends { (text : List ℕ) (k : ℕ) (r : RuleForm) → slice_get (sheet_of text).rules k ≡ Some r → r.media ≡ None
+        → r.body.end < length text → is_shut_text (take (r.body.end + 1) text) ≡ true }
+    ensures rules { (text : List ℕ) (k : ℕ) (r : RuleForm) → slice_get (sheet_of text).rules k ≡ Some r → r.media ≡ None
+        → r.body.end < length text → length (sheet_of (take (r.body.end + 1) text)).rules ≡ k + 1 }
 {}

@@ -5,16 +5,17 @@
 //!
 //! Promise: `read_sheet` and `read_style` give exactly that reading; `position` and `byte_at` are the lines and UTF-16 columns
 //! of bytes; a `SheetBook` is the list of its entries, each with the reading of its text. `reread` gives the reading of a text of
-//! which a part was replaced: where that is the body of a rule, no more than the new body is read. `plan_reread` takes the memory
-//! that it wants, `carry_out` and `SheetBook::retell` take none.
+//! which a part was replaced: where that is the body of a rule, no more than the new body is read, and else, outside media rules, no
+//! more than what stands between the rules around it. `plan_reread` takes the memory that it wants, `carry_out` and
+//! `SheetBook::retell` take none.
 //!
 //! Way in: those, `reread` for a text of which a part was replaced, `sealed` for one that may stand between braces, and `lone_rule`
 //! for one that is one rule.
 //!
 //! Laws, in src/laws.rt: `grammar_law` (parts and items are as CSS Syntax has them, and in no other way), `nesting_law`,
-//! `position_law`, `usable_law` (every range can be cut out, and they stand in one another as they should) and `moved_law` (after an
-//! edit of a rule's body the reading is the old one with its places moved, as `move_body` makes it without reading). Laws from
-//! the table of pieces up stand in `sheet_laws`.
+//! `position_law`, `usable_law` (every range can be cut out, and they stand in one another as they should), `moved_law` (after an
+//! edit of a rule's body the reading is the old one with its places moved, as `move_body` makes it without reading) and `joined_law`
+//! (what stands behind the `}` of a rule at top level is read as it is alone). Laws from the table of pieces up stand in `sheet_laws`.
 #![tactic(auto)]
 
 mod book;
@@ -30,6 +31,7 @@ mod moves;
 mod parts;
 mod place;
 mod places;
+mod repairs;
 mod rereads;
 mod rules;
 mod sealing;
@@ -37,12 +39,15 @@ mod sheet;
 
 pub use book::{Origin, SheetBook, SheetEntry};
 pub use declarations::read_style;
-pub use laws::{around_law, grammar_law, moved_law, nesting_law, position_law, usable_law};
+pub use laws::{
+    around_law, grammar_law, joined_law, moved_law, nesting_law, position_law, usable_law,
+};
 pub use lists::{MediaRules, Places, Properties, StyleRules};
 pub use lone::{LoneRule, lone_rule};
 pub use moves::move_body;
 pub use place::Position;
 pub use places::{byte_at, position};
+pub use repairs::{NewPart, Share};
 pub use rereads::{NewBody, Rereading, carry_out, plan_reread, reread};
 pub use rules::read_sheet;
 pub use sealing::{sealed, sealed_prelude};

@@ -43,7 +43,7 @@ pub(crate) fn raise_properties(properties: &mut [Property], start: usize, size: 
     }
 }
 
-fn raised(range: Range, start: usize) -> Range
+pub(crate) fn raised(range: Range, start: usize) -> Range
     requires front { start + range.start < number_limit }
     requires back { start + range.end < number_limit }
     ensures { result ≡ placed_range (λ place. start + place) range }
@@ -54,7 +54,7 @@ fn raised(range: Range, start: usize) -> Range
     }
 }
 
-fn move_places(places: &mut [usize], gap: Gap)
+pub(crate) fn move_places(places: &mut [usize], gap: Gap)
     requires { All (CanPlace (cut gap.start gap.end gap.size)) places.old }
     ensures { places.new ≡ map (moved_place (cut gap.start gap.end gap.size)) places.old }
 {
@@ -98,7 +98,7 @@ fn rebody(rule: &mut StyleRule, gap: Gap, properties: Properties)
     rule.properties = properties.raised(gap.start, gap.size);
 }
 
-fn move_rules(rules: &mut [StyleRule], gap: Gap)
+pub(crate) fn move_rules(rules: &mut [StyleRule], gap: Gap)
     requires { All (CanPlaceRule (cut gap.start gap.end gap.size)) (map rule_seen rules.old) }
     ensures { map rule_seen rules.new ≡ map (placed_rule (moved_place (cut gap.start gap.end gap.size))) (map rule_seen rules.old) }
 {

@@ -5,7 +5,8 @@
 //!
 //! Promise: on Ok the book is exactly what the edit comes to, by ids, origins and texts alone, and the answer leads back; on a
 //! fault it is the first by number of the first edit that has one, and the book is as before, as it is after want of memory.
-//! A sealed text in the place of a rule's body is read alone, and the sheet's reading moved; after any other edit the sheet is read anew.
+//! A sealed text in the place of a rule's body is read alone, and after another edit what stands between the rules at top level around it;
+//! the sheet's reading is moved. An edit in a media rule, but of a body, has the sheet read anew.
 //!
 //! Way in: `set_styles`, `set_selector`, `set_text`, `add_rule` and `set_media`; `put_back` makes a splice; `add_sheet` and `drop_sheet`
 //! for a script.
