@@ -52,7 +52,8 @@ push-same-id serial state b is begun stands there =
 
 pub push-stands : (d d1 : Desk) (s : PageSide) (state : State) (serial : ℕ) (page : PageValue) → DeskStandsFor d s state
     → CanPush serial state → page ≡ s.page
-    → d1.is_on ≡ d.is_on → d1.css ≡ d.css → d1.watches ≡ d.watches → d1.searches ≡ d.searches → d1.agent ≡ (bound_push serial page d.agent).state
+    → d1.is_on ≡ d.is_on → d1.css ≡ d.css → d1.watches ≡ d.watches → d1.searches ≡ d.searches
+    → d1.agent ≡ (bound_push serial page d.agent).state
     → DeskStandsFor d1 s (push_step serial state).state
 push-stands d d1 s state serial page stands can page_is on_is css_is watches_is searches_is agent_is =
     let begun : IsBegun state.client.session = is-begun state.client.session can.begun in

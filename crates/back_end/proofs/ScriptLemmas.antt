@@ -333,7 +333,8 @@ pub in_none : {T E : Type 0} (result : Result T E) (P : Type 0) (fault : E) → 
 in_none result P fault is = subst (λ r. OnOk r P) (sym is) tt
 
 -- a desk and a side that stayed as they were
-pub stayed-stands : (d d1 : Desk) (s s1 : PageSide) (state : State) → d1.is_on ≡ d.is_on → d1.css ≡ d.css → d1.watches ≡ d.watches → d1.searches ≡ d.searches
+pub stayed-stands : (d d1 : Desk) (s s1 : PageSide) (state : State) → d1.is_on ≡ d.is_on → d1.css ≡ d.css → d1.watches ≡ d.watches
+    → d1.searches ≡ d.searches
     → d1.agent ≡ d.agent → s1.page ≡ s.page → s1.sheets ≡ s.sheets
     → DeskStandsFor d s state → DeskStandsFor d1 s1 state
 stayed-stands d d1 s s1 state on_is css_is watches_is searches_is agent_is page_is sheets_is stands = record {

@@ -141,7 +141,8 @@ module _ (d : Desk) (s : PageSide) (state : State) (id : ℕ) (stands : DeskStan
       pub listed-sent : (old new : List ℕ) → new ≡ old ++ answer id (binding_outcome page push d.agent)
           → new ≡ old ++ frames_of_moves (agent_step id push state).moves
       listed-sent old new sent =
-          asked-sent d s state id push page old new refl was stands page_is sent ∙ ap (λ (done : Step). old ++ frames_of_moves done.moves) push-is
+          asked-sent d s state id push page old new refl was stands page_is sent
+          ∙ ap (λ (done : Step). old ++ frames_of_moves done.moves) push-is
 
 -- ---- `DOM.discardSearchResults`
 
@@ -178,7 +179,8 @@ module _ (d : Desk) (s : PageSide) (state : State) (id : ℕ) (named : List ℕ)
   -- where no such search is kept
   pub gone-stands : (search : ℕ) → Some search ≡ search_in named → is_some (table.get d.searches.lists search) ≡ false
       → DeskStandsFor d s (discard_step id (search_in named) state).state
-  gone-stands search named_is gone = subst (λ (done : Step). DeskStandsFor d s done.state) (sym (discard-is search false named_is gone)) stands
+  gone-stands search named_is gone = subst (λ (done : Step). DeskStandsFor d s done.state)
+      (sym (discard-is search false named_is gone)) stands
 
   pub gone-sent : (search : ℕ) (old new : List ℕ) → Some search ≡ search_in named → is_some (table.get d.searches.lists search) ≡ false
       → new ≡ old ++ frames_of_moves (refusing (Some id) NoSearch state).moves
@@ -211,4 +213,5 @@ no-css (search.DiscardSearchResults named) on = refl
 -- while DOM is on, what is asked of searches is served
 pub search-is : (d : Desk) (s : PageSide) (state : State) (id : ℕ) (ask : SearchAsk) → DeskStandsFor d s state → d.is_on ≡ true
     → command_step id (AskSearch ask) state ≡ search_step id ask state
-search-is d s state id ask stands on = on-is id (AskSearch ask) state (dom-on (AskSearch ask) d s state stands on) (no-css ask state.client.css_on)
+search-is d s state id ask stands on = on-is id (AskSearch ask) state (dom-on (AskSearch ask) d s state stands on)
+    (no-css ask state.client.css_on)

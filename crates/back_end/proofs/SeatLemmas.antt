@@ -199,7 +199,8 @@ and-false false = refl
 
 pub disabled-stands : (d d1 : Desk) (s s1 : PageSide) (state : State) (id : ℕ) → DeskStandsFor d s state → d.is_on ≡ true
     → s1.page ≡ s.page → s1.sheets ≡ s.sheets → d1.is_on ≡ false
-    → d1.css ≡ false → d1.watches ≡ unwatched → d1.searches ≡ forgotten d.searches → d1.agent ≡ cleared d.agent → DeskStandsFor d1 s1 (command_step id DomDisable state).state
+    → d1.css ≡ false → d1.watches ≡ unwatched → d1.searches ≡ forgotten d.searches → d1.agent ≡ cleared d.agent
+    → DeskStandsFor d1 s1 (command_step id DomDisable state).state
 disabled-stands d d1 s s1 state id stands was same sheets_is off css_off watches_is searches_is agent_is =
     subst (λ (done : Step). DeskStandsFor d1 s1 done.state)
     (sym (on-is id DomDisable state (disable-on d.is_on state.client.dom_on stands.on_is was) refl)) (record {

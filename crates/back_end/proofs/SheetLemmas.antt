@@ -378,7 +378,8 @@ LoadedSoFar next medium forms i book =
     (book.entries ++ as_book (numbered_sheets book.next (drop i forms)) ≡ as_book (numbered_sheets next forms))
     × (book.next + length (drop i forms) ≡ next + length forms) × (book.medium ≡ medium)
 
-pub loaded-turn : (next i : ℕ) (medium : Medium) (forms : List SheetForm) (f : SheetForm) (book later : NumberedBook) → slice_get forms i ≡ Some f
+pub loaded-turn : (next i : ℕ) (medium : Medium) (forms : List SheetForm) (f : SheetForm) (book later : NumberedBook)
+    → slice_get forms i ≡ Some f
     → LoadedSoFar next medium forms i book
     → later ≡ record book { entries = book.entries ++ new_sheet book.next f.origin f.text ∷ []; next = book.next + 1 }
     → LoadedSoFar next medium forms (i + 1) later
@@ -398,11 +399,13 @@ loaded-turn next i medium forms f book later at inv is =
     ) in
     subst (LoadedSoFar next medium forms (i + 1)) (sym is) done
 
-pub loaded-room : (next i : ℕ) (medium : Medium) (forms : List SheetForm) (book : NumberedBook) → next < 2 ^ 51 → can_hold_sheets forms ≡ true
+pub loaded-room : (next i : ℕ) (medium : Medium) (forms : List SheetForm) (book : NumberedBook) → next < 2 ^ 51
+    → can_hold_sheets forms ≡ true
     → LoadedSoFar next medium forms i book → book.next < 2 ^ 52
 loaded-room next i medium forms book room can inv = let few = sheets-few forms can in omega (arith, room, few, inv.1)
 
-pub loaded-end : (next i : ℕ) (medium : Medium) (forms : List SheetForm) (book : NumberedBook) → length forms ≤ i → LoadedSoFar next medium forms i book
+pub loaded-end : (next i : ℕ) (medium : Medium) (forms : List SheetForm) (book : NumberedBook) → length forms ≤ i
+    → LoadedSoFar next medium forms i book
     → book ≡ record { entries = as_book (numbered_sheets next forms); next = next + length forms; medium = medium }
 loaded-end next i medium forms book over inv =
     let nothing : drop i forms ≡ [] = drop-over forms i over in
@@ -429,7 +432,8 @@ short-at (x ∷ xs) zero f all at =
 short-at (x ∷ xs) (suc i) f all at = short-at xs i f (and-right (is_short x) (list_all is_short xs) all) at
 
 -- each fits
-pub loaded-fits : (next i : ℕ) (medium : Medium) (forms : List SheetForm) (f : SheetForm) (book : NumberedBook) → can_hold_sheets forms ≡ true
+pub loaded-fits : (next i : ℕ) (medium : Medium) (forms : List SheetForm) (f : SheetForm) (book : NumberedBook)
+    → can_hold_sheets forms ≡ true
     → slice_get forms i ≡ Some f → LoadedSoFar next medium forms i book
     → is_too_big f.text book.entries ≡ true → ⊥
 loaded-fits next i medium forms f book can at inv big =
@@ -464,7 +468,8 @@ got [] i f inside is = absurd (omega (arith, inside))
 got (x ∷ xs) zero f inside is = ap (λ (y : SheetForm). Some y) (sym is)
 got (x ∷ xs) (suc i) f inside is = got xs i f (omega (arith, inside)) is
 
-pub loaded-step : (next i : ℕ) (medium : Medium) (forms : List SheetForm) (f : SheetForm) (text : List ℕ) (book later : NumberedBook) → i < length forms
+pub loaded-step : (next i : ℕ) (medium : Medium) (forms : List SheetForm) (f : SheetForm) (text : List ℕ) (book later : NumberedBook)
+    → i < length forms
     → f ≡ get_or forms i f → text ≡ f.text → LoadedSoFar next medium forms i book
     → later ≡ record book { entries = book.entries ++ new_sheet book.next f.origin text ∷ []; next = book.next + 1 }
     → LoadedSoFar next medium forms (i + 1) later
@@ -480,7 +485,8 @@ pub loaded-fault : (next i : ℕ) (medium : Medium) (forms : List SheetForm) (f 
 loaded-fault next i medium forms f text book result error fault can inside at said inv failed is faulty =
     let big = subst (λ (r : Result Unit SheetErr). IfFault r (λ g. (g ≡ TooBig) × (is_too_big text book.entries ≡ true)))
     (failed ∙ ap (λ (e : SheetErr). Err e) is) faulty in
-    loaded-fits next i medium forms f book can (got forms i f inside at) inv (ap (λ (t : List ℕ). is_too_big t book.entries) (sym said) ∙ big.1)
+    loaded-fits next i medium forms f book can (got forms i f inside at) inv
+    (ap (λ (t : List ℕ). is_too_big t book.entries) (sym said) ∙ big.1)
 
 -- what the code keeps of its book
 abbrev pub KeepsNumbers : ℕ → List SheetEntry → Type 0

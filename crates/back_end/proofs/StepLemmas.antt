@@ -51,7 +51,8 @@ use Rattle.back_end.specs.Sheets.{as_book, AreSheetsBelow}
 use Rattle.media_rules.specs.declared.medium.Medium.{Medium}
 use Rattle.back_end.specs.Steps.{idle, on_medium}
 use Rattle.back_end.specs.States.{Side, Client, State, book_in, sheets_shown, view_of, loaded_side, AreAmong, HoldsNow, HasHistory, IsState}
-use Rattle.back_end.specs.Plans.{Plan, Deed, edits, restyles, shows_on, edit_fault, size_fault, drop_fault, replace_fault, dropping, replacing}
+use Rattle.back_end.specs.Plans.{Plan, Deed, edits, restyles, shows_on, edit_fault, size_fault, drop_fault, replace_fault, dropping}
+use Rattle.back_end.specs.Plans.{replacing}
 use Rattle.back_end.specs.Plans.{act_fault, act_plan}
 use Rattle.back_end.specs.Steps.{Step, with_page, watched_after, edit_step, pause_step, script_step, script_steps, with_crossed, crossing}
 use Rattle.back_end.specs.Steps.{deed_step, sheet_steps, planned_step, act_step, client_reset, load_step, Turn, acts, loads, turn_step}
@@ -63,7 +64,8 @@ use Rattle.back_end.proofs.SheetSteps.{CanChangeAll, changes-well, load-course}
 use Rattle.back_end.proofs.PushSteps.{not-begun, begun-edited}
 use Rattle.back_end.proofs.WatchedLemmas.{none-set, among-after}
 use Rattle.back_end.proofs.PauseSteps.{Pauses, edit-pauses}
-use Rattle.back_end.proofs.WellSteps.{Well, HasNumbers, room-numbers, can-sheets, can-tell, told-view, told-with, now-marked, stays, then-well, more}
+use Rattle.back_end.proofs.WellSteps.{Well, HasNumbers, room-numbers, can-sheets, can-tell, told-view, told-with, now-marked, stays}
+use Rattle.back_end.proofs.WellSteps.{then-well, more}
 use Rattle.back_end.proofs.KeptSteps.{Recalls, recalls-same, recalls-none, recalls-crossed, steps-well}
 
 -- ---- one edit

@@ -210,7 +210,8 @@ first_sheet m i s book z e j =
       rules = subst (λ (n : ℕ). IsIn e (entries_of_rules (source_of m n s) 0 (sheet_of s.text).rules z)) first j;
     }
 
-sheets-from : (m : Medium) (i : ℕ) (book : List SheetEntry) (z : Zipper) (e : Key × Hit) → IsIn e (entries_of_sheets m i book z) → SheetFrom m i book z e
+sheets-from : (m : Medium) (i : ℕ) (book : List SheetEntry) (z : Zipper) (e : Key × Hit) → IsIn e (entries_of_sheets m i book z)
+    → SheetFrom m i book z e
 sheets-from m i [] z e there = elim there [ ]
 sheets-from m i (s ∷ book) z e there =
     elim (IsIn-append (entries_of_rules (source_of m i s) 0 (sheet_of s.text).rules z) (entries_of_sheets m (i + 1) book z) there) [
@@ -218,7 +219,8 @@ sheets-from m i (s ∷ book) z e there =
       | inr j ↦ further_sheet m i s book z e (sheets-from m (i + 1) book z e j)
     ]
 
-sheets-of : (m : Medium) (i k n : ℕ) (book : List SheetEntry) (z : Zipper) (s : SheetEntry) (e : Key × Hit) → n ≡ i + k → slice_get book k ≡ Some s
+sheets-of : (m : Medium) (i k n : ℕ) (book : List SheetEntry) (z : Zipper) (s : SheetEntry) (e : Key × Hit) → n ≡ i + k
+    → slice_get book k ≡ Some s
     → IsIn e (entries_of_rules (source_of m n s) 0 (sheet_of s.text).rules z) → IsIn e (entries_of_sheets m i book z)
 sheets-of m i k n [] z s e is at made = absurd (cc)
 sheets-of m i zero n (x ∷ book) z s e is at made =
@@ -235,7 +237,8 @@ pub record Stands (m : Medium) (book : List SheetEntry) (z : Zipper) (e : Key ×
   pub applies : Applies m book z placed
   pub is : e ≡ standing placed z
 
-pub stands-from : (m : Medium) (book : List SheetEntry) (z : Zipper) (e : Key × Hit) → IsIn e (entries_of_sheets m 0 book z) → Stands m book z e
+pub stands-from : (m : Medium) (book : List SheetEntry) (z : Zipper) (e : Key × Hit) → IsIn e (entries_of_sheets m 0 book z)
+    → Stands m book z e
 stands-from m book z e there =
     let s = sheets-from m 0 book z e there in
     let r = rules-from (source_of m (0 + s.offset) s.entry) 0 (sheet_of s.entry.text).rules z e s.rules in
@@ -255,7 +258,8 @@ stands-from m book z e there =
       is = same_some e _ (sym entry ∙ entry-made m s.offset r.offset s.entry r.form z says.0 says.1);
     }
 
-pub stands-of : (m : Medium) (book : List SheetEntry) (z : Zipper) (p : PlacedRule) → Applies m book z p → IsIn (standing p z) (entries_of_sheets m 0 book z)
+pub stands-of : (m : Medium) (book : List SheetEntry) (z : Zipper) (p : PlacedRule) → Applies m book z p
+    → IsIn (standing p z) (entries_of_sheets m 0 book z)
 stands-of m book z p applies =
     sheets-of m 0 p.sheet p.sheet book z p.entry (standing p z) (omega arith) applies.sheet
     (rules-of (source_of m p.sheet p.entry) 0 p.rule p.rule (sheet_of p.entry.text).rules z p.form (standing p z) (omega arith) applies.rule
@@ -360,7 +364,8 @@ all-of sorted (e ∷ es) x apart (in_tail _ _ j) = all-of (insert_entry key_cmp 
 
 -- ---- the whole
 
-same_sheet : (m : Medium) (book : List SheetEntry) (z : Zipper) (p q : PlacedRule) → Applies m book z p → Applies m book z q → p.sheet ≡ q.sheet
+same_sheet : (m : Medium) (book : List SheetEntry) (z : Zipper) (p q : PlacedRule) → Applies m book z p → Applies m book z q
+    → p.sheet ≡ q.sheet
     → p.entry ≡ q.entry
 same_sheet m book z p q one other e = same_some p.entry q.entry (sym one.sheet ∙ ap (λ (n : ℕ). slice_get book n) e ∙ other.sheet)
 
@@ -376,7 +381,8 @@ apart-standing m book z p q one other e =
     (λ (n : ℕ). slice_get (sheet_of q.entry.text).rules n) rule ∙ other.rule) in
     λ i. standing (record { sheet = sheet i; entry = entry i; rule = rule i; form = form i }) z
 
-pub each-applied : (m : Medium) (book : List SheetEntry) (z : Zipper) (p : PlacedRule) → Applies m book z p → IsIn (standing p z) (matched_entries m book z)
+pub each-applied : (m : Medium) (book : List SheetEntry) (z : Zipper) (p : PlacedRule) → Applies m book z p
+    → IsIn (standing p z) (matched_entries m book z)
 each-applied m book z p applies = all-of [] (entries_of_sheets m 0 book z) (standing p z) apart (stands-of m book z p applies)
   where
     apart : ApartFrom (standing p z) (entries_of_sheets m 0 book z)
@@ -384,7 +390,8 @@ each-applied m book z p applies = all-of [] (entries_of_sheets m 0 book z) (stan
         let s = stands-from m book z y j in
         apart-standing m book z p s.placed applies s.applies (e ∙ ap (λ (w : Key × Hit). w.0) s.is) ∙ sym s.is
 
-pub only-applied : (m : Medium) (book : List SheetEntry) (z : Zipper) (e : Key × Hit) → IsIn e (matched_entries m book z) → Stands m book z e
+pub only-applied : (m : Medium) (book : List SheetEntry) (z : Zipper) (e : Key × Hit) → IsIn e (matched_entries m book z)
+    → Stands m book z e
 only-applied m book z e there = by (all-from [] (entries_of_sheets m 0 book z) e there)
   where
     by : IsIn e [] ⊎ IsIn e (entries_of_sheets m 0 book z) → Stands m book z e

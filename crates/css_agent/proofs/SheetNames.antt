@@ -176,7 +176,8 @@ pub record RuleNamed (most : ℕ) (r : RuleForm) : Type 0 where
   pub properties : AllByRecursion PropertyNamed r.properties
   pub few : length r.selectors ≤ most + 1
 
-styled-named : (text : List ℕ) (around : Option ℕ) (prelude inside : List Token) (own : Range) (r : RuleForm) → IsUtf8 text → AreCutAt text prelude
+styled-named : (text : List ℕ) (around : Option ℕ) (prelude inside : List Token) (own : Range) (r : RuleForm) → IsUtf8 text
+    → AreCutAt text prelude
     → AreCutAt text inside
     → style_rule text around (words_after text false prelude) own inside ≡ Some r → RuleNamed (length prelude) r
 styled-named text around prelude inside own r utf8 front within e =

@@ -41,7 +41,8 @@ use Rattle.replay_script.specs.declared.line_kinds.LineKind.{LineKind}
 use Rattle.replay_script.specs.declared.line_kinds.LineKind.TheVariants as kind
 use Rattle.replay_script.specs.Kinds.{line_kind_name, all_line_kinds, is_load, sole_member, sole, styles_in, kind_said, said}
 use Rattle.replay_script.specs.Forms.{AskForm, LineForm, load, act, ask, raw, up, down, settle, show_front, show_page, show_sheets}
-use Rattle.replay_script.specs.Forms.{show_replies, show_pauses, show_panels, show_styles, close, AskParts, ask_kind, ask_from, ask_in, show_from}
+use Rattle.replay_script.specs.Forms.{show_replies, show_pauses, show_panels, show_styles, close, AskParts, ask_kind, ask_from, ask_in}
+use Rattle.replay_script.specs.Forms.{show_from}
 use Rattle.replay_script.specs.Forms.{form_by, form_of, line_form}
 use Rattle.replay_script.specs.Faults.{is_zero, is_whole_number, has_whole_id, is_no_frame, fault_of_data, line_fault}
 use Rattle.replay_script.specs.Seen.{seen, seen_ask, RefusesLine}

@@ -228,7 +228,8 @@ in_listed text [] behind p n e = subst (λ (o : Option ℕ). Contains (option_to
 in_listed text (q ∷ before) behind p n e = in_more (place_of text q) (listed (place_of text) (before ++ p ∷ behind)) n
     (in_listed text before behind p n e)
 
-pub between_places : (text : List ℕ) (place : ℕ) → IsBetweenParts text (parts (level_of None) (pieces text)) place → Contains (sheet_of text).places place
+pub between_places : (text : List ℕ) (place : ℕ) → IsBetweenParts text (parts (level_of None) (pieces text)) place
+    → Contains (sheet_of text).places place
 between_places text place b =
     let own = in_listed text b.before b.behind b.part place (place_reads text b.part place b.ends) in
     let same = ap (listed (place_of text)) (sym b.is) ∙ sym (places_listed text (parts (level_of None) (pieces text))) in
@@ -250,11 +251,13 @@ contained_splits text (q ∷ ps) p place (suc k, less, is) b = later text q ps p
     (contained_splits text ps p place (k, omega (arith, less), is) b)
 
 pub closed_rule_place : (text : List ℕ) (prelude inside : List Token) (brace close : Token)
-    → Contains (parts (level_of None) (pieces text)) (qualified prelude (block brace inside (Some close))) → Contains (sheet_of text).places close.end
+    → Contains (parts (level_of None) (pieces text)) (qualified prelude (block brace inside (Some close)))
+    → Contains (sheet_of text).places close.end
 unfolding place_of
 closed_rule_place text prelude inside brace close within =
     let p = qualified prelude (block brace inside (Some close)) in
-    between_places text close.end (contained_splits text (parts (level_of None) (pieces text)) p close.end within (place_spelled text p close.end refl))
+    between_places text close.end
+    (contained_splits text (parts (level_of None) (pieces text)) p close.end within (place_spelled text p close.end refl))
 
 -- ---- that they ascend
 
@@ -270,7 +273,8 @@ ascend_from : (low place : ℕ) (ns : List ℕ) → low ≤ place → AscendFrom
 ascend_from low place [] less all = tt
 ascend_from low place (n ∷ ns) less all = (omega (arith, less, all.0), all.1)
 
-places_ascend_in : (outside : Option ℕ) (text : List ℕ) (from to : ℕ) (ps : List PartForm) (ts : List Token) → AreParts (level_of outside) ps ts → StandBetween from to ts
+places_ascend_in : (outside : Option ℕ) (text : List ℕ) (from to : ℕ) (ps : List PartForm) (ts : List Token)
+    → AreParts (level_of outside) ps ts → StandBetween from to ts
     → AscendFrom from (places_in text ps)
 unfolding places_in
 places_ascend_in outside text from to [] ts are stands = tt

@@ -13,7 +13,8 @@ use Rattle.sheet_reader.specs.Forms.{range, RuleForm}
 use Rattle.sheet_reader.specs.Parts.{EndingForm, text_end, semicolon, block, PartForm, passed, at_rule, qualified, ending_pieces}
 use Rattle.sheet_reader.specs.Parts.{part_pieces, parts}
 use Rattle.sheet_reader.specs.Declarations.{declarations}
-use Rattle.sheet_reader.specs.Layout.{level_of, MediaForm, media_form, media_in, Laid, laid, laid_out, AreLaid, none_laid, part_laid, media_laid}
+use Rattle.sheet_reader.specs.Layout.{level_of, MediaForm, media_form, media_in, Laid, laid, laid_out, AreLaid, none_laid, part_laid}
+use Rattle.sheet_reader.specs.Layout.{media_laid}
 use Rattle.sheet_reader.specs.Grammar.{AreParts}
 use Rattle.sheet_reader.proofs.LayoutForms.{laid_spelled}
 use Rattle.sheet_reader.proofs.UsableForms.{MediaIs, media_is, no_rule, rules_append}
@@ -63,7 +64,8 @@ rule_is text around prelude (block brace inside close) r e =
       media = ap (λ (x : RuleForm). x.media) (sym same);
     }
 
-pub rule_again : (text : List ℕ) (around : Option ℕ) (prelude : List Token) (ending : EndingForm) (r : RuleForm) → RuleIs text around prelude ending r
+pub rule_again : (text : List ℕ) (around : Option ℕ) (prelude : List Token) (ending : EndingForm) (r : RuleForm)
+    → RuleIs text around prelude ending r
     → rule_by text around prelude ending ≡ Some r
 rule_again text around prelude ending r f =
     let words = words_after text false prelude in
@@ -115,7 +117,8 @@ stand_cut from to (t ∷ xs) ys all = let c = stand_cut t.end to xs ys all.2 in 
 }
 
 has_prelude : (text : List ℕ) (around : Option ℕ) (front rest : List Token) (from : ℕ) (p : PartForm) (r : RuleForm)
-    → pieces text ≡ front ++ (part_pieces p ++ rest) → StandBetween from (length text) (part_pieces p ++ rest) → rule_of text around p ≡ Some r
+    → pieces text ≡ front ++ (part_pieces p ++ rest) → StandBetween from (length text) (part_pieces p ++ rest)
+    → rule_of text around p ≡ Some r
     → HasPrelude text r
 unfolding rule_of
 has_prelude text around front rest from (passed t) r whole stands e = absurd (none_some r e)
@@ -196,14 +199,16 @@ inside_stands text p m form s =
     (right_stands text (form.first ∷ []) (m.inside ++ option_to_list form.close) behind_prelude)
 
 rules_have : (text : List ℕ) (around : Option ℕ) (k : ℕ) (ps : List PartForm) (ls : List Laid) → AreLaid text around k ps ls
-    → (outside : Option ℕ) (ts : List Token) (r : RuleForm) → AreParts (level_of outside) ps ts → StandsIn text ts → Contains (rules_in text ls) r
+    → (outside : Option ℕ) (ts : List Token) (r : RuleForm) → AreParts (level_of outside) ps ts → StandsIn text ts
+    → Contains (rules_in text ls) r
     → HasPrelude text r
 unfolding rules_in
 rules_have text around k _ _ none_laid outside ts r are stands within = absurd (in_none r within)
 rules_have text around k _ _ (part_laid p ps ls e others) outside ts r are stands within =
     let whole = subst (StandsIn text) are.1 stands in
     let own = left_stands text (part_pieces p) are.0 whole in
-    by_either (λ found. has_prelude text around own.front own.back own.from p r own.is own.stands (found_in (rule_of text around p) r found))
+    by_either
+    (λ found. has_prelude text around own.front own.back own.from p r own.is own.stands (found_in (rule_of text around p) r found))
     (rules_have text around k ps ls others outside are.0 r are.3 (right_stands text (part_pieces p) are.0 whole))
     (in_either (option_to_list (rule_of text around p)) (rules_in text ls) r within)
 rules_have text around k _ _ (media_laid p m inner ps inside ls e is_inner own others) outside ts r are stands within =
@@ -218,7 +223,8 @@ rules_have text around k _ _ (media_laid p m inner ps inside ls e is_inner own o
 
 pub rules_have_preludes : (text : List ℕ) (r : RuleForm) → Contains (sheet_of text).rules r → HasPrelude text r
 rules_have_preludes text r within =
-    rules_have text None 0 (parts (level_of None) (pieces text)) (laid_out text None 0 (pieces text)) (laid_spelled text None 0 (pieces text)) None
+    rules_have text None 0 (parts (level_of None) (pieces text)) (laid_out text None 0 (pieces text))
+    (laid_spelled text None 0 (pieces text)) None
     (pieces text) r (parts_spelled (level_of None) (pieces text)) (record {
       front = [];
       back = [];

@@ -119,7 +119,8 @@ one_restored olds rest old book next total is new so_far = ap (olds_restored res
 -- ---- a sheet that is kept already
 
 -- an entry in the place of one that took the place of another with its id
-changed_over : (old new : SheetEntry) (es : List SheetEntry) → new.id ≡ old.id → book_changed old (book_changed new es) ≡ book_changed old es
+changed_over : (old new : SheetEntry) (es : List SheetEntry) → new.id ≡ old.id
+    → book_changed old (book_changed new es) ≡ book_changed old es
 changed_over old new [] same = refl
 changed_over old new (x ∷ es) same =
     ap (λ (n : ℕ). book_changed old (cond (nat_eq n x.id) (new ∷ es) (x ∷ book_changed new es))) same ∙ by (nat_eq old.id x.id) refl
@@ -140,7 +141,8 @@ changed_apart : (a b : SheetEntry) (es : List SheetEntry) → nat_eq a.id b.id �
 changed_apart a b [] apart = refl
 changed_apart a b (x ∷ es) apart = by (nat_eq a.id x.id) (nat_eq b.id x.id) refl refl (changed_apart a b es apart)
   where
-    by : (p q : Bool) → nat_eq a.id x.id ≡ p → nat_eq b.id x.id ≡ q → book_changed a (book_changed b es) ≡ book_changed b (book_changed a es)
+    by : (p q : Bool) → nat_eq a.id x.id ≡ p → nat_eq b.id x.id ≡ q
+        → book_changed a (book_changed b es) ≡ book_changed b (book_changed a es)
         → book_changed a (cond q (b ∷ es) (x ∷ book_changed b es)) ≡ book_changed b (cond p (a ∷ es) (x ∷ book_changed a es))
     by true true ax bx rest =
         let both : nat_eq a.id b.id ≡ true = eq-eqb a.id b.id (eqb-true a.id x.id ax ∙ sym (eqb-true b.id x.id bx)) in absurd (cc)
@@ -164,7 +166,8 @@ changed_under top new (o ∷ olds) book same = by (nat_eq top.id o.id) refl (cha
   where
     by : (b : Bool) → nat_eq top.id o.id ≡ b
         → book_changed top (olds_restored olds (book_changed new book)) ≡ book_changed top (olds_restored olds book)
-        → book_changed top (book_changed o (olds_restored olds (book_changed new book))) ≡ book_changed top (book_changed o (olds_restored olds book))
+        → book_changed top (book_changed o (olds_restored olds (book_changed new book)))
+        ≡ book_changed top (book_changed o (olds_restored olds book))
     by true is rest =
         let one : o.id ≡ top.id = sym (eqb-true top.id o.id is) in
         changed_over top o (olds_restored olds (book_changed new book)) one ∙ rest ∙ sym (changed_over top o (olds_restored olds book) one)

@@ -46,7 +46,8 @@ draft_done book next e found d back there is changed back_is =
     ap (edited book) is.is ∙ sym (λ i. Ok (next_ends i, back_ends i))
 
 -- the same of the sheet that a client may edit
-pub client_done : (edit : SheetEntry → Found) (client : Result SheetEntry SheetFault) (book next : List SheetEntry) (e : SheetEntry) (d : Draft)
+pub client_done : (edit : SheetEntry → Found) (client : Result SheetEntry SheetFault) (book next : List SheetEntry) (e : SheetEntry)
+    (d : Draft)
     (back : Splice) → client ≡ Ok e → entry_of e.id book ≡ Some e → IsDraft e (edit e) d
     → IfSome (entry_of d.id book) (λ x. next ≡ book_changed (with_text x d.text) book) → back ≡ d.back
     → edited book (found_by edit client) ≡ Ok (next, back)

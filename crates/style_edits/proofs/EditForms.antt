@@ -93,7 +93,8 @@ one_edit x book next back backs done pushed =
     all bs = Ok (next, bs)
 
 -- a single edit has a fault
-pub one_fault : (x : StyleEdit) (book : List SheetEntry) (f : SheetFault) → style_splice x book ≡ Err f → styles_edited (x ∷ []) book ≡ Err f
+pub one_fault : (x : StyleEdit) (book : List SheetEntry) (f : SheetFault) → style_splice x book ≡ Err f
+    → styles_edited (x ∷ []) book ≡ Err f
 unfolding styles_edited
 one_fault x book f is = ap (λ (r : Found). go_on (edited book r) (λ b. styles_edited [] b)) is
 

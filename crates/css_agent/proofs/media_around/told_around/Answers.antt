@@ -29,7 +29,8 @@ pub returns-clause-value : goal.returns-clause-value
 returns-clause-value c =
     let f : MediaRule → Media = told_media c.args.entry.now.id c.args.entry.now.text in
     let said = c.as_slice.ensures ∙ ap (λ (s : Sheet). s.media) c.requires.entry.read in
-    told-turned f (media_around c.as_slice.result.now c.args.around) c.as_slice-2.result.now c.in_ok-told.told.items c.reverse-2.new.self.items
+    told-turned f
+    (media_around c.as_slice.result.now c.args.around) c.as_slice-2.result.now c.in_ok-told.told.items c.reverse-2.new.self.items
     (c.as_slice-2.ensures.value ∙ c.reverse.ensures.items ∙ ap (λ (l : List MediaRule). reverse l) c.in_ok-rules.ensures)
     (c.in_ok-told.ensures.value ∙ ap (λ (t : List ℕ). map (told_media c.args.entry.now.id t) c.as_slice-2.result.now) c.requires.text)
     c.reverse-2.ensures.items

@@ -12,7 +12,9 @@ returns-in-Err-clause-fault c = one_refused c.args.edit.now c.args.book.now c.in
 
 pub returns-in-Err-style_in-clause-fault : goal.returns-in-Err-style_in-clause-fault
 returns-in-Err-style_in-clause-fault c =
-    one_stops (Unit {0}) c.args.edit.now c.args.book.now c.in-Ok.entry.now c.in-Err-style_in.stop c.in-Ok.ensures.found c.in-Err-style_in.ensures.found
+    one_stops
+    (Unit {0}) c.args.edit.now c.args.book.now c.in-Ok.entry.now c.in-Err-style_in.stop c.in-Ok.ensures.found
+    c.in-Err-style_in.ensures.found
 
 pub returns-clause-done : goal.returns-clause-done
 returns-clause-done c =
@@ -27,7 +29,8 @@ returns-clause-rules c =
     let done = client_done (style_in c.args.edit.now) (client_sheet c.args.edit.now.sheet c.args.book.now) c.args.book.now
     c.apply-back.new.book c.in-Ok.entry.now c.in-Ok-style_in.draft c.apply-back.result c.in-Ok.ensures.found c.in-Ok.ensures.there
     c.in-Ok-style_in.ensures.found c.apply-back.ensures.changed c.apply-back.ensures.back in
-    one_rule c.args.edit.now c.args.rules.now.items c.add_rule_place.new.rules.items c.args.book.now c.apply-back.new.book c.apply-back.result
+    one_rule c.args.edit.now c.args.rules.now.items c.add_rule_place.new.rules.items c.args.book.now c.apply-back.new.book
+    c.apply-back.result
     done
     (c.add_rule_place.ensures ∙ ap (λ (rs : List RulePlace). rs ++ c.edited_rule.result ∷ []) c.reserve.ensures.items
     ∙ ap (λ (p : RulePlace). c.args.rules.now.items ++ p ∷ []) c.edited_rule.ensures)

@@ -4,10 +4,13 @@ use Rattle.style_edits.proofs.media_edits.set_media.Goals as goal
 
 pub apply-requires : goal.apply-requires
 apply-requires c = record {
-  there = draft_there c.args.book.now c.in-Ok.entry.now c.in-Ok-media_in.draft c.in-Ok.ensures.there c.in-Ok-media_in.ensures.found.id c.in-Ok-media_in.ensures.tells;
+  there = draft_there c.args.book.now c.in-Ok.entry.now c.in-Ok-media_in.draft c.in-Ok.ensures.there c.in-Ok-media_in.ensures.found.id
+      c.in-Ok-media_in.ensures.tells;
 }
 
 pub returns-clause-done : goal.returns-clause-done
 returns-clause-done c =
-    client_done (media_in c.args.range.now c.args.text.now) _ c.args.book.now c.apply.new.book c.in-Ok.entry.now c.in-Ok-media_in.draft c.apply.result c.in-Ok.ensures.found
+    client_done
+    (media_in c.args.range.now c.args.text.now) _ c.args.book.now c.apply.new.book c.in-Ok.entry.now c.in-Ok-media_in.draft c.apply.result
+    c.in-Ok.ensures.found
     c.in-Ok.ensures.there c.in-Ok-media_in.ensures.found c.apply.ensures.changed c.apply.ensures.back

@@ -15,7 +15,8 @@ returns-clause-stands c = λ state stands.
       watches = _;
       searches = _;
     }) c.args.side.now c.args.side.now state c.args.id c.args.ask.now c.page.result.now
-    (depth-fits c.args.ask.now c.requires.ask) (sym c.requires.on) stands refl refl c.page.ensures c.is_on_after-self.ensures refl refl refl c.in_ok-ask.ensures.known
+    (depth-fits c.args.ask.now c.requires.ask)
+    (sym c.requires.on) stands refl refl c.page.ensures c.is_on_after-self.ensures refl refl refl c.in_ok-ask.ensures.known
 
 pub returns-clause-sent : goal.returns-clause-sent
 returns-clause-sent c = λ state stands.
@@ -24,5 +25,6 @@ returns-clause-sent c = λ state stands.
 
 pub ask-requires-clause-few : goal.ask-requires-clause-few
 ask-requires-clause-few c =
-    ask-few c.args.self.now c.args.side.now c.page.result.now c.args.ask.now (depth-fits c.args.ask.now c.requires.ask) c.requires.room.ids c.page.ensures
+    ask-few c.args.self.now c.args.side.now c.page.result.now c.args.ask.now
+    (depth-fits c.args.ask.now c.requires.ask) c.requires.room.ids c.page.ensures
     c.requires.standing
