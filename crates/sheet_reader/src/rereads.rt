@@ -10,7 +10,9 @@ ghost use Rattle.sheet_reader.specs.Sheets.{sheet_of};
 
 use crate::declarations::read_style;
 use crate::moves::move_body;
-use crate::repairs::{NewPart, is_all, meets_media, new_part, repair, stands_alone, stretch_around};
+use crate::repairs::{
+    NewPart, is_all, meets_media, new_part, repair, stands_alone, stretch_around,
+};
 use crate::rules::read_sheet;
 use crate::sealing::sealed;
 use crate::sheet::{Property, Sheet, StyleRule};
