@@ -1,6 +1,6 @@
 -- Each line is carried out in its turn.
 use Rattle.pipe_frames.proofs.WholeLemmas.{Appends-nil}
-use Rattle.std.proofs.Common.{rules, ◌≡◌, suc, refl, [], ◌∷◌, ap, arith, length}
+use Rattle.std.proofs.Common.{rules, ◌≡◌, ◌∙◌, suc, refl, [], ◌∷◌, ap, arith, length}
 use Rattle.replay_script.specs.Seen.{seen}
 use Rattle.inspect_world.specs.Costs.{line_bytes}
 use Rattle.inspect_world.specs.Links.{run_started}
@@ -18,8 +18,8 @@ loop-text-init g c = (
   omega arith,
   omega arith,
   (λ h. h),
-  omega arith,
-  omega arith,
+  refl,
+  refl,
   λ up0 down0 w play. record {
     world = w;
     in_play = play;
@@ -113,8 +113,8 @@ loop-text-preserved g c =
       omega (arith, c.loop-text.invariant.0),
       omega (arith, c.loop-text.invariant.1, count),
       (λ h. c.carry_out-carried.ensures.plays.honest (c.loop-text.invariant.2 h)),
-      omega (arith, c.loop-text.invariant.3, carried.plays.cause.sink_later),
-      omega (arith, c.loop-text.invariant.4, carried.plays.cause.link_later),
+      carried.plays.cause.others.1 ∙ c.loop-text.invariant.3,
+      carried.plays.cause.others.2 ∙ c.loop-text.invariant.4,
       λ up0 down0 w play.
           run-on (g.L.Link.honest c.loop-text.link) (g.L.Link.honest c.carry_out-carried.new.link) up0 down0
           (g.L.Link.up c.loop-text.link) (g.L.Link.down c.loop-text.link) (g.L.Link.up c.carry_out-carried.new.link)

@@ -1,5 +1,5 @@
 -- Each piece that came was answered, up to as many bytes as an input may have.
-use Rattle.std.proofs.Common.{◌≤◌, ◌+◌, ◌^◌, length, arith}
+use Rattle.std.proofs.Common.{◌≤◌, ◌+◌, ◌^◌, ◌∙◌, length, arith, refl}
 use Rattle.std.proofs.lemmas.List.{length-take}
 use Rattle.inspect_replay.specs.Serving.{serve_moment}
 use Rattle.inspect_replay.proofs.ServeLemmas.{serves-nothing}
@@ -11,8 +11,8 @@ pub loop-came-init : goal.loop-came-init
 loop-came-init g c = record {
   so_far = nothing-came (g.S.Source.calls c.args.src.now) (g.S.Source.left c.args.src.now) (serve_moment c.args.self.now (g.K.Sink.taken c.args.out.now))
       (serves-nothing c.args.self.now (g.K.Sink.taken c.args.out.now) c.requires.first);
-  source_later = omega arith;
-  sink_later = omega arith;
+  source_same = refl;
+  sink_same = refl;
 }
 
 pub returns-in-Ok-eq0-clause-served : goal.returns-in-Ok-eq0-clause-served
@@ -47,8 +47,8 @@ loop-came-preserved g c =
           (serve_moment c.serve_piece.new.self (g.K.Sink.taken c.serve_piece.new.out))
           c.loop-came.came c.in-Ok.count (length c.serve_piece.new.buf) so_far (c.in-Ok.ensures.served _ so_far.serves) room
           c.serve_piece.ensures.counted;
-      source_later = omega (arith, c.loop-came.invariant.source_later, c.serve_piece.ensures.cause.source_later);
-      sink_later = omega (arith, c.loop-came.invariant.sink_later, c.serve_piece.ensures.cause.sink_later);
+      source_same = c.in-Ok.ensures.cause.others.0 ∙ c.loop-came.invariant.source_same;
+      sink_same = c.in-Ok.ensures.cause.others.1 ∙ c.loop-came.invariant.sink_same;
     }
 
 pub returns-in-Err-clause-served : goal.returns-in-Err-clause-served
