@@ -6,7 +6,8 @@ use Rattle.inspect_replay.proofs.service.Service.serve_within.Given as goal
 
 abbrev pub invariant-loop-came : goal.invariant-loop-came
 invariant-loop-came g l = record {
-  so_far : ServedSoFar (g.S.Source.calls l.initial.src) (g.S.Source.calls l.src) (g.S.Source.left l.initial.src) (g.S.Source.left l.src) (g.K.Sink.taken l.initial.out)
+  so_far : ServedSoFar (g.S.Source.calls l.initial.src) (g.S.Source.calls l.src) (g.S.Source.left l.initial.src)
+      (g.S.Source.left l.src) (g.K.Sink.taken l.initial.out)
       (serve_moment l.self (g.K.Sink.taken l.out)) l.came;
   source_same : g.S.Source.faults l.src ≡ g.S.Source.faults l.initial.src;
   sink_same : g.K.Sink.faults l.out ≡ g.K.Sink.faults l.initial.out;
