@@ -8,6 +8,7 @@ ghost use Rattle.css_agent.specs.Edits.{found_at, empty_rule, told_at, found_med
 
 use crate::matched_styles::rule_at;
 use crate::media_around::{media_at, told_media_of};
+use crate::rulers::Ruler;
 use crate::rules::told_rule;
 use css_objects::{Listed, Media, Rule, RuleSelectors, SheetOrigin, SourceRange, Style};
 use node_tree::Text;
@@ -22,7 +23,8 @@ fn found_in(alloc: Global, entry: &SheetEntry, place: usize) -> Result<Option<Ru
     let Some(rule) = rule_at(entry, place) else {
         return Ok(None);
     };
-    Ok(Some(told_rule(alloc, entry, rule)?))
+    let mut ruler = Ruler::new(alloc, entry.text.as_str());
+    Ok(Some(told_rule(alloc, &mut ruler, entry, rule)?))
 }
 
 /// The style rule at that place, if it is there.

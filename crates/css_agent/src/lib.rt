@@ -23,6 +23,7 @@ mod media_around;
 mod outcomes;
 mod rulers;
 mod rules;
+mod sheet_rulers;
 mod styles;
 mod units;
 

@@ -9,10 +9,13 @@ ghost use Rattle.sheet_reader.specs.Books.{IsEntry};
 ghost use Rattle.sheet_reader.specs.Forms.{rule_seen};
 ghost use Rattle.sheet_reader.specs.Sheets.{sheet_of};
 ghost use Rattle.sheet_reader.specs.Usable.{IsRuleOf};
+ghost use Rattle.css_agent.specs.SheetRulers.{AreRulers};
 ghost use Rattle.css_agent.specs.RuleObjects.{inline_style};
 ghost use Rattle.css_agent.specs.MatchedStyles.{told_inline, told_match, told_hit, told_matches, told_inherited, matched_styles};
 
+use crate::rulers::Ruler;
 use crate::rules::told_rule;
+use crate::sheet_rulers::{SheetRuler, ruler_of};
 use crate::styles::inline_style;
 use cascade_match::{Hit, matched_on};
 use css_objects::{Inherited, Listed, Matched, RuleMatch, Style};
@@ -63,29 +66,44 @@ pub(crate) fn rule_at(entry: &SheetEntry, place: usize) -> Option<&StyleRule>
     rule_among(entry.reading.rules.as_slice(), place)
 }
 
-fn told_match(alloc: Global, entry: &SheetEntry, hit: &Hit) -> Result<Option<RuleMatch>, AllocError>
-    requires { IsEntry entry.now }
-    ensures { IfOk result (λ o. o ≡ option_map (told_match entry.now hit.now.matching)
+fn told_match(
+    alloc: Global,
+    ruler: &mut Ruler<'_>,
+    entry: &SheetEntry,
+    hit: &Hit,
+) -> Result<Option<RuleMatch>, AllocError>
+    requires entry { IsEntry entry.now }
+    requires text { ruler.old ≡ entry.now.text }
+    ensures value { IfOk result (λ o. o ≡ option_map (told_match entry.now hit.now.matching)
         (slice_get (sheet_of entry.now.text).rules hit.now.rule)) }
+    ensures same { ruler.new ≡ ruler.old }
 {
     let Some(rule) = rule_at(entry, hit.rule) else {
         return Ok(None);
     };
     let matching = places_of(alloc, hit.matching.as_slice())?;
-    let rule = told_rule(alloc, entry, rule)?;
+    let rule = told_rule(alloc, ruler, entry, rule)?;
     Ok(Some(RuleMatch {
         matching: Listed::new(matching),
         rule,
     }))
 }
 
-fn told_hit(alloc: Global, book: &SheetBook, hit: &Hit) -> Result<Option<RuleMatch>, AllocError>
-    ensures { IfOk result (λ o. o ≡ told_hit book.now hit.now) }
+fn told_hit<'a>(
+    alloc: Global,
+    book: &'a SheetBook,
+    rulers: &mut Vec<SheetRuler<'a>>,
+    hit: &Hit,
+) -> Result<Option<RuleMatch>, AllocError>
+    requires { AreRulers book.now rulers.old.items }
+    ensures value { IfOk result (λ o. o ≡ told_hit book.now hit.now) }
+    ensures rulers { AreRulers book.now rulers.new.items }
 {
     let Some(entry) = book.get(hit.sheet) else {
         return Ok(None);
     };
-    told_match(alloc, entry, hit)
+    let place = ruler_of(alloc, rulers, book, entry)?;
+    told_match(alloc, &mut rulers[place].ruler, entry, hit)
 }
 
 fn push_some(found: &mut Vec<RuleMatch>, one: Option<RuleMatch>) -> Result<(), AllocError>
@@ -97,82 +115,97 @@ fn push_some(found: &mut Vec<RuleMatch>, one: Option<RuleMatch>) -> Result<(), A
     Ok(())
 }
 
-fn matches_among(
+fn matches_among<'a>(
     alloc: Global,
-    book: &SheetBook,
+    book: &'a SheetBook,
+    rulers: &mut Vec<SheetRuler<'a>>,
     hits: &[Hit],
 ) -> Result<Vec<RuleMatch>, AllocError>
-    ensures { IfOk result (λ v. v.items ≡ filter_map (told_hit book.now) hits.now) }
+    requires { AreRulers book.now rulers.old.items }
+    ensures value { IfOk result (λ v. v.items ≡ filter_map (told_hit book.now) hits.now) }
+    ensures rulers { AreRulers book.now rulers.new.items }
 {
     let mut found = Vec::new(alloc);
     for hit in hits {
-        push_some(&mut found, told_hit(alloc, book, hit)?)?;
+        push_some(&mut found, told_hit(alloc, book, rulers, hit)?)?;
     }
     Ok(found)
 }
 
 /// The rules that match an element.
-fn told_matches(
+fn told_matches<'a>(
     alloc: Global,
-    book: &SheetBook,
+    book: &'a SheetBook,
+    rulers: &mut Vec<SheetRuler<'a>>,
     subject: &mut Subject<'_>,
     medium: &Medium,
 ) -> Result<Vec<RuleMatch>, AllocError>
+    requires { AreRulers book.now rulers.old.items }
     ensures value { IfOk result (λ v. v.items ≡ told_matches medium.now book.now subject.old) }
     ensures same { subject.new ≡ subject.old }
+    ensures rulers { AreRulers book.now rulers.new.items }
 {
     let hits = matched_on(alloc, book, subject, medium)?;
-    matches_among(alloc, book, hits.as_slice())
+    matches_among(alloc, book, rulers, hits.as_slice())
 }
 
 /// What an ancestor has.
-fn told_inherited(
+fn told_inherited<'a>(
     alloc: Global,
-    book: &SheetBook,
+    book: &'a SheetBook,
+    rulers: &mut Vec<SheetRuler<'a>>,
     node: NodeRef<'_>,
     medium: &Medium,
 ) -> Result<Inherited, AllocError>
-    ensures { IfOk result (λ i. i ≡ told_inherited medium.now book.now node.entry) }
+    requires { AreRulers book.now rulers.old.items }
+    ensures value { IfOk result (λ i. i ≡ told_inherited medium.now book.now node.entry) }
+    ensures rulers { AreRulers book.now rulers.new.items }
 {
     let inline = told_inline(alloc, &node)?;
     let mut subject = Subject::new(alloc, node)?;
-    let rules = told_matches(alloc, book, &mut subject, medium)?;
+    let rules = told_matches(alloc, book, rulers, &mut subject, medium)?;
     Ok(Inherited {
         inline,
         rules: Listed::new(rules),
     })
 }
 
-fn add_ancestor(
+fn add_ancestor<'a>(
     alloc: Global,
-    book: &SheetBook,
+    book: &'a SheetBook,
+    rulers: &mut Vec<SheetRuler<'a>>,
     node: NodeRef<'_>,
     medium: &Medium,
     entries: &mut Vec<Inherited>,
 ) -> Result<(), AllocError>
-    ensures { OnOk result (entries.new.items
+    requires { AreRulers book.now rulers.old.items }
+    ensures added { OnOk result (entries.new.items
         ≡ entries.old.items ++ cond (is_element_node node.entry) (told_inherited medium.now book.now node.entry ∷ []) []) }
+    ensures rulers { AreRulers book.now rulers.new.items }
 {
     if node.kind() == Kind::Element {
-        entries.push(told_inherited(alloc, book, node, medium)?)?;
+        entries.push(told_inherited(alloc, book, rulers, node, medium)?)?;
     }
     Ok(())
 }
 
 /// What the ancestors have that are elements, from the parent upwards.
-fn inherited_by(
+fn inherited_by<'a>(
     alloc: Global,
-    book: &SheetBook,
+    book: &'a SheetBook,
+    rulers: &mut Vec<SheetRuler<'a>>,
     node: &NodeRef<'_>,
     medium: &Medium,
 ) -> Result<Vec<Inherited>, AllocError>
-    ensures { IfOk result (λ v. v.items ≡ map (told_inherited medium.now book.now) (elements (ancestors node.now))) }
+    requires { AreRulers book.now rulers.old.items }
+    ensures value { IfOk result (λ v. v.items ≡ map (told_inherited medium.now book.now) (elements (ancestors node.now))) }
+    ensures rulers { AreRulers book.now rulers.new.items }
 {
     let mut entries = Vec::new(alloc);
     let mut at = node.parent();
     while let Some(ancestor) = at {
         at = ancestor.parent();
-        add_ancestor(alloc, book, ancestor, medium, &mut entries)?;
+        add_ancestor(alloc, book, rulers, ancestor, medium, &mut entries)?;
     }
     Ok(entries)
 }
@@ -186,8 +219,9 @@ pub(crate) fn matched_styles(
 ) -> Result<Matched, AllocError>
     ensures { IfOk result (λ m. m ≡ matched_styles medium.now book.now node.entry) }
 {
-    let inherited = inherited_by(alloc, book, &node, medium)?;
-    let own = told_inherited(alloc, book, node, medium)?;
+    let mut rulers = Vec::new(alloc);
+    let inherited = inherited_by(alloc, book, &mut rulers, &node, medium)?;
+    let own = told_inherited(alloc, book, &mut rulers, node, medium)?;
     Ok(Matched {
         inline: own.inline,
         rules: own.rules,

@@ -38,7 +38,7 @@ fn told_selector(
     ensures value { IfOk result (λ v. v ≡ told_selector ruler.old (selector_seen selector.now)) }
     ensures same { ruler.new ≡ ruler.old }
 {
-    let range = ruler.range_of(selector.range);
+    let range = ruler.range_of(selector.range)?;
     let text = told_part(alloc, ruler.text(), selector.range)?;
     Ok(SelectorValue {
         range,
@@ -81,21 +81,23 @@ pub(crate) fn told_prelude(
     })
 }
 
-/// A style rule of a sheet. Its positions are found in one pass over the sheet's text.
+/// A style rule of a sheet, whose text the ruler measures.
 pub(crate) fn told_rule(
     alloc: Global,
+    ruler: &mut Ruler<'_>,
     entry: &SheetEntry,
     rule: &StyleRule,
 ) -> Result<Rule, AllocError>
     requires entry { IsEntry entry.now }
+    requires text { ruler.old ≡ entry.now.text }
     requires rule { IsRuleOf entry.now.text (rule_seen rule.now) }
     requires around { IsBelow (length (sheet_of entry.now.text).media) rule.now.media }
-    ensures { IfOk result (λ r. r ≡ told_rule entry.now (rule_seen rule.now)) }
+    ensures value { IfOk result (λ r. r ≡ told_rule entry.now (rule_seen rule.now)) }
+    ensures same { ruler.new ≡ ruler.old }
 {
-    let mut ruler = Ruler::new(entry.text.as_str());
-    let media = told_around(alloc, &mut ruler, entry, rule.media)?;
-    let selectors = told_prelude(alloc, &mut ruler, rule)?;
-    let style = rule_style(alloc, &mut ruler, entry.id, rule)?;
+    let media = told_around(alloc, ruler, entry, rule.media)?;
+    let selectors = told_prelude(alloc, ruler, rule)?;
+    let style = rule_style(alloc, ruler, entry.id, rule)?;
     Ok(Rule {
         origin: told_origin(entry.origin),
         selectors,

@@ -1,18 +1,17 @@
 -- From the top down and from the bottom up.
-use Rattle.std.proofs.Common.{◌≡◌, ℕ, ◌+◌, ◌≤◌, ◌==◌, Bool, true, false, cond, ◌||◌, List, [], ◌∷◌, ◌++◌, map, reverse, Option, Some, None}
+use Rattle.std.proofs.Common.{◌≡◌, ℕ, ◌+◌, ◌≤◌, ◌==◌, Bool, true, false, cond, List, [], ◌∷◌, ◌++◌, map, reverse, Option, Some, None}
 use Rattle.std.proofs.Common.{unwrap_or, filter, not, IsSome, refl, sym, ap, ◌∙◌, arith}
 use Rattle.std.specs.List.{find}
 use Rattle.std.specs.Option.{option_map, is_some}
 use Rattle.std.proofs.lemmas.List.{append_assoc, append-nil, map-append, reverse-append, reverse-reverse}
 use Rattle.node_tree.specs.Nodes.{Nodes, none, node, Branch, alone}
 use Rattle.node_tree.specs.Keys.{has, tally, first_of}
-use Rattle.node_tree.specs.Keys as keys
 use Rattle.node_tree.proofs.KeyLemmas.{has-find, has-absent}
 use Rattle.page_tree.specs.Pages.{PageRow, row_serial, find_in, node_at}
 use Rattle.page_tree.proofs.ZipperLemmas.{find-append, branch-found, AreApart, IsOf, find-of, of-find}
 use Rattle.page_tree.proofs.SiblingLemmas.{live-of}
 use Rattle.select_match.proofs.WalkLemmas.{from, ancestors-from, walk-start, walk-step}
-use Rattle.page_tree.specs.Zippers.{Generation, Zipper, zipper_of, ancestors, ancestors_in, parent_of, serial_of, all_in, has_serial, zipper_at, find_zipper, root_of}
+use Rattle.page_tree.specs.Zippers.{Generation, Zipper, ancestors, ancestors_in, parent_of, serial_of, all_in, has_serial, zipper_at, find_zipper, root_of}
 use Rattle.dom_agent.specs.Requests.{Opening, ancestors_down, pushing}
 use Rattle.dom_agent.specs.Climbs.{climbed, unopened_at, up_openings}
 

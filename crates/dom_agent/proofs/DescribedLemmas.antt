@@ -1,7 +1,6 @@
 -- A node that is described is one that a message can tell.
 use Rattle.std.proofs.Common.{◌≡◌, ℕ, zero, suc, ◌+◌, ◌<◌, ◌≤◌, ◌^◌, Bool, true, false, not, ◌&&◌, ◌||◌, cond, Option, Some, ⊎_elim, refl}
-use Rattle.std.proofs.Common.{sym}
-use Rattle.std.proofs.Common.{subst, arith, lt-ltb}
+use Rattle.std.proofs.Common.{sym, subst, arith, lt-ltb}
 use Rattle.std.specs.Prelude.{⊤}
 use Rattle.std.proofs.lemmas.Bool.{and_parts, and_from, eq-eqb}
 use Rattle.node_tree.specs.Nodes.{Nodes, none, node, Branch, alone, width, height, node_count, map_rows, is_no_node}

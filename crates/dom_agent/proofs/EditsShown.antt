@@ -34,7 +34,7 @@ use Rattle.node_binding.proofs.StartLemmas.{distinct-alone}
 use Rattle.node_binding.proofs.SessionLemmas.{view-ids, view-above}
 use Rattle.node_binding.proofs.ChangedLemmas.{IsAlike, containers-live}
 use Rattle.client_views.specs.Moves.{Change, changed as changed_by, inserts, removes, counts, sets, drops, says, suits_change}
-use Rattle.client_views.specs.Moves.{has_named_attribute, ChangesNode}
+use Rattle.client_views.specs.Moves.{ChangesNode}
 use Rattle.dom_agent.specs.Requests.{shown}
 use Rattle.dom_agent.specs.Edits.{id_before, unopened}
 use Rattle.dom_agent.proofs.ShownLemmas.{is_root, seen-at}

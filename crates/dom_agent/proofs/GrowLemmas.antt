@@ -1,5 +1,5 @@
 -- No push takes an id back.
-use Rattle.std.proofs.Common.{◌≡◌, ℕ, ◌+◌, ◌≤◌, List, [], ◌∷◌, length, ap, arith, Option}
+use Rattle.std.proofs.Common.{◌≡◌, ℕ, ◌≤◌, List, [], ◌∷◌, ap, arith, Option}
 use Rattle.node_tree.specs.Nodes.{Nodes, Branch, alone}
 use Rattle.page_tree.specs.Pages.{PageRow}
 use Rattle.node_binding.specs.Bindings.{BindingValue, opened_down, opened_in}

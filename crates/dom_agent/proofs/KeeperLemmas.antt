@@ -1,6 +1,6 @@
 -- By a binding that stands for a session each command comes to the same.
 use Rattle.std.proofs.Common.{◌≡◌, ℕ, ℤ, pos, ◌<◌, ◌==◌, Bool, true, false, cond, List, [], ◌∷◌, ◌++◌, Option, Some, None, unwrap_or}
-use Rattle.std.proofs.Common.{Result, Ok, Err, refl, sym, ap, subst, ◌∙◌, arith}
+use Rattle.std.proofs.Common.{Result, Ok, Err, refl, sym, ap, subst, ◌∙◌}
 use Rattle.node_tree.specs.Nodes.{Nodes, none, node, Branch, alone}
 use Rattle.node_tree.specs.Keys.{has}
 use Rattle.node_tree.specs.Labels.{is_element, holds}
@@ -17,14 +17,13 @@ use Rattle.node_binding.specs.Deals.{capped, dealt, more_told}
 use Rattle.node_binding.proofs.DealLemmas.{start-deals, spent-capped}
 use Rattle.node_binding.proofs.SessionLemmas.{IsSession-document_opened}
 use Rattle.node_binding.proofs.StartLemmas.{distinct-alone, root_holds}
-use Rattle.cdp_messages.specs.DomAsks.{fits_ask}
 use Rattle.node_tree.specs.Levels.{most_told}
 use Rattle.node_binding.proofs.StandsLemmas.{Stands-document_opened}
 use Rattle.node_binding.proofs.CutLemmas.{cut-same, ids-stands, cut-stands}
 use Rattle.node_binding.proofs.PairLemmas.{find-there}
 use Rattle.node_binding.proofs.OpeningLemmas.{AreDistinct}
 use Rattle.node_binding.proofs.LawLemmas.{Stands-open_down}
-use Rattle.node_binding.proofs.InViewLemmas.{InView, in_view-known, in_view-tally, in_view-grows, can_open-in_view, known-in_view}
+use Rattle.node_binding.proofs.InViewLemmas.{InView, in_view-known, in_view-grows, can_open-in_view, known-in_view}
 use Rattle.node_binding.proofs.InViewLemmas.{roots_in_view, opened-grows}
 use Rattle.node_binding.proofs.OpenedLemmas.{IsSession-opened, open_afterwards}
 use Rattle.cdp_messages.specs.declared.dom_ask.DomAsk.{DomAsk}
@@ -40,7 +39,7 @@ use Rattle.dom_agent.specs.Requests.{all_opened, pushed as push_of, all_pushed, 
 use Rattle.dom_agent.specs.Requests.{of_attributes}
 use Rattle.dom_agent.specs.Requests.{of_description, with_first, first_asked, all_asked, of_query, with_id, with_ids, state_after}
 use Rattle.dom_agent.specs.Requests.{opening_moves, moves_of}
-use Rattle.dom_agent.specs.Laws.{session_outcome, binding_outcome, StaysBound, SameMoves}
+use Rattle.dom_agent.specs.Laws.{session_outcome, binding_outcome, has_depth, StaysBound, SameMoves}
 use Rattle.dom_agent.proofs.OpeningsLemmas.{AreOpenings, AreContainers, opened_all, request-are, pushing-are}
 use Rattle.dom_agent.proofs.StepLemmas.{Goes, goes-pushed}
 use Rattle.dom_agent.proofs.OutcomeLemmas.{containers-page, known-found, root-opened, document-left}
@@ -402,14 +401,13 @@ module _ (page : PageValue) (valid : IsValid page) where
       let begun : IsSession m after = IsSession-document_opened e page.tree.row page.tree.children w (distinct-alone page valid)
       (root_holds page valid) (spent-capped more_told d ∙ left) in
       let alike = alike-openings m (distinct-alone page valid) page.tree (dealt more_told most_told d m) (above e m) after.pushed
-      after.since (started e m b) begun now (start-deals more_told page d valid left).are in
-      (
+      after.since (started e m b) begun now (start-deals more_told page d valid left).are in (
         alike.stands,
         alike.shown,
         ap (root_of (record { row = record { id = 0; serial = 0; label = page.tree.row.label; hold = leaf }; children = none })) same,
       )
 
-  pub outcomes_alike : (c : DomAsk) (w : Session) (b : BindingValue) → fits_ask c ≡ true → IsSession m w → Stands m w b
+  pub outcomes_alike : (c : DomAsk) (w : Session) (b : BindingValue) → has_depth c ≡ true → IsSession m w → Stands m w b
       → AlikeOutcomes m (session_outcome page c w) (binding_outcome page c b)
   outcomes_alike (GetDocument depth pierce) w b fits session stands =
       document_alike depth pierce w b (document-left depth pierce fits) stands

@@ -18,6 +18,7 @@ pub mod QueryLemmas
 pub mod PushLemmas
 pub mod PathLemmas
 pub mod StartedLemmas
+pub mod DocumentLemmas
 pub mod SetLemmas
 pub mod SetsLemmas
 pub mod NewlyLemmas

@@ -1,21 +1,20 @@
 -- What openings make known.
-use Rattle.std.proofs.Common.{◌≡◌, ℕ, ◌+◌, ◌<◌, ◌≤◌, ◌==◌, Bool, true, false, cond, not, ◌&&◌, ◌||◌, List, [], ◌∷◌, ◌++◌, append-nil}
-use Rattle.std.proofs.Common.{append_assoc, Option, refl, sym, ap, ◌∙◌, arith}
+use Rattle.std.proofs.Common.{◌≡◌, ℕ, ◌+◌, ◌<◌, ◌≤◌, ◌==◌, Bool, true, false, cond, not, ◌&&◌, List, [], ◌∷◌, ◌++◌, append-nil}
+use Rattle.std.proofs.Common.{append_assoc, refl, sym, ap, ◌∙◌, arith}
 use Rattle.std.specs.List.{filter}
 use Rattle.node_tree.specs.Nodes.{Nodes, none, node, Branch, alone}
-use Rattle.node_tree.specs.Keys.{tally}
 use Rattle.node_tree.specs.Labels.{holds}
 use Rattle.page_tree.specs.Pages.{PageRow, PageValue, IsValid}
 use Rattle.node_binding.specs.Counts.{times, stands_in}
 use Rattle.node_binding.specs.Cuts.{opens, known, shown_anew}
-use Rattle.node_binding.specs.Openings.{less, is_spent, containers_within, levelled, opened_also, is_unopened, is_closed}
+use Rattle.node_binding.specs.Openings.{less, levelled, opened_also, is_unopened, is_closed}
 use Rattle.node_binding.specs.Sessions.{IsSession, CanOpen, session_of}
 use Rattle.node_binding.proofs.Places.{first, is_in-times, times-is_in}
 use Rattle.node_binding.proofs.Known.{known-tally}
 use Rattle.node_binding.proofs.SessionLemmas.{times-known}
 use Rattle.node_binding.proofs.GrowLemmas.{if_holds}
-use Rattle.node_binding.proofs.OpeningLemmas.{AreDistinct, goes_on, self_times, at_root, in_children, in_rest, known-levelled}
-use Rattle.node_binding.proofs.AnewLemmas.{anew-same, same_part, anew-opened, unopened-at, closed_below, is_opened_row, and-first}
+use Rattle.node_binding.proofs.OpeningLemmas.{AreDistinct}
+use Rattle.node_binding.proofs.AnewLemmas.{anew-opened, closed_below, is_opened_row, and-first}
 use Rattle.node_binding.proofs.AnewLemmas.{and-second}
 use Rattle.node_binding.proofs.OpenedLemmas.{IsSession-opened}
 use Rattle.node_binding.proofs.InViewLemmas.{InView, root, child, later, opened-grows}

@@ -1,6 +1,6 @@
 -- The openings of a request and of a push: each container is known and not opened as its turn comes.
 use Rattle.std.proofs.Common.{◌≡◌, ℕ, ◌<◌, ◌==◌, Bool, true, false, cond, not, ◌&&◌, ◌||◌, List, [], ◌∷◌, ◌++◌, map, filter, Option, Some}
-use Rattle.std.proofs.Common.{refl, sym, ap, ◌∙◌, arith}
+use Rattle.std.proofs.Common.{refl, ap, ◌∙◌, arith}
 use Rattle.node_tree.specs.Nodes.{Nodes, none, node, Branch, alone}
 use Rattle.node_tree.specs.Keys.{tally, has}
 use Rattle.node_tree.specs.Labels.{holds}

@@ -17,11 +17,10 @@ use Rattle.node_binding.specs.Openings.{levels_of, is_spent, above}
 use Rattle.node_binding.specs.Sessions.{Session, IsSession, session_of, session_ids, serial_at, document_opened}
 use Rattle.node_binding.specs.Deals.{capped, dealt, more_told}
 use Rattle.node_binding.proofs.DealLemmas.{asked-pieces, dealt-pieces, start-deals, spent-capped}
-use Rattle.node_binding.proofs.Known.{length-known}
 use Rattle.node_binding.proofs.StartLemmas.{root_holds, distinct-alone}
 use Rattle.node_binding.proofs.SessionLemmas.{IsSession-document_opened}
 use Rattle.node_binding.proofs.PairLemmas.{find-there}
-use Rattle.node_binding.proofs.InViewLemmas.{InView, in_view, in_view-tally}
+use Rattle.node_binding.proofs.InViewLemmas.{InView, in_view}
 use Rattle.cdp_messages.specs.declared.dom_ask.DomAsk.{DomAsk}
 use Rattle.cdp_messages.specs.declared.dom_ask.DomAsk.TheVariants.{GetDocument, RequestChildNodes, PushByPath, PushBySerials, QuerySelector}
 use Rattle.cdp_messages.specs.declared.dom_ask.DomAsk.TheVariants.{QuerySelectorAll, GetAttributes, DescribeNode}
@@ -261,7 +260,7 @@ module _ (page : PageValue) (valid : IsValid page) where
   description-goes id serial depth pierce w session (Some x) there =
       let levels : Option ℕ = levels_of (unwrap_or depth (pos 1)) in
       let at = there x refl in
-      reply-goes (DescribeNode id serial depth pierce) w (ReplyNode (described levels x)) session
+      reply-goes (DescribeNode id serial depth pierce) w (ReplyNode (described (capped most_told levels) x)) session
       (described-spells page w valid at.0 x at.1 levels) refl
 
   -- ---- queries
@@ -381,7 +380,7 @@ stays_session page ask w valid fits session =
 pub draws_few : DrawsFew
 draws_few page ask w valid fits session =
     let n : Nodes PageRow = alone page.tree in
-    either_ask (λ c. fits_ask c ≡ true → length (state_after w (session_outcome page c w)).pushed ≤ length w.pushed + node_count n)
+    either_ask (λ c. has_depth c ≡ true → length (state_after w (session_outcome page c w)).pushed ≤ length w.pushed + node_count n)
     (λ depth pierce h. document-few page valid (levels_of (unwrap_or depth (pos 1))) (document-left depth pierce h) w)
     (λ c other h. goes_few page c w (session_outcome page c w) (asks-go page valid c other w session))
     ask fits

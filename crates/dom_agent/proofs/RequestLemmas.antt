@@ -1,8 +1,9 @@
 -- The children of a known node are asked for.
-use Rattle.std.proofs.Common.{◌≡◌, ℕ, ◌+◌, ◌<◌, ◌≤◌, ◌^◌, List, [], ◌∷◌, ◌++◌, All, sum_by, Option, Some, None, unwrap_or, ℤ, pos, sym, ap}
-use Rattle.std.proofs.Common.{◌∙◌, subst, arith}
+use Rattle.std.proofs.Common.{◌≡◌, ℕ, suc, ◌+◌, ◌<◌, ◌≤◌, ◌^◌, List, [], ◌∷◌, ◌++◌, All, sum_by, Option, Some, None, unwrap_or, ℤ, pos, sym}
+use Rattle.std.proofs.Common.{ap, ◌∙◌, subst, arith}
 use Rattle.std.proofs.Math.Nat.{mul-le-mul_left}
 use Rattle.node_tree.specs.Nodes.{Branch, alone, node_count}
+use Rattle.page_tree.specs.Forms.{max_nodes}
 use Rattle.page_tree.specs.Pages.{PageRow, PageValue, IsValid}
 use Rattle.node_binding.specs.Openings.{levels_of}
 use Rattle.node_binding.specs.Bindings.{BindingValue, opened_in}
@@ -30,7 +31,7 @@ module _ (page : PageValue) (valid : IsValid page) (b : BindingValue) (depth : O
 
   pub request_room : b.next < 2 ^ 52 → b.next + sum_by below os < 2 ^ 63
   request_room room =
-      let few : node_count (alone x) ≤ 100001 = omega (arith, known_count page.tree b s x (sym found), count-alone page valid) in
+      let few : node_count (alone x) ≤ suc max_nodes = omega (arith, known_count page.tree b s x (sym found), count-alone page valid) in
       omega (
         arith,
         ap (sum_by below) listed,

@@ -45,6 +45,10 @@ dealt_containers m (suc k) d (node r c t) =
     (if_containers (holds r.label.kind && not (is_spent d)) (dealt m k (less d) c) (dealt_containers m k (less d) c))
     (dealt_containers m (suc k) d t)
 
+either_containers : (b : Bool) (xs ys : List Opening) → All IsOfContainer xs → All IsOfContainer ys → All IsOfContainer (cond b xs ys)
+either_containers true xs ys first other = first
+either_containers false xs ys first other = other
+
 pub requested_containers : (o : ℕ → Bool) (d : Option ℕ) (n : Nodes PageRow) → All IsOfContainer (requested o d n)
 requested_containers o d none = All-nil IsOfContainer
 requested_containers o d (node r c t) =
@@ -53,13 +57,9 @@ requested_containers o d (node r c t) =
     (cond (holds r.label.kind && not (is_spent d)) (cond (o r.serial) (requested o (less d) c) (deal more_told d x)) [])
     (requested o d t)
     (if_containers (holds r.label.kind && not (is_spent d)) (cond (o r.serial) (requested o (less d) c) (deal more_told d x))
-    (either (o r.serial)))
+    (either_containers (o r.serial) (requested o (less d) c) (deal more_told d x) (requested_containers o (less d) c)
+    (dealt_containers more_told 0 d (alone x))))
     (requested_containers o d t)
-  where
-    either : (b : Bool)
-        → All IsOfContainer (cond b (requested o (less d) c) (deal more_told d (record { row = r; children = c })))
-    either true = requested_containers o (less d) c
-    either false = dealt_containers more_told 0 d (node r c none)
 
 -- a node is below each piece above it
 squares : (a b p q : ℕ) → p ≤ a + a * a → q ≤ b * b → p + q ≤ suc (a + b) * suc (a + b)

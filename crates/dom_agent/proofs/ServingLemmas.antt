@@ -11,7 +11,7 @@ use Rattle.pipe_frames.specs.Frames.{framed}
 use Rattle.client_views.specs.Moves.{move_text}
 use Rattle.dom_agent.specs.Keepers.{binding_keeper}
 use Rattle.dom_agent.specs.Requests.{Opening, Showing, told_of, all_opened, opening_move, frames_told}
-use Rattle.dom_agent.specs.declared.openings.Opening as held
+use Rattle.node_binding.specs.declared.pieces.Opening as held
 use Rattle.dom_agent.specs.Openings.{opening_of, IsOfContainer}
 
 abbrev below : Opening → ℕ

@@ -7,17 +7,14 @@ use Rattle.std.proofs.lemmas.Bool.{eq-eqb, eqb-true}
 use Rattle.node_tree.proofs.KeyLemmas.{has-there}
 use Rattle.node_tree.specs.Nodes.{Nodes, none, node, Branch, alone}
 use Rattle.node_tree.specs.Levels.{most_told}
-use Rattle.node_tree.specs.Keys.{tally, has, find}
+use Rattle.node_tree.specs.Keys.{has, find}
 use Rattle.node_tree.specs.Labels.{holds}
 use Rattle.page_tree.specs.Pages.{PageRow, row_serial, PageValue, IsValid}
-use Rattle.node_binding.specs.Counts.{times, stands_in}
+use Rattle.node_binding.specs.Counts.{stands_in}
 use Rattle.node_binding.specs.Openings.{containers_within, levelled, above}
 use Rattle.node_binding.specs.Deals.{capped, dealt, more_told}
-use Rattle.node_binding.specs.Cuts.{known}
-use Rattle.node_binding.specs.Sessions.{Session, IsSession, session_of, is_open, session_ids, known_by, serial_at, document_opened}
-use Rattle.node_binding.proofs.PairLemmas.{find-there}
-use Rattle.node_binding.proofs.OpeningLemmas.{AreDistinct, reached-tally}
-use Rattle.node_binding.proofs.InViewLemmas.{InView, in_view-tally, roots_in_view}
+use Rattle.node_binding.specs.Sessions.{Session, IsSession, session_of, is_open, serial_at, document_opened}
+use Rattle.node_binding.proofs.InViewLemmas.{roots_in_view}
 use Rattle.dom_agent.proofs.NewlyLemmas.{all_levelled, pushed-all, anew-all, known-in-turn}
 use Rattle.node_binding.proofs.StartLemmas.{distinct-alone}
 use Rattle.node_binding.proofs.BoundLemmas.{is_in-cons}
@@ -33,9 +30,9 @@ use Rattle.dom_agent.specs.Requests.{of_path, with_ids, all_opened, all_pushed, 
 use Rattle.dom_agent.specs.Distances.{IsReached, IsAncestor, OpensAlso}
 use Rattle.dom_agent.specs.Sets.{levels_asked, DocumentOpens, RequestOpens, known_in_turn, RequestPushes, PathOpens, IsAncestorOfOne}
 use Rattle.dom_agent.specs.Sets.{SerialsOpen, row_serials, children_in_turn, shut_ancestors, PathPushes, FirstFoundOpens, FoundOpen}
-use Rattle.dom_agent.proofs.OpeningsLemmas.{AreContainers, by_one, pushing-are, opened_all, opened_all-grows}
+use Rattle.dom_agent.proofs.OpeningsLemmas.{AreContainers, by_one, pushing-are}
 use Rattle.dom_agent.proofs.KnownLemmas.{opened_after}
-use Rattle.dom_agent.proofs.OutcomeLemmas.{containers-page, known-found}
+use Rattle.dom_agent.proofs.OutcomeLemmas.{containers-page}
 use Rattle.dom_agent.proofs.SetLemmas.{there_once, stands-below, or_split, or_joined, opened_all-set, requested-set, reached-set}
 use Rattle.dom_agent.proofs.SetLemmas.{dealt-set}
 use Rattle.cdp_messages.specs.declared.dom_ask.DomAsk.TheVariants.{GetDocument}

@@ -1,8 +1,6 @@
 -- The events of a request show the levels that are left.
 use Rattle.std.proofs.Common.{◌≡◌, ℕ, ℤ, zero, suc, ◌==◌, Bool, true, false, cond, not, ◌&&◌, List, [], ◌∷◌, ◌++◌, append-nil, Option}
-use Rattle.std.proofs.Common.{Some, None}
-use Rattle.std.proofs.Common.{refl}
-use Rattle.std.proofs.Common.{sym, ap, subst, ◌∙◌, arith}
+use Rattle.std.proofs.Common.{Some, None, refl, sym, ap, subst, ◌∙◌, arith}
 use Rattle.std.specs.List.{All}
 use Rattle.std.proofs.lemmas.List.Elements.{All-cons, All-nil}
 use Rattle.node_tree.specs.Nodes.{Nodes, none, node, Branch, alone, width}
@@ -165,13 +163,14 @@ module _ (o : ℕ → Bool) where
       requested_join d (node r c t) o
       (cond (goes_on d r) (cond (o r.serial) (requested o (less d) c) (deal more_told d (record { row = r; children = c }))) [])
       (requested o d t)
-      (by_row (o r.serial) refl)
+      (by_row (o r.serial) refl (λ h. requested-at (less d) c h))
       (all_beside d r c t (requested o d t)
       (requested-at d t (and-second (cond (o r.serial) (is_closed o c) (is_unopened o c)) (is_closed o t) closed)))
     where
-      by_row : (a : Bool) → o r.serial ≡ a → AreRequested d (node r c t) o
+      by_row : (a : Bool) → o r.serial ≡ a → (is_closed o c ≡ true → AreRequested (less d) c o (requested o (less d) c))
+          → AreRequested d (node r c t) o
           (cond (goes_on d r) (cond a (requested o (less d) c) (deal more_told d (record { row = r; children = c }))) [])
-      by_row true is = later (goes_on d r) refl (requested-at (less d) c (sym (ap (λ b. cond b (is_closed o c) (is_unopened o c)) is)
+      by_row true is in_c = later (goes_on d r) refl (in_c (sym (ap (λ b. cond b (is_closed o c) (is_unopened o c)) is)
           ∙ and-first (cond (o r.serial) (is_closed o c) (is_unopened o c)) (is_closed o t) closed))
         where
           later : (g : Bool) → (holds r.label.kind && not (is_spent d)) ≡ g → AreRequested (less d) c o (requested o (less d) c)
@@ -179,7 +178,7 @@ module _ (o : ℕ → Bool) where
           later true e h = all_below d r c t (requested o (less d) c)
               (unspent (is_spent d) (and-second (holds r.label.kind) (not (is_spent d)) e)) h
           later false e h = tt
-      by_row false is =
+      by_row false is in_c =
           let bare : is_unopened o c ≡ true = sym (ap (λ b. cond b (is_closed o c) (is_unopened o c)) is)
           ∙ and-first (cond (o r.serial) (is_closed o c) (is_unopened o c)) (is_closed o t) closed in
           subst (AreRequested d (node r c t) o)

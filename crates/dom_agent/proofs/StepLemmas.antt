@@ -151,12 +151,13 @@ module _ (n : Nodes PageRow) where
 -- each opens one level
 pub small-pushes : (o : ℕ → Bool) (ys : List (Branch PageRow)) → ArePieces more_told (closed_of o ys)
 small-pushes o [] = tt
-small-pushes o (y ∷ ys) = step (not (o y.row.serial))
+small-pushes o (y ∷ ys) = step (not (o y.row.serial)) (small-pushes o ys)
   where
-    step : (b : Bool) → ArePieces more_told (map by_one (cond b (y ∷ filter (λ (x : Branch PageRow). not (o x.row.serial)) ys)
+    step : (b : Bool) → ArePieces more_told (closed_of o ys)
+        → ArePieces more_told (map by_one (cond b (y ∷ filter (λ (x : Branch PageRow). not (o x.row.serial)) ys)
         (filter (λ (x : Branch PageRow). not (o x.row.serial)) ys)))
-    step true = (omega arith, small-pushes o ys)
-    step false = small-pushes o ys
+    step true rest = (omega arith, rest)
+    step false rest = rest
 
 -- an id that a reply can tell
 abbrev pub is_small : ℕ → Bool

@@ -14,9 +14,7 @@ ghost use Rattle.client_views.specs.Moves.{replied, failed, frames_of_moves};
 ghost use Rattle.dom_agent.specs.Keepers.{binding_keeper};
 ghost use Rattle.dom_agent.specs.Queries.{query_seen};
 ghost use Rattle.dom_agent.specs.Requests.{state_after, answer, pushed, all_pushed, with_id, with_ids, first_asked, all_asked, frames_told};
-ghost use Rattle.dom_agent.specs.Requests.{known_node, named_serial, all_opened};
-ghost use Rattle.node_tree.specs.Levels.{most_told};
-ghost use Rattle.node_binding.specs.Deals.{dealt, more_told};
+ghost use Rattle.dom_agent.specs.Requests.{known_node, named_serial};
 ghost use Rattle.dom_agent.specs.Laws.{binding_outcome};
 ghost use Rattle.dom_agent.specs.Edits.{OnFault};
 ghost use Rattle.dom_agent.specs.EditLaws.{binding_edited};
@@ -27,11 +25,9 @@ use crate::openings::request_node;
 use crate::paths::node_at_path;
 use crate::pushes::{open_above, push_all};
 use crate::queries::{Query, QueryErr, read_query};
-use crate::serving::open_all;
-use crate::told::tell_root;
+use crate::serving::{open_all, open_document};
 use cdp_messages::{DomAsk, Numbers, Refused, ReplyBody, Why, write_refused, write_reply};
-use node_binding::{Binding, capped, deal_node, find_in, levels_of};
-use node_tree::MOST_TOLD;
+use node_binding::{Binding, capped, find_in, levels_of};
 use page_tree::{EditErr, Node, Page, TreeEdit};
 use select_match::{all_matches, first_match};
 use std::alloc::{AllocError, Global};
@@ -66,7 +62,8 @@ impl DomAgent {
     }
 
     /// Carries the command out, and appends the frames that answer it to `out`, with the id of the command's frame: the reply last,
-    /// but for a document's, behind which events tell what lies deeper than one message tells. What the command's own row of refusals names is answered by an error reply, and changes nothing.
+    /// but for a document's, behind which events tell what lies deeper than one message tells. What the command's own row of
+    /// refusals names is answered by an error reply, and changes nothing.
     pub fn ask(
         &mut self,
         page: &Page,
@@ -125,32 +122,14 @@ impl DomAgent {
             (out.new.items ≡ out.old.items
             ++ answer id (binding_outcome page.now (GetDocument depth None) self.old)) }
     {
-        page.valid();
-        let levels = levels_asked(depth);
-        self.binding.begin(page, capped(levels))?;
-        tell_root(self.alloc, &self.binding, &page.root(), id, out)?;
-        self.tell_pieces(page, levels, out)
-    }
-
-    /// Opens what is left of the document's levels behind its first piece, and appends for each piece the event that tells it.
-    fn tell_pieces(
-        &mut self,
-        page: &Page,
-        levels: Option<u64>,
-        out: &mut Vec<u8>,
-    ) -> Result<(), AllocError>
-        requires room { self.old.next < drawn_before_nodes }
-        ensures known { OnOk result (self.new ≡ (all_opened (binding_keeper (alone page.now.tree)) page.now.tree
-            (dealt more_told most_told levels (alone page.now.tree)) self.old).state) }
-        ensures sent { OnOk result (out.new.items ≡ out.old.items ++ frames_told
-            (all_opened (binding_keeper (alone page.now.tree)) page.now.tree
-            (dealt more_told most_told levels (alone page.now.tree)) self.old).shown) }
-    {
-        page.valid();
-        let mut openings = Vec::new(self.alloc);
-        deal_node(&page.root(), MOST_TOLD, levels, &mut openings)?;
-        open_all(self.alloc, &mut self.binding, &openings, out)?;
-        Ok(())
+        open_document(
+            self.alloc,
+            &mut self.binding,
+            page,
+            levels_asked(depth),
+            id,
+            out,
+        )
     }
 
     /// The known node that has the id.

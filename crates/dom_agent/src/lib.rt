@@ -1,7 +1,8 @@
 //! The back end's side of the protocol's DOM commands: it answers them from a page, and tells the events of an edit.
 //!
-//! Promise: `ask` appends exactly the frames that answer a command, the reply last; `push` those that make a node known; `edit`
-//! makes an edit of the page and appends exactly its events, or names its fault and changes nothing.
+//! Promise: `ask` appends exactly the frames that answer a command: the reply last, but for a document's, behind which come the
+//! pieces that lie deeper than one message tells; `push` those that make a node known; `edit` makes an edit of the page and
+//! appends exactly its events, or names its fault and changes nothing.
 //!
 //! Way in: `DomAgent`, one for each client. What a command comes to is defined once, over any keeper of the opened set and the
 //! ids (`outcome`, specs/Requests), for the session and for the tables alike.

@@ -28,7 +28,8 @@ pub(crate) fn request_node<'a>(
         return Ok(());
     }
     if !binding.is_opened(node.serial()) {
-        return deal_node(node, 0, levels, openings);
+        deal_node(node, 0, levels, openings)?;
+        return Ok(());
     }
     let left = less(levels);
     request_children(binding, &node.children(), left, openings)?;

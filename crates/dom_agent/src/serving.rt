@@ -1,14 +1,18 @@
-ghost use Rattle.std.specs.Prelude.{◌≡◌, ◌+◌, ◌<◌, ◌≤◌, ◌++◌, [], ◌∷◌, All, map, sum_by, OnOk};
-ghost use Rattle.node_tree.specs.Numbers.{drawn_limit};
-ghost use Rattle.node_tree.specs.Nodes.{Nodes, Branch, node_count};
+ghost use Rattle.std.specs.Prelude.{◌≡◌, ◌+◌, ◌<◌, ◌≤◌, ◌++◌, [], ◌∷◌, false, All, map, sum_by, OnOk};
+ghost use Rattle.node_tree.specs.Levels.{most_told};
+ghost use Rattle.node_tree.specs.Numbers.{drawn_before_call, drawn_before_nodes, drawn_limit};
+ghost use Rattle.node_tree.specs.Nodes.{Nodes, Branch, alone, node_count};
 ghost use Rattle.page_tree.specs.Pages.{PageRow};
+ghost use Rattle.node_binding.specs.Openings.{is_spent};
+ghost use Rattle.node_binding.specs.Deals.{dealt, more_told};
 ghost use Rattle.dom_agent.specs.Keepers.{binding_keeper};
-ghost use Rattle.dom_agent.specs.Requests.{told_of, all_opened, frames_told};
+ghost use Rattle.dom_agent.specs.Requests.{told_of, all_opened, frames_told, with_document, state_after, answer};
 ghost use Rattle.dom_agent.specs.Openings.{opening_of, IsOfContainer};
 
-use crate::told::tell_shows;
-use node_binding::{Binding, Opening};
-use page_tree::Node;
+use crate::told::{tell_root, tell_shows};
+use node_binding::{Binding, Opening, capped, deal_node};
+use node_tree::MOST_TOLD;
+use page_tree::{Node, Page};
 use std::alloc::{AllocError, Global};
 
 /// Appends the event that tells the children of an opened node.
@@ -45,5 +49,51 @@ pub(crate) fn open_all(
         binding.open_tree(&opening.node, opening.levels)?;
         tell_children(alloc, binding, &opening.node, out)?;
     }
+    Ok(())
+}
+
+/// Opens what is left of the document's levels behind its first piece, and appends for each piece the event that tells it.
+fn open_pieces(
+    alloc: Global,
+    binding: &mut Binding,
+    page: &Page,
+    levels: Option<u64>,
+    out: &mut Vec<u8>,
+) -> Result<(), AllocError>
+    requires { binding.old.next < drawn_before_nodes }
+    ensures known { OnOk result (binding.new ≡ (all_opened (binding_keeper (alone page.now.tree)) page.now.tree
+        (dealt more_told most_told levels (alone page.now.tree)) binding.old).state) }
+    ensures sent { OnOk result (out.new.items ≡ out.old.items ++ frames_told (all_opened (binding_keeper (alone page.now.tree))
+        page.now.tree (dealt more_told most_told levels (alone page.now.tree)) binding.old).shown) }
+{
+    page.valid();
+    let mut openings = Vec::new(alloc);
+    deal_node(&page.root(), MOST_TOLD, levels, &mut openings)?;
+    open_all(alloc, binding, &openings, out)?;
+    Ok(())
+}
+
+/// Opens the document to these levels after a reset. Appends the reply that tells it to as many as a message tells, and then for
+/// each further piece the event that tells it.
+pub(crate) fn open_document(
+    alloc: Global,
+    binding: &mut Binding,
+    page: &Page,
+    levels: Option<u64>,
+    id: u64,
+    out: &mut Vec<u8>,
+) -> Result<(), AllocError>
+    requires left { is_spent levels ≡ false }
+    requires room { binding.old.next < drawn_before_call }
+    ensures known { OnOk result (binding.new ≡ state_after binding.old
+        (with_document (binding_keeper (alone page.now.tree)) page.now.tree levels binding.old)) }
+    ensures sent { OnOk result (out.new.items ≡ out.old.items ++ answer id
+        (with_document (binding_keeper (alone page.now.tree)) page.now.tree levels binding.old)) }
+{
+    page.valid();
+    let root = page.root();
+    binding.begin(page, capped(levels))?;
+    tell_root(alloc, binding, &root, id, out)?;
+    open_pieces(alloc, binding, page, levels, out)?;
     Ok(())
 }

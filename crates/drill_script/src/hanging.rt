@@ -1,6 +1,7 @@
 // Trees that wait for the node that they hang below.
-ghost use Rattle.std.specs.Prelude.{◌≡◌, ◌+◌, ◌^◌, ◌<◌, [], ◌∷◌, ◌++◌, length, List, IfOk, OnOk};
+ghost use Rattle.std.specs.Prelude.{◌≡◌, ◌+◌, ◌<◌, [], ◌∷◌, ◌++◌, length, List, IfOk, OnOk};
 ghost use Rattle.node_tree.specs.Labels.{Label};
+ghost use Rattle.node_tree.specs.Numbers.{memory_limit};
 ghost use Rattle.node_tree.specs.Nodes.{Nodes, nodes_of};
 ghost use Rattle.drill_script.specs.Hanging.{hung, nothing_hangs};
 
@@ -31,7 +32,7 @@ impl Model for Hanging {
 impl Hanging {
     /// Nothing hangs below the body and so many divs.
     pub(crate) fn new(alloc: Global, divs: usize) -> Result<Hanging, AllocError>
-        requires { divs < 2 ^ 63 }
+        requires { divs < memory_limit }
         ensures { IfOk result (λ h. h ≡ nothing_hangs (divs + 1)) }
     {
         let mut lists = Vec::new(alloc);

@@ -58,7 +58,8 @@ impl Binding {
         ensures { OnOk result
             (self.new ≡ started (levels_of depth) (alone page.now.tree) self.old) }
     {
-        self.begin(page, levels_of(depth))
+        self.begin(page, levels_of(depth))?;
+        Ok(())
     }
 
     /// The same by levels that may be few already, at least 1 of them.

@@ -17,7 +17,7 @@ use node_tree::{MOST_TOLD, Text};
 use page_tree::limit_fault;
 use std::alloc::Global;
 
-// The most levels of nodes that a page in its usual form has: JSON that nests deeper is not read.
+// The most levels of nodes of a page that is read token by token; a deeper one is read as a value, or given flat.
 const LEVELS: u64 = MOST_TOLD;
 
 fn scan_sheet(alloc: Global, reader: &mut Reader<'_>) -> Result<SheetForm, ScanErr>

@@ -3,6 +3,7 @@ use Rattle.std.proofs.Common.{◌≡◌, ℕ, suc, ◌<◌, max, true, false, Li
 use Rattle.std.proofs.Common.{OnOk, OnErr, refl, sym, ap, subst, ◌∙◌, inl, inr, arith}
 use Rattle.std.specs.Option.{option_and_then}
 use Rattle.std.proofs.lemmas.Bool.{not-false, cases_lt}
+use Rattle.node_tree.specs.Levels.{most_levels}
 use Rattle.node_tree.specs.Nodes.{Nodes, none, node, Branch, alone}
 use Rattle.node_tree.specs.Labels.{Label, is_element, is_ascending, value_of}
 use Rattle.node_tree.specs.Keys.{tally}
@@ -305,15 +306,15 @@ module _ (a b : Arena) (root next : ℕ) (page : IsPage a root next) (p : PageVa
 
   -- the tree that is copied out is the node's
   pub detach_tree : (serial : ℕ) (slot : Slot) (w : Branch PageRow) → slot_of a serial ≡ Some slot
-      → w ≡ record { row = slot_row slot; children = stored_trees a 61 slot.children } → w ≡ node_at serial (tree_of a root)
+      → w ≡ record { row = slot_row slot; children = stored_trees a most_levels slot.children } → w ≡ node_at serial (tree_of a root)
   detach_tree serial slot w e is =
       let s = seat a root next page serial slot e in
       let h = page.valid.nodes.levels in
       let r = height-map_rows row_label (tree_of a root).children in
       let d = height_above-at (at-old (changed serial (λ b. b) (tree_of a root) s.live).1) in
-      is ∙ branch_same (slot_row slot) (node_at serial (tree_of a root)).row (stored_trees a 61 slot.children)
+      is ∙ branch_same (slot_row slot) (node_at serial (tree_of a root)).row (stored_trees a most_levels slot.children)
       (node_at serial (tree_of a root)).children s.row_is
-      (kept_trees-keeps page_slots (slots_in a) 61 (node_at serial (tree_of a root)).children (Some s.key) slot.children s.below
+      (kept_trees-keeps page_slots (slots_in a) most_levels (node_at serial (tree_of a root)).children (Some s.key) slot.children s.below
       (omega arith))
 
   pub tree_detached : (serial key : ℕ) (slot : Slot) (w : Branch PageRow) → CanApply p.next (Detach serial) p.tree

@@ -1,5 +1,5 @@
 -- What is climbed to, turned.
-use Rattle.std.proofs.Common.{◌≡◌, Bool, true, false, cond, Option, Some, None, sym, ap, ◌∙◌, map, reverse, List, ◌++◌, arith}
+use Rattle.std.proofs.Common.{◌≡◌, Bool, true, false, cond, Option, Some, None, sym, ap, ◌∙◌, map, List, ◌++◌, arith}
 use Rattle.node_tree.specs.Nodes.{alone}
 use Rattle.node_tree.specs.Keys.{has}
 use Rattle.node_tree.proofs.KeyLemmas.{has-find}

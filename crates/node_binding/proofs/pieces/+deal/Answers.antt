@@ -9,7 +9,7 @@ use Rattle.node_binding.proofs.pieces.+deal.Goals as goal
 
 pub deal_children-loop-i-init : goal.deal_children-loop-i-init
 deal_children-loop-i-init t c =
-    ap (λ n. map opening_of c.args.pieces.now.items ++ dealt more_told c.args.left c.args.levels n) (from-zero c.args.children.now)
+    ap (λ n. map opening_of c.args.openings.now.items ++ dealt more_told c.args.left c.args.levels n) (from-zero c.args.children.now)
 
 pub deal_children-deal_node-requires : goal.deal_children-deal_node-requires
 deal_children-deal_node-requires t c =

@@ -1,4 +1,4 @@
-use Rattle.std.proofs.Common.{◌≡◌, ◌<◌, ◌^◌, Result, Ok, sym, ap, ◌∙◌, subst}
+use Rattle.std.proofs.Common.{◌<◌, ◌^◌, Result, sym, ap, ◌∙◌, subst}
 use Rattle.std.specs.FinMap as map_of
 use Rattle.node_tree.specs.Nodes.{alone}
 use Rattle.cdp_messages.specs.declared.command.Why.{Why}

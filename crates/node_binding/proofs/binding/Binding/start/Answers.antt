@@ -13,6 +13,6 @@ begin-requires-clause-left c =
 
 pub returns : goal.returns
 returns c =
-    c.begin.ensures
+    c.in_ok-begin.ensures
     ∙ ap (λ d. started d (alone c.args.page.now.tree) c.args.self.now)
     (c.levels_of.ensures ∙ ap levels_of (to_z-of_z w64 c.args.depth c.ranges.depth))

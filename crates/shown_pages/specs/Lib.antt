@@ -1,0 +1,5 @@
+pub mod Modes
+pub mod ShownPages
+pub mod ShownEdits
+pub mod ShownLaws
+pub mod Walks
