@@ -17,7 +17,7 @@ use Rattle.inspect_replay.specs.Says.{Counts, OthersStill, says_of, status_of}
 use Rattle.inspect_replay.specs.Serving.{served, ServeCall, ServedRead, ServedAll, ServedLimit, ServeTook, IsServeStatus, ServeMoment}
 use Rattle.inspect_replay.specs.Serving.{SoFar, Serves, PieceRead, PieceAnswered, PieceInPart, PieceServed, EndIsMet, ReadAnswered}
 use Rattle.inspect_replay.specs.Serving.{PartAnswered, EndAnswered}
-use Rattle.inspect_replay.specs.Serving.{LimitAnswered, FaultAnswered, HasServed, HasWriteCause, HasServeCause, ServeRose}
+use Rattle.inspect_replay.specs.Serving.{LimitAnswered, FaultAnswered, HasServed, HasServeCause, ServeRose}
 use Rattle.inspect_replay.specs.ServeReads.{ReadsInTurn}
 use Rattle.inspect_replay.proofs.ReadLemmas.{CameInTurn, none-in-turn, more-in-turn, reads-in-turn}
 use Rattle.inspect_replay.proofs.ServeLemmas.{answers_after, served-more}
@@ -225,13 +225,6 @@ pub turns-full : (calls_before calls calls_after : ℕ) (before left after start
 turns-full calls_before calls calls_after before left after start now came result s met counted =
     let last = consumed-end left after result met in
     turns-more calls_before calls calls_after before left after start now.taken now came last.0 s counted last.1
-
--- ---- causes
-
--- of a call within another, in which nothing failed before
-pub write-cause-after : {T : Type 0} (start before after : ℕ) (result : Result T Stop) → before ≡ start → HasWriteCause before after result
-    → HasWriteCause start after result
-write-cause-after start before after result same cause = subst (λ n. HasWriteCause n after result) same cause
 
 -- ---- the whole call
 
