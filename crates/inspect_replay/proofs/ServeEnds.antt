@@ -13,7 +13,7 @@ use Rattle.inspect_replay.specs.declared.stop.Stop.TheVariants.{Memory}
 use Rattle.std.specs.Result.{IsOk, IsErrAnd}
 use Rattle.std.proofs.lemmas.Result.{err_from_is_err_and}
 use Rattle.inspect_replay.specs.Followed.{Passed, StatusFolds}
-use Rattle.inspect_replay.specs.Says.{Counts, OthersStill, says_of, status_of}
+use Rattle.inspect_replay.specs.Says.{OthersStill, says_of, status_of}
 use Rattle.inspect_replay.specs.Serving.{served, ServeCall, ServedRead, ServedAll, ServedLimit, ServeTook, IsServeStatus, ServeMoment}
 use Rattle.inspect_replay.specs.Serving.{SoFar, Serves, PieceRead, PieceAnswered, PieceInPart, PieceServed, EndIsMet, ReadAnswered}
 use Rattle.inspect_replay.specs.Serving.{PartAnswered, EndAnswered}

@@ -1,5 +1,5 @@
 -- Each frame that is answered takes the run on.
-use Rattle.std.proofs.Common.{rules, ◌∷◌, arith, refl, sym, ap, ◌∙◌, Err, Ok}
+use Rattle.std.proofs.Common.{rules, ◌∷◌, refl, sym, ap, ◌∙◌, Err, Ok}
 use Rattle.pipe_frames.specs.Frames.{Frames}
 use Rattle.inspect_world.specs.World.{answered}
 use Rattle.inspect_world.specs.RunStates.{run_step}
