@@ -7,7 +7,6 @@ use Rattle.front_mirror.specs.declared.panels.Panel.{Ghosts}
 use Rattle.front_mirror.specs.declared.panels.PanelKind.{PanelKind}
 use Rattle.pipe_frames.specs.Pipe.{Pipe, IsLevel}
 use Rattle.pipe_frames.proofs.WholeLemmas.{Appends-nil}
-use Rattle.pipe_frames.proofs.FaultLemmas.{Rose-before}
 use Rattle.page_forms.specs.Pages.{LoadedPage, CanLoadPage}
 use Rattle.page_forms.specs.Texts.{PageHasTexts}
 use Rattle.back_end.specs.States.{loaded_state}
@@ -24,7 +23,7 @@ use Rattle.inspect_replay.specs.declared.stop.Stop.TheVariants.{Memory}
 use Rattle.inspect_replay.specs.Says.{Counts, status_of}
 use Rattle.inspect_replay.specs.Starts.{IsNew}
 use Rattle.inspect_replay.specs.Runs.{InPlay}
-use Rattle.inspect_replay.specs.Stops.{GoesWell, HasStopCause, RoseAt, two_counts}
+use Rattle.inspect_replay.specs.Stops.{GoesWell, HasStopCause}
 use Rattle.inspect_replay.specs.Answers.{Prints, Took, StatusRose}
 use Rattle.inspect_replay.specs.Followed.{FollowsRun}
 use Rattle.inspect_replay.specs.Drilled.{IsOfWriting, WritesAtEnd, DrillWrites, IsDrillStatus, lines_more}
@@ -141,26 +140,10 @@ drill-status (FrontRefused place fault) sink sink1 link link1 cause = tt
 drill-status NoRoom sink sink1 link link1 cause = tt
 drill-status Memory sink sink1 link link1 cause = tt
 
--- the cause of a stop that comes after the lines
-pub drill-cause : (result : Result (Unit {0}) Stop) (sink sink1 link link1 link2 : ℕ) → link ≤ link1
+-- the cause of a stop that comes after the lines, in which the link did not fail
+pub drill-cause : (result : Result (Unit {0}) Stop) (sink sink1 link link1 link2 : ℕ) → link1 ≡ link
     → HasStopCause sink sink1 link1 link2 result → HasStopCause sink sink1 link link2 result
-drill-cause result sink sink1 link link1 link2 low cause = record {
-  sink_later = cause.sink_later;
-  link_later = let more : link1 ≤ link2 = cause.link_later in omega (arith, low, more);
-  rose = by-result result cause.rose;
-}
-  where
-    by-result : (result : Result (Unit {0}) Stop) → RoseAt (two_counts sink sink1 link1 link2) result
-        → RoseAt (two_counts sink sink1 link link2) result
-    by-result (Ok value) rose = tt
-    by-result (Err (Line number fault)) rose = rose
-    by-result (Err TooLong) rose = rose
-    by-result (Err ReadFault) rose = rose
-    by-result (Err WriteFault) rose = rose
-    by-result (Err LinkFault) rose = Rose-before link link1 link2 low rose
-    by-result (Err (FrontRefused place fault)) rose = rose
-    by-result (Err NoRoom) rose = rose
-    by-result (Err Memory) rose = rose
+drill-cause result sink sink1 link link1 link2 same cause = subst (λ n. HasStopCause sink sink1 n link2 result) same cause
 
 -- ---- the start
 

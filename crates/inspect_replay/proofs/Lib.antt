@@ -14,6 +14,7 @@ pub mod FollowLemmas
 pub mod TellLemmas
 pub mod DrillEnds
 pub mod AnswerLemmas
+pub mod FaultAnswers
 pub mod PageLemmas
 pub mod ServeLemmas
 pub mod ServeEnds

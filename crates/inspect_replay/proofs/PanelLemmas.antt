@@ -67,8 +67,8 @@ pub panel-cause : (result : Result (Unit {0}) Stop) (number sink link : ℕ) (th
     → HasRunCause sink sink link link result
 panel-cause result number sink link there is = subst (λ r. HasRunCause sink sink link link r) (sym is) (at there) where
   at : (b : Bool) → HasRunCause sink sink link link (drops number b)
-  at true = record { sink_later = omega arith; link_later = omega arith; rose = tt }
-  at false = record { sink_later = omega arith; link_later = omega arith; rose = tt }
+  at true = record { sink_later = omega arith; link_later = omega arith; rose = tt; others = (refl, refl, refl) }
+  at false = record { sink_later = omega arith; link_later = omega arith; rose = tt; others = (refl, refl, refl) }
 
 -- it prints nothing
 pub panel-printed : (result : Result (Unit {0}) Stop) (taken : Option (List ℕ)) → OnOk result (PrintedSome taken taken)

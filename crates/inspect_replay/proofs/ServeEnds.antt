@@ -2,9 +2,8 @@
 use Rattle.std.proofs.Common.{◌≡◌, ℕ, zero, suc, ◌+◌, ◌^◌, ◌≤◌, List, [], ◌∷◌, ◌++◌, length, take, Option, Some, None, Result, Ok, Err}
 use Rattle.std.proofs.Common.{refl, sym, ◌∙◌, ap, subst, append_assoc, append-nil, length-append, arith}
 use Rattle.std.specs.Io.KnownBytes.{Appends, Consumes, IsAtEnd}
-use Rattle.pipe_frames.specs.Fault.{Rose, next_count}
+use Rattle.pipe_frames.specs.Fault.{next_count}
 use Rattle.pipe_frames.specs.Whole.{ReadPart, WrotePart}
-use Rattle.pipe_frames.proofs.FaultLemmas.{Rose-before}
 use Rattle.pipe_frames.proofs.WholeLemmas.{Appends-nil, WrotePart-longer, Consumes-nil, Consumes-append}
 use Rattle.inspect_replay.specs.declared.status.Status.{Status}
 use Rattle.inspect_replay.specs.declared.status.Status.TheVariants as status
@@ -14,12 +13,11 @@ use Rattle.inspect_replay.specs.declared.stop.Stop.TheVariants.{Memory}
 use Rattle.std.specs.Result.{IsOk, IsErrAnd}
 use Rattle.std.proofs.lemmas.Result.{err_from_is_err_and}
 use Rattle.inspect_replay.specs.Followed.{Passed, StatusFolds}
-use Rattle.inspect_replay.specs.Answers.{StatusRose}
-use Rattle.inspect_replay.specs.Says.{Counts, status_of}
+use Rattle.inspect_replay.specs.Says.{OthersStill, says_of, status_of}
 use Rattle.inspect_replay.specs.Serving.{served, ServeCall, ServedRead, ServedAll, ServedLimit, ServeTook, IsServeStatus, ServeMoment}
 use Rattle.inspect_replay.specs.Serving.{SoFar, Serves, PieceRead, PieceAnswered, PieceInPart, PieceServed, EndIsMet, ReadAnswered}
 use Rattle.inspect_replay.specs.Serving.{PartAnswered, EndAnswered}
-use Rattle.inspect_replay.specs.Serving.{LimitAnswered, FaultAnswered, HasServed, HasServeCause, WriteRose, ServeRose}
+use Rattle.inspect_replay.specs.Serving.{LimitAnswered, FaultAnswered, HasServed, HasServeCause, ServeRose}
 use Rattle.inspect_replay.specs.ServeReads.{ReadsInTurn}
 use Rattle.inspect_replay.proofs.ReadLemmas.{CameInTurn, none-in-turn, more-in-turn, reads-in-turn}
 use Rattle.inspect_replay.proofs.ServeLemmas.{answers_after, served-more}
@@ -228,47 +226,6 @@ turns-full calls_before calls calls_after before left after start now came resul
     let last = consumed-end left after result met in
     turns-more calls_before calls calls_after before left after start now.taken now came last.0 s counted last.1
 
--- ---- causes
-
--- of a call within another
-pub write-rose-before : {T : Type 0} (start before after : ℕ) (result : Result T Stop) → start ≤ before → WriteRose before after result
-    → WriteRose start after result
-write-rose-before start before after (Ok value) low rose = tt
-write-rose-before start before after (Err (Line number fault)) low rose = rose
-write-rose-before start before after (Err TooLong) low rose = rose
-write-rose-before start before after (Err ReadFault) low rose = rose
-write-rose-before start before after (Err WriteFault) low rose = Rose-before start before after low rose
-write-rose-before start before after (Err LinkFault) low rose = rose
-write-rose-before start before after (Err (FrontRefused place fault)) low rose = rose
-write-rose-before start before after (Err NoRoom) low rose = rose
-write-rose-before start before after (Err Memory) low rose = tt
-
-pub serve-rose-before : {T : Type 0} (c d : Counts) (result : Result T Stop) → c.source_before ≤ d.source_before
-    → c.sink_before ≤ d.sink_before
-    → d.source_after ≡ c.source_after → d.sink_after ≡ c.sink_after → ServeRose d result → ServeRose c result
-serve-rose-before c d (Ok value) low low_sink same same_sink rose = tt
-serve-rose-before c d (Err (Line number fault)) low low_sink same same_sink rose = rose
-serve-rose-before c d (Err TooLong) low low_sink same same_sink rose = tt
-serve-rose-before c d (Err ReadFault) low low_sink same same_sink rose =
-    subst (λ n. Rose c.source_before n) same (Rose-before c.source_before d.source_before d.source_after low rose)
-serve-rose-before c d (Err WriteFault) low low_sink same same_sink rose =
-    subst (λ n. Rose c.sink_before n) same_sink (Rose-before c.sink_before d.sink_before d.sink_after low_sink rose)
-serve-rose-before c d (Err LinkFault) low low_sink same same_sink rose = rose
-serve-rose-before c d (Err (FrontRefused place fault)) low low_sink same same_sink rose = rose
-serve-rose-before c d (Err NoRoom) low low_sink same same_sink rose = rose
-serve-rose-before c d (Err Memory) low low_sink same same_sink rose = tt
-
--- what a stop that is a status says of causes
-pub stop-rose : (c : Counts) (stop : Stop) → ServeRose {T = Unit {0}} c (Err stop) → StatusRose c (status_of stop)
-stop-rose c (Line number fault) rose = absurd rose
-stop-rose c TooLong rose = tt
-stop-rose c ReadFault rose = rose
-stop-rose c WriteFault rose = rose
-stop-rose c LinkFault rose = absurd rose
-stop-rose c (FrontRefused place fault) rose = absurd rose
-stop-rose c NoRoom rose = absurd rose
-stop-rose c Memory rose = tt
-
 -- ---- the whole call
 
 -- nothing was read, and nothing was written
@@ -315,6 +272,14 @@ nothing-rose result source sink lost =
         link_before = 0;
         link_after = 0;
       }) r) (sym is) tt;
+      others = subst (λ (r : Result _ Stop). OthersStill (record {
+        source_before = source;
+        source_after = source;
+        sink_before = sink;
+        sink_after = sink;
+        link_before = 0;
+        link_after = 0;
+      }) (says_of r).failed) (sym is) (refl, refl, refl);
     }
 
 -- a source that tells its bytes had these, and has the others left

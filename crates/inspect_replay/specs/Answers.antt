@@ -1,5 +1,5 @@
 -- What an answer of the program says of its input, and of what was written.
-use Rattle.std.specs.Prelude.{◌≡◌, ℕ, Vec, List, [], Bool, true, false, ◌||◌, nat_lt, length, Option, Some, None, Result, Ok, Err, ⊤}
+use Rattle.std.specs.Prelude.{◌≡◌, ◌<◌, ℕ, Vec, List, [], Bool, true, false, ◌||◌, nat_lt, length, Option, Some, None, Result, Ok, Err, ⊤}
 use Rattle.std.specs.Io.KnownBytes.{Appends}
 use Rattle.std.specs.declared.alloc.Global.{Global}
 use Rattle.node_tree.specs.Numbers.{max_input, max_line}
@@ -7,6 +7,7 @@ use Rattle.pipe_frames.specs.Whole.{WrotePart}
 use Rattle.replay_script.specs.declared.faults.LineFault.{LineFault}
 use Rattle.replay_script.specs.Lines.{has_long_line}
 use Rattle.inspect_replay.specs.declared.status.Status.{Status}
+use Rattle.inspect_replay.specs.declared.status.Status.TheVariants as answers
 use Rattle.inspect_replay.specs.declared.stop.Stop.{Stop}
 use Rattle.inspect_replay.specs.Says.{Phase, untouched, reading, underway, ended, anywhen, Lie, Counts, PartRose, says, says_of}
 
@@ -127,6 +128,12 @@ IsLate status = InRunOnly (says status).phase ⊤
 -- A fault is answered only where the count of its cause rose in this call.
 abbrev pub StatusRose : Counts → Status → Type 0
 StatusRose c status = PartRose c (says status).failed
+
+-- No fault is hidden: where the count of a part rose in this call, the answer is the fault of that part.
+pub record AnswersFaults (c : Counts) (status : Status) : Type 0 where
+  pub source_told : c.source_before < c.source_after → status ≡ answers.ReadFault
+  pub sink_told : c.sink_before < c.sink_after → status ≡ answers.WriteFault
+  pub link_told : c.link_before < c.link_after → status ≡ answers.LinkFault
 
 -- ---- the reading of the input
 

@@ -1,6 +1,6 @@
 -- What each answer says: how far the call had come, whose count of faults rose, and what was found of the input and of the
 -- messages. All that the clauses say of answers is stated over this one table.
-use Rattle.std.specs.Prelude.{ℕ, Bool, true, false, Option, Some, None, Result, Ok, Err, ⊤}
+use Rattle.std.specs.Prelude.{◌≡◌, ℕ, Bool, true, false, Option, Some, None, Result, Ok, Err, ⊤}
 use Rattle.pipe_frames.specs.Fault.{Rose}
 use Rattle.replay_script.specs.declared.faults.LineFault.{LineFault}
 use Rattle.front_mirror.specs.declared.faults.FrontFault.{FrontFault}
@@ -98,3 +98,10 @@ PartRose c None = ⊤
 PartRose c (Some source) = Rose c.source_before c.source_after
 PartRose c (Some sink) = Rose c.sink_before c.sink_after
 PartRose c (Some link) = Rose c.link_before c.link_after
+
+-- no count rose but that of the part that failed, if one did: each other stands where it stood
+abbrev pub OthersStill : Counts → Option Part → Type 0
+OthersStill c None = (c.source_after ≡ c.source_before) × (c.sink_after ≡ c.sink_before) × (c.link_after ≡ c.link_before)
+OthersStill c (Some source) = (c.sink_after ≡ c.sink_before) × (c.link_after ≡ c.link_before)
+OthersStill c (Some sink) = (c.source_after ≡ c.source_before) × (c.link_after ≡ c.link_before)
+OthersStill c (Some link) = (c.source_after ≡ c.source_before) × (c.sink_after ≡ c.sink_before)

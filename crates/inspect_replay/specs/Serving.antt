@@ -10,7 +10,8 @@ use Rattle.back_end.specs.Steps.{Stepped, as_bytes, frame_step}
 use Rattle.back_end.specs.Seats.{StandsFor, first_page}
 use Rattle.inspect_world.specs.World.{steps}
 use Rattle.inspect_replay.specs.declared.service.Service.{Service}
-use Rattle.inspect_replay.specs.Says.{Counts}
+use Rattle.inspect_replay.specs.Says.{Counts, OthersStill, says_of}
+use Rattle.inspect_replay.specs.Stops.{two_counts}
 use Rattle.inspect_replay.specs.declared.status.Status.{Status}
 use Rattle.inspect_replay.specs.declared.status.Status.TheVariants as status
 use Rattle.inspect_replay.specs.declared.stop.Stop.{Stop}
@@ -248,10 +249,11 @@ WriteRose before after (Err (FrontRefused place fault)) = ⊥
 WriteRose before after (Err NoRoom) = ⊥
 WriteRose before after (Err Memory) = ⊤
 
--- the count of a sink never falls, and a fault has its cause
+-- the count of a sink never falls, a fault has its cause, and no fault is hidden
 pub record HasWriteCause {T : Type 0} (before after : ℕ) (result : Result T Stop) : Type 0 where
   pub later : before ≤ after
   pub rose : WriteRose before after result
+  pub others : OthersStill (two_counts before after 0 0) (says_of result).failed
 
 -- serving stops by a fault of the source or the sink only where its count rose
 abbrev pub ServeRose : {T : Type 0} → Counts → Result T Stop → Type 0
@@ -265,8 +267,9 @@ ServeRose c (Err (FrontRefused place fault)) = ⊥
 ServeRose c (Err NoRoom) = ⊥
 ServeRose c (Err Memory) = ⊤
 
--- neither count falls, and a fault has its cause
+-- neither count falls, a fault has its cause, and no fault is hidden
 pub record HasServeCause {T : Type 0} (c : Counts) (result : Result T Stop) : Type 0 where
   pub source_later : c.source_before ≤ c.source_after
   pub sink_later : c.sink_before ≤ c.sink_after
   pub rose : ServeRose c result
+  pub others : OthersStill c (says_of result).failed

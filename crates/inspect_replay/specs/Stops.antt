@@ -1,7 +1,8 @@
 -- Why a run stops, and what a stop says of the outside.
 use Rattle.std.specs.Prelude.{◌≤◌, ℕ, Result, Ok, Err, ⊤}
 use Rattle.inspect_replay.specs.declared.stop.Stop.{Stop}
-use Rattle.inspect_replay.specs.Says.{Phase, untouched, reading, underway, ended, anywhen, Counts, PartRose, says, says_of, status_of}
+use Rattle.inspect_replay.specs.Says.{Phase, untouched, reading, underway, ended, anywhen, Counts, PartRose, OthersStill, says, says_of}
+use Rattle.inspect_replay.specs.Says.{status_of}
 use Rattle.inspect_replay.specs.Answers.{Absent, InRunOnly}
 
 -- a statement of stops amid a run: a line that is refused is none
@@ -33,11 +34,12 @@ abbrev pub RoseAt : {T : Type 0} → Counts → Result T Stop → Type 0
 RoseAt c (Ok value) = ⊤
 RoseAt c (Err stop) = RoseFor c stop
 
--- neither count fell, and a fault has its cause
+-- neither count fell, a fault has its cause, and no fault is hidden
 pub record HasStopCause {T : Type 0} (sink_before sink_after link_before link_after : ℕ) (result : Result T Stop) : Type 0 where
   pub sink_later : sink_before ≤ sink_after
   pub link_later : link_before ≤ link_after
   pub rose : RoseAt (two_counts sink_before sink_after link_before link_after) result
+  pub others : OthersStill (two_counts sink_before sink_after link_before link_after) (says_of result).failed
 
 -- a stop by a fault of the sink or the link comes only where its count rose, the counts being in one record
 abbrev pub StopRose : {T : Type 0} → Counts → Result T Stop → Type 0
@@ -51,11 +53,12 @@ GoesWell result = Absent (says_of result).lie
 abbrev pub RunRoseAt : {T : Type 0} → Counts → Result T Stop → Type 0
 RunRoseAt c result = InRunOnly (says_of result).phase (PartRose c (says_of result).failed)
 
--- neither count fell, and a fault has its cause; a line may be refused
+-- neither count fell, a fault has its cause, and no fault is hidden; a line may be refused
 pub record HasRunCause {T : Type 0} (sink_before sink_after link_before link_after : ℕ) (result : Result T Stop) : Type 0 where
   pub sink_later : sink_before ≤ sink_after
   pub link_later : link_before ≤ link_after
   pub rose : RunRoseAt (two_counts sink_before sink_after link_before link_after) result
+  pub others : OthersStill (two_counts sink_before sink_after link_before link_after) (says_of result).failed
 
 -- such a run's counts do not fall, and a fault has its cause, the counts being in one record
 abbrev pub RunRose : {T : Type 0} → Counts → Result T Stop → Type 0

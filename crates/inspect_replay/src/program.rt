@@ -1,5 +1,5 @@
-ghost use Rattle.std.specs.Prelude.{◌≡◌, ◌≤◌, ◌+◌, ◌^◌, ◌↔◌, ◌||◌, is_some, ℕ, List};
-ghost use Rattle.std.specs.Prelude.{map, string_bytes, length, Some, [], false, true, IfOk, OnOk};
+ghost use Rattle.std.specs.Prelude.{◌≡◌, ◌≤◌, ◌<◌, ◌+◌, ◌^◌, ◌↔◌, ◌||◌, is_some, ℕ, List};
+ghost use Rattle.std.specs.Prelude.{map, string_bytes, length, Some, [], false, true, Err, IfOk, OnOk};
 ghost use Rattle.pipe_frames.specs.Pipe.{IsLevel};
 ghost use Rattle.pipe_frames.specs.Whole.{ReadPart};
 ghost use Rattle.replay_script.specs.Script.{script_refused};
@@ -12,9 +12,12 @@ ghost use Rattle.inspect_replay.specs.Tallies.{TalliesShown, drill_text};
 ghost use Rattle.inspect_replay.specs.Drilled.{DrillWrites, IsDrillStatus};
 ghost use Rattle.inspect_replay.specs.declared.status.Status.TheVariants.{Done, Usage};
 ghost use Rattle.inspect_replay.specs.Followed.{StatusFolds, EndsShown, AnswersInOrder, StatusLess, fold_since};
-ghost use Rattle.inspect_replay.specs.Answers.{FitsLimits, TellsLine, Took, IsHonest, WritesNothing, StatusRose, InputTells, IsInputStop};
+ghost use Rattle.inspect_replay.specs.Answers.{FitsLimits, TellsLine, Took, IsHonest, WritesNothing, StatusRose, AnswersFaults};
+ghost use Rattle.inspect_replay.specs.Answers.{InputTells, IsInputStop};
 ghost use Rattle.inspect_replay.specs.Answers.{ReadsAll, IsLate};
 ghost use Rattle.inspect_replay.specs.Says.{status_of};
+ghost use Rattle.inspect_replay.specs.Stops.{two_counts};
+ghost use Rattle.inspect_replay.specs.declared.stop.Stop.TheVariants.{ReadFault};
 ghost use Rattle.inspect_replay.specs.Serving.{ServeTook, IsServeStatus};
 ghost use Rattle.inspect_replay.specs.ServeReads.{ReadsInTurn};
 
@@ -123,6 +126,15 @@ pub fn inspect<S: Source, K: Sink, L: Link>(
       link_before = L.faults link.old;
       link_after = L.faults link.new;
     }) result }
+    // no fault is hidden: where the count of the source, the sink or the link rose, the answer is that fault
+    ensures answered { AnswersFaults (record {
+      source_before = S.faults src.old;
+      source_after = S.faults src.new;
+      sink_before = K.faults out.old;
+      sink_after = K.faults out.new;
+      link_before = L.faults link.old;
+      link_after = L.faults link.new;
+    }) result }
     ensures honest { L.honest link.old → L.honest link.new }
     // a client is answered: the sink takes the answers to the whole frames that came, and nothing else
     ensures serves { is_serve (map string_bytes words.now) ≡ true
@@ -192,6 +204,14 @@ fn replay<P: Panel, S: Source, K: Sink, L: Link>(
       link_before = L.faults link.old;
       link_after = L.faults link.new;
     }) result }
+    ensures answered { AnswersFaults (record {
+      source_before = S.faults src.old;
+      source_after = S.faults src.new;
+      sink_before = K.faults out.old;
+      sink_after = K.faults out.new;
+      link_before = L.faults link.old;
+      link_after = L.faults link.new;
+    }) result }
     ensures honest { L.honest link.old → L.honest link.new }
 {
     match read_input(alloc, src) {
@@ -227,6 +247,7 @@ fn drill<P: Panel, K: Sink, L: Link>(
       link_before = L.faults link.old;
       link_after = L.faults link.new;
     }) result }
+    ensures answered { AnswersFaults (two_counts (K.faults out.old) (K.faults out.new) (L.faults link.old) (L.faults link.new)) result }
     ensures honest { L.honest link.old → L.honest link.new }
 {
     match run_drill(alloc, panels, divs, out, link) {
@@ -268,6 +289,7 @@ fn run_input<P: Panel, K: Sink, L: Link>(
       link_before = L.faults link.old;
       link_after = L.faults link.new;
     }) result }
+    ensures answered { AnswersFaults (two_counts (K.faults out.old) (K.faults out.new) (L.faults link.old) (L.faults link.new)) result }
     ensures honest { L.honest link.old → L.honest link.new }
 {
     match run_script(alloc, panels, input, out, link) {
@@ -282,6 +304,7 @@ fn read_input<S: Source>(alloc: Global, src: &mut S) -> Result<Vec<u8>, Stop>
     ensures few { IfOk result (λ read. length read.items ≤ 2 ^ 26) }
     ensures whole { (input : List ℕ) → S.left src.old ≡ Some input → OnOk result (S.left src.new ≡ Some []) }
     ensures rose { IsInputStop (S.faults src.old) (S.faults src.new) result }
+    ensures answered { S.faults src.old < S.faults src.new → result ≡ Err ReadFault }
     ensures part { ReadPart (S.left src.old) (S.left src.new) (2 ^ 26 + 1) }
 {
     let input = match read_all(alloc, src, INPUT_LIMIT) {

@@ -1,4 +1,7 @@
-ghost use Rattle.std.specs.Prelude.{◌≡◌, ◌≤◌, ◌∷◌, [], length, map, option_map, Some, None, IfOk, OnOk, IfSome, IsNone};
+ghost use Rattle.std.specs.Prelude.{◌≡◌, ◌≤◌, ◌∷◌, ◌++◌, [], codes, length, map, option_map, Some, None, IfOk, OnOk, OnErr, IfSome, IsNone};
+ghost use Rattle.std.specs.Io.KnownBytes.{Appends};
+ghost use Rattle.pipe_frames.specs.Whole.{WrotePart};
+ghost use Rattle.front_mirror.specs.Outline.{outline_text, seen_line};
 ghost use Rattle.node_tree.specs.Numbers.{max_input};
 ghost use Rattle.pipe_frames.specs.Pipe.{IsLevel};
 ghost use Rattle.replay_script.specs.Faults.{line_fault};
@@ -20,7 +23,7 @@ ghost use Rattle.replay_script.specs.Sound.{CanSend};
 ghost use Rattle.inspect_world.specs.World as world;
 ghost use Rattle.inspect_world.specs.Costs.{ask_cost, least_line, line_bytes};
 ghost use Rattle.inspect_world.specs.Scripts.{report, report_refused, rest_text, rest_refused, loaded_world, sends};
-ghost use Rattle.inspect_replay.specs.Stops.{StopRose, RunRose, two_counts};
+ghost use Rattle.inspect_replay.specs.Stops.{StopRose, RunRose, two_counts, GoesWell};
 ghost use Rattle.inspect_replay.specs.Answers.{RunTells, RunTook};
 ghost use Rattle.inspect_replay.specs.Moments.{seen_by};
 ghost use Rattle.inspect_replay.specs.Goes.{Goes, Plays, spending, showing, showing_styles, carrying, carrying_line, running};
@@ -389,6 +392,18 @@ fn read_load(alloc: Global, text: &[u8]) -> Result<PageForm, Stop>
     }
 }
 
+/// Prints the closing part: what the front end shows.
+fn print_end<P: Panel, K: Sink>(alloc: Global, ends: &Ends<P>, out: &mut K) -> Result<(), Stop>
+    ensures ok { OnOk result (Appends (K.taken out.old) (K.taken out.new)
+        (codes "# end" ++ 10 ∷ outline_text seen_line ends.now.front.value.tree)) }
+    ensures err { OnErr result (WrotePart (K.taken out.old) (K.taken out.new)
+        (codes "# end" ++ 10 ∷ outline_text seen_line ends.now.front.value.tree)) }
+    ensures never { GoesWell result }
+    ensures cause { StopRose (two_counts (K.faults out.old) (K.faults out.new) 0 0) result }
+{
+    print_outline(alloc, "# end", ends.mirror(), out)
+}
+
 /// Settles, and prints the closing part.
 fn close<P: Panel, K: Sink, L: Link>(
     alloc: Global,
@@ -403,7 +418,7 @@ fn close<P: Panel, K: Sink, L: Link>(
     ensures runs { Closes (seen_by (⟦<L as Watched>⟧.at link.old ends.old) (⟦<K as Printed>⟧.at out.old)) (K.taken out.new) result }
 {
     match ends.settle(link) {
-        Ok(()) => print_outline(alloc, "# end", ends.mirror(), out),
+        Ok(()) => print_end(alloc, ends, out),
         Err(stop) => Err(stop),
     }
 }

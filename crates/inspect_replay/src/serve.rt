@@ -4,7 +4,7 @@ ghost use Rattle.std.specs.Io.KnownBytes.{Consumes, IsAtEnd, Keeps};
 ghost use Rattle.node_tree.specs.Numbers.{max_input};
 ghost use Rattle.pipe_frames.specs.Fault.{Rose, next_count};
 ghost use Rattle.pipe_frames.specs.Whole.{ReadPart};
-ghost use Rattle.inspect_replay.specs.Answers.{StatusRose};
+ghost use Rattle.inspect_replay.specs.Answers.{StatusRose, AnswersFaults};
 ghost use Rattle.inspect_replay.specs.ServeReads.{ReadsInTurn};
 ghost use Rattle.inspect_replay.specs.Serving.{IsServeStatus, ServeTook, HasServed, HasServeCause, EndIsMet};
 ghost use Rattle.inspect_replay.specs.declared.stop.Stop.TheVariants.{ReadFault};
@@ -118,6 +118,14 @@ pub(crate) fn serve<S: Source, K: Sink>(alloc: Global, src: &mut S, out: &mut K)
       sink_after = K.faults out.new;
       link_before = link_before;
       link_after = link_after;
+    }) result }
+    ensures answered { AnswersFaults (record {
+      source_before = S.faults src.old;
+      source_after = S.faults src.new;
+      sink_before = K.faults out.old;
+      sink_after = K.faults out.new;
+      link_before = 0;
+      link_after = 0;
     }) result }
 {
     match serve_source(alloc, src, out) {

@@ -112,4 +112,4 @@ pub returns-in-Ok-clause-cause : goal.returns-in-Ok-clause-cause
 returns-in-Ok-clause-cause g c =
     drill-cause c.tell_numbers.result (g.K.Sink.faults c.args.out.now) (g.K.Sink.faults c.tell_numbers.new.out)
     (g.L.Link.faults c.args.link.now) (g.L.Link.faults c.run_turns.new.link) (g.L.Link.faults c.tell_numbers.new.link)
-    c.run_turns.ensures.cause.link_later c.tell_numbers.ensures.cause
+    (c.in-Ok.ensures {u = c.in-Ok.field-0}).cause.others.2 c.tell_numbers.ensures.cause

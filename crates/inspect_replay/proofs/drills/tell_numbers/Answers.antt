@@ -1,8 +1,9 @@
 -- The numbers that are told are those of the run.
-use Rattle.std.proofs.Common.{ap}
+use Rattle.std.proofs.Common.{Err, ap}
 use Rattle.front_mirror.specs.Front.{FrontState}
 use Rattle.inspect_replay.proofs.TellLemmas.{tells-well, tells-not, tells-shown}
 use Rattle.inspect_replay.proofs.DrillEnds.{writes-some, writes-none}
+use Rattle.inspect_replay.proofs.LinesRun.{link-cause, settled-cause}
 use Rattle.inspect_replay.proofs.drills.tell_numbers.Goals as goal
 
 pub returns-in-Ok-clause-runs : goal.returns-in-Ok-clause-runs
@@ -27,3 +28,9 @@ returns-in-Ok-clause-nothing g c = writes-some c.print_numbers.result _ _ c.prin
 
 pub returns-in-Err-clause-nothing : goal.returns-in-Err-clause-nothing
 returns-in-Err-clause-nothing g c = writes-none c.in-Err.stop _
+
+pub returns-in-Ok-clause-cause : goal.returns-in-Ok-clause-cause
+returns-in-Ok-clause-cause g c = settled-cause c.print_numbers.result _ _ _ _ c.in-Ok.ensures.cause c.print_numbers.ensures.cause
+
+pub returns-in-Err-clause-cause : goal.returns-in-Err-clause-cause
+returns-in-Err-clause-cause g c = link-cause (Err c.in-Err.stop) _ _ _ c.in-Err.ensures.cause

@@ -5,6 +5,7 @@ use Rattle.inspect_replay.specs.Drilled.{DrillWrites, IsDrillStatus}
 use Rattle.inspect_replay.specs.Tallies.{drill_text}
 use Rattle.inspect_replay.proofs.DrillEnds.{drill-took, drill-rose, drill-writes, drill-status}
 use Rattle.inspect_replay.proofs.FollowLemmas.{status-folds, status-less, never-done}
+use Rattle.inspect_replay.proofs.FaultAnswers.{stop-answers}
 use Rattle.inspect_replay.proofs.program.drill.Goals as goal
 
 pub returns-in-Err-clause-refused : goal.returns-in-Err-clause-refused
@@ -46,3 +47,6 @@ pub returns-in-Err-clause-status : goal.returns-in-Err-clause-status
 returns-in-Err-clause-status g c = subst IsDrillStatus (sym c.status_of.ensures)
     (drill-status c.in-Err.stop (g.K.Sink.faults c.args.out.now) (g.K.Sink.faults c.run_drill.new.out) (g.L.Link.faults c.args.link.now)
     (g.L.Link.faults c.run_drill.new.link) c.in-Err.ensures.cause)
+
+pub returns-in-Err-clause-answered : goal.returns-in-Err-clause-answered
+returns-in-Err-clause-answered g c = stop-answers _ c.in-Err.stop c.status_of.result c.status_of.ensures c.in-Err.ensures.cause.others

@@ -1,5 +1,5 @@
 -- With other words, and for a client, nothing is sent over the link, and the fold of nothing meets no fault.
-use Rattle.std.proofs.Common.{map, sym, ◌∙◌}
+use Rattle.std.proofs.Common.{map, sym, refl, ◌∙◌}
 use Rattle.std.specs.Prelude.{string_bytes}
 use Rattle.inspect_replay.specs.Followed.{fold_since}
 use Rattle.inspect_replay.specs.Says.{says}
@@ -7,6 +7,7 @@ use Rattle.inspect_replay.proofs.FollowLemmas.{start-good, less-at}
 use Rattle.inspect_replay.proofs.AnswerLemmas.{serve-honest}
 use Rattle.inspect_replay.proofs.ServeEnds.{serve-folds}
 use Rattle.inspect_replay.proofs.WordLemmas.{words-drill}
+use Rattle.inspect_replay.proofs.FaultAnswers.{source-still, link-still}
 use Rattle.inspect_replay.proofs.program.inspect.Goals as goal
 
 pub returns-clause-refused : goal.returns-clause-refused
@@ -37,3 +38,10 @@ drill-requires g c =
 
 pub returns-in-Some-clause-cause : goal.returns-in-Some-clause-cause
 returns-in-Some-clause-cause g c = c.drill.ensures.cause _ _
+
+pub returns-then-is_serve-clause-answered : goal.returns-then-is_serve-clause-answered
+returns-then-is_serve-clause-answered g c = link-still (g.L.Link.faults c.args.link.now) _ c.serve.result c.serve.ensures.answered
+
+pub returns-in-Some-clause-answered : goal.returns-in-Some-clause-answered
+returns-in-Some-clause-answered g c = source-still (g.S.Source.faults c.args.src.now) (g.S.Source.faults c.args.src.now) _ c.drill.result
+    refl c.drill.ensures.answered

@@ -5,6 +5,7 @@ use Rattle.inspect_replay.specs.Answers.{FitsLimits, Took, IsHonest}
 use Rattle.inspect_replay.proofs.AnswerLemmas.{stop-limits, stop-took, stop-honest}
 use Rattle.inspect_replay.specs.Followed.{fold_since}
 use Rattle.inspect_replay.proofs.FollowLemmas.{status-folds, status-less, input-folds, start-good, never-done}
+use Rattle.inspect_replay.proofs.FaultAnswers.{read-still, read-answers}
 use Rattle.inspect_replay.proofs.program.replay.Goals as goal
 
 pub returns-in-Err-clause-limits : goal.returns-in-Err-clause-limits
@@ -41,3 +42,11 @@ returns-in-Err-clause-less g c =
 pub returns-in-Err-clause-sound : goal.returns-in-Err-clause-sound
 returns-in-Err-clause-sound g c = λ honest up_level down_level. subst IsHonest (sym c.status_of.ensures)
     (stop-honest c.in-Err.stop _ _ c.in-Err.ensures.rose)
+
+pub returns-in-Ok-clause-answered : goal.returns-in-Ok-clause-answered
+returns-in-Ok-clause-answered g c = read-still (g.S.Source.faults c.args.src.now) (g.S.Source.faults c.read_input.new.src) c.in-Ok.input _
+    c.run_input.result c.in-Ok.ensures.answered c.run_input.ensures.answered
+
+pub returns-in-Err-clause-answered : goal.returns-in-Err-clause-answered
+returns-in-Err-clause-answered g c = read-answers (g.S.Source.faults c.args.src.now) (g.S.Source.faults c.read_input.new.src) _ _
+    c.in-Err.stop c.status_of.result c.status_of.ensures c.in-Err.ensures.answered

@@ -4,6 +4,7 @@ use Rattle.inspect_world.specs.Scripts.{report}
 use Rattle.inspect_replay.specs.Answers.{IsHonest}
 use Rattle.inspect_replay.proofs.AnswerLemmas.{run-honest}
 use Rattle.inspect_replay.proofs.FollowLemmas.{status-folds, status-less, never-done}
+use Rattle.inspect_replay.proofs.FaultAnswers.{stop-answers}
 use Rattle.inspect_replay.proofs.program.run_input.Goals as goal
 
 pub returns-in-Err-clause-refused : goal.returns-in-Err-clause-refused
@@ -24,3 +25,6 @@ returns-in-Err-clause-sound g c = λ honest up_level down_level.
     (run-honest c.in-Err.stop (g.K.Sink.taken c.args.out.now) (g.K.Sink.taken c.run_script.new.out)
     (report (map g.P.Panel.kind_of c.args.panels.items) c.args.input.now)
     (c.in-Err.ensures.took honest up_level down_level))
+
+pub returns-in-Err-clause-answered : goal.returns-in-Err-clause-answered
+returns-in-Err-clause-answered g c = stop-answers _ c.in-Err.stop c.status_of.result c.status_of.ensures c.in-Err.ensures.cause.others

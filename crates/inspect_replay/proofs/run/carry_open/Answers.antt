@@ -16,7 +16,7 @@ carry_plain-requires-clause-plain g c = sym c.styles_ask.ensures ∙ c.in-None.i
 pub returns-in-Some-clause-plays : goal.returns-in-Some-clause-plays
 returns-in-Some-clause-plays g c = record {
   honest = search rules;
-  cause = search rules;
+  cause = c.show_styles.ensures.plays.cause;
   follows = keeps-passing c.show_styles.result
       (moment (g.L.Link.honest c.args.link.now) (g.L.Link.up c.args.link.now) (g.L.Link.down c.args.link.now) c.args.ends.now)
       (moment (g.L.Link.honest c.show_styles.new.link) (g.L.Link.up c.show_styles.new.link)

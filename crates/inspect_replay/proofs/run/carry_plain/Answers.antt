@@ -16,6 +16,7 @@ use Rattle.std.proofs.Common.{◌≡◌, ℕ, Option, Some, None, sym, ◌∙◌
 use Rattle.replay_script.specs.Script.{styles_ask, closed_by}
 use Rattle.inspect_replay.proofs.RunLemmas.{spend-carries, move-carries, settles-spend, same-carries, page-carries}
 use Rattle.inspect_replay.proofs.FollowLemmas.{none-printed, some-printed, kept-run, run-fewer}
+use Rattle.inspect_replay.proofs.LinesRun.{link-cause, sink-cause}
 use Rattle.inspect_replay.proofs.run.carry_plain.Goals as goal
 
 pub load_page-requires : goal.load_page-requires
@@ -36,7 +37,7 @@ carry_raw-requires-clause-bare g c = (subst IsLater (ap seen c.in-Raw.is) c.requ
 pub returns-in-Load : goal.returns-in-Load
 returns-in-Load g c = record {
   honest = search rules;
-  cause = search rules;
+  cause = link-cause c.load_page.result _ _ _ c.load_page.ensures.cause;
   follows = c.load_page.ensures.follows;
   some = none-printed c.load_page.result _;
   runs = spend-carries c.load_page.result _ _ _ _ _ _ _ c.args.ends.now c.load_page.new.self
@@ -48,7 +49,7 @@ returns-in-Load g c = record {
 pub returns-in-Act : goal.returns-in-Act
 returns-in-Act g c = record {
   honest = search rules;
-  cause = search rules;
+  cause = c.carry_act.ensures.cause;
   follows = c.carry_act.ensures.follows;
   some = c.carry_act.ensures.some;
   runs = same-carries c.carry_act.result _ _ _ _ _ _ _ _ c.args.ends.now c.carry_act.new.ends c.args.number (forms.act c.in-Act.act)
@@ -58,7 +59,7 @@ returns-in-Act g c = record {
 pub returns-in-Ask : goal.returns-in-Ask
 returns-in-Ask g c = record {
   honest = search rules;
-  cause = search rules;
+  cause = link-cause c.carry_ask.result _ _ _ c.carry_ask.ensures.cause;
   follows = λ state0 up0 down0 run. c.carry_ask.ensures.follows state0 up0 down0
       (run-fewer state0 up0 down0 _ _ c.args.ends.now run);
   some = none-printed c.carry_ask.result _;
@@ -71,7 +72,7 @@ returns-in-Ask g c = record {
 pub returns-in-Raw : goal.returns-in-Raw
 returns-in-Raw g c = record {
   honest = search rules;
-  cause = search rules;
+  cause = link-cause c.carry_raw.result _ _ _ c.carry_raw.ensures.cause;
   follows = λ state0 up0 down0 run. c.carry_raw.ensures.follows state0 up0 down0
       (run-fewer state0 up0 down0 _ _ c.args.ends.now run);
   some = none-printed c.carry_raw.result _;
@@ -84,7 +85,7 @@ returns-in-Raw g c = record {
 pub returns-in-Up : goal.returns-in-Up
 returns-in-Up g c = record {
   honest = search rules;
-  cause = search rules;
+  cause = link-cause c.deliver_up.result _ _ _ c.deliver_up.ensures.cause;
   follows = λ state0 up0 down0 run. c.deliver_up.ensures.follows state0 up0 down0
       (run-fewer state0 up0 down0 _ _ c.args.ends.now run);
   some = none-printed c.deliver_up.result _;
@@ -97,7 +98,7 @@ returns-in-Up g c = record {
 pub returns-in-Down : goal.returns-in-Down
 returns-in-Down g c = record {
   honest = search rules;
-  cause = search rules;
+  cause = link-cause c.deliver_down.result _ _ _ c.deliver_down.ensures.cause;
   follows = λ state0 up0 down0 run. c.deliver_down.ensures.follows state0 up0 down0
       (run-fewer state0 up0 down0 _ _ c.args.ends.now run);
   some = none-printed c.deliver_down.result _;
@@ -110,7 +111,7 @@ returns-in-Down g c = record {
 pub returns-in-Settle : goal.returns-in-Settle
 returns-in-Settle g c = record {
   honest = search rules;
-  cause = search rules;
+  cause = link-cause c.settle.result _ _ _ c.settle.ensures.cause;
   follows = λ state0 up0 down0 run. c.settle.ensures.follows state0 up0 down0
       (run-fewer state0 up0 down0 _ _ c.args.ends.now run);
   some = none-printed c.settle.result _;
@@ -123,7 +124,7 @@ returns-in-Settle g c = record {
 pub returns-in-ShowFront : goal.returns-in-ShowFront
 returns-in-ShowFront g c = record {
   honest = search rules;
-  cause = search rules;
+  cause = c.show_front.ensures.cause;
   follows = λ state0 up0 down0 run. c.show_front.ensures.follows state0 up0 down0
       (run-fewer state0 up0 down0 _ _ c.args.ends.now run);
   some = c.show_front.ensures.some;
@@ -134,7 +135,7 @@ returns-in-ShowFront g c = record {
 pub returns-in-ShowPage : goal.returns-in-ShowPage
 returns-in-ShowPage g c = record {
   honest = search rules;
-  cause = search rules;
+  cause = sink-cause c.print_page.result _ _ _ c.print_page.ensures.cause;
   follows = λ state0 up0 down0 run.
       kept-run c.print_page.result state0 up0 down0 _ _ c.args.ends.now c.print_page.ensures.never
       (run-fewer state0 up0 down0 _ _ c.args.ends.now run);
@@ -148,7 +149,7 @@ returns-in-ShowPage g c = record {
 pub returns-in-ShowReplies : goal.returns-in-ShowReplies
 returns-in-ShowReplies g c = record {
   honest = search rules;
-  cause = search rules;
+  cause = c.show_replies.ensures.cause;
   follows = λ state0 up0 down0 run. c.show_replies.ensures.follows state0 up0 down0
       (run-fewer state0 up0 down0 _ _ c.args.ends.now run);
   some = c.show_replies.ensures.some;
@@ -159,7 +160,7 @@ returns-in-ShowReplies g c = record {
 pub returns-in-ShowSheets : goal.returns-in-ShowSheets
 returns-in-ShowSheets g c = record {
   honest = search rules;
-  cause = search rules;
+  cause = c.show_sheets.ensures.cause;
   follows = λ state0 up0 down0 run. c.show_sheets.ensures.follows state0 up0 down0
       (run-fewer state0 up0 down0 _ _ c.args.ends.now run);
   some = c.show_sheets.ensures.some;
@@ -171,7 +172,7 @@ returns-in-ShowSheets g c = record {
 pub returns-in-ShowPauses : goal.returns-in-ShowPauses
 returns-in-ShowPauses g c = record {
   honest = search rules;
-  cause = search rules;
+  cause = c.show_pauses.ensures.cause;
   follows = λ state0 up0 down0 run. c.show_pauses.ensures.follows state0 up0 down0
       (run-fewer state0 up0 down0 _ _ c.args.ends.now run);
   some = c.show_pauses.ensures.some;
@@ -183,7 +184,7 @@ returns-in-ShowPauses g c = record {
 pub returns-in-ShowPanels : goal.returns-in-ShowPanels
 returns-in-ShowPanels g c = record {
   honest = search rules;
-  cause = search rules;
+  cause = c.show_panels.ensures.cause;
   follows = λ state0 up0 down0 run. c.show_panels.ensures.follows state0 up0 down0
       (run-fewer state0 up0 down0 _ _ c.args.ends.now run);
   some = c.show_panels.ensures.some;

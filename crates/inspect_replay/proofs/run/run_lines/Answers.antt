@@ -1,6 +1,6 @@
 -- Each line is carried out in its turn.
 use Rattle.pipe_frames.proofs.WholeLemmas.{Appends-nil}
-use Rattle.std.proofs.Common.{rules, ◌≡◌, suc, refl, [], ◌∷◌, ap, arith, length}
+use Rattle.std.proofs.Common.{rules, ◌≡◌, ◌∙◌, suc, refl, [], ◌∷◌, ap, arith, length, Err}
 use Rattle.replay_script.specs.Seen.{seen}
 use Rattle.inspect_world.specs.Costs.{line_bytes}
 use Rattle.inspect_world.specs.Links.{run_started}
@@ -9,6 +9,7 @@ use Rattle.inspect_replay.specs.Moments.{moment}
 use Rattle.inspect_replay.specs.Followed.{fold_since}
 use Rattle.inspect_replay.proofs.LinesRun.{run-on, run-stops, read-stops, lines-done, with_lines, run-later, whole_of}
 use Rattle.inspect_replay.proofs.LinesTell.{carried-first, carried-lines, carried-on, ok-lacks, line-stops, read-tells, carried-all}
+use Rattle.inspect_replay.proofs.LinesRun.{later-cause, unread-cause}
 use Rattle.inspect_replay.proofs.LinesTell.{carried-tells}
 use Rattle.inspect_replay.proofs.FollowLemmas.{run-good, run-line, more-printed, read-folds}
 use Rattle.inspect_replay.proofs.run.run_lines.Goals as goal
@@ -18,8 +19,8 @@ loop-text-init g c = (
   omega arith,
   omega arith,
   (λ h. h),
-  omega arith,
-  omega arith,
+  refl,
+  refl,
   λ up0 down0 w play. record {
     world = w;
     in_play = play;
@@ -40,7 +41,7 @@ carry_out-carried-requires g c = later_line c.loop-text.number c.in-Some.text.no
 pub returns-in-Err : goal.returns-in-Err
 returns-in-Err g c = record {
   honest = search rules;
-  cause = search rules;
+  cause = unread-cause c.in-Err.stop c.loop-text.number _ _ _ _ _ c.loop-text.invariant.3 c.loop-text.invariant.4 c.in-Err.ensures.bad;
   follows = λ begun up0 down0 run.
       let before = carried-lines begun up0 down0 (g.L.Link.up c.loop-text.link)
       (g.L.Link.down c.loop-text.link) c.args.lines c.loop-text.number c.loop-text.lines
@@ -67,7 +68,8 @@ returns-in-Err g c = record {
 pub returns-in-Err-carried : goal.returns-in-Err-carried
 returns-in-Err-carried g c = record {
   honest = search rules;
-  cause = search rules;
+  cause = later-cause (Err c.in-Err-carried.stop) _ _ _ _ _ _ c.loop-text.invariant.3 c.loop-text.invariant.4
+      (c.in-Err-carried.ensures {u = tt}).plays.cause;
   follows = λ begun up0 down0 run.
       let more = c.next_line.new.lines in
       let before = carried-lines begun up0 down0 (g.L.Link.up c.loop-text.link)
@@ -113,8 +115,8 @@ loop-text-preserved g c =
       omega (arith, c.loop-text.invariant.0),
       omega (arith, c.loop-text.invariant.1, count),
       (λ h. c.carry_out-carried.ensures.plays.honest (c.loop-text.invariant.2 h)),
-      omega (arith, c.loop-text.invariant.3, carried.plays.cause.sink_later),
-      omega (arith, c.loop-text.invariant.4, carried.plays.cause.link_later),
+      carried.plays.cause.others.1 ∙ c.loop-text.invariant.3,
+      carried.plays.cause.others.2 ∙ c.loop-text.invariant.4,
       λ up0 down0 w play.
           run-on (g.L.Link.honest c.loop-text.link) (g.L.Link.honest c.carry_out-carried.new.link) up0 down0
           (g.L.Link.up c.loop-text.link) (g.L.Link.down c.loop-text.link) (g.L.Link.up c.carry_out-carried.new.link)
@@ -145,7 +147,12 @@ loop-text-preserved g c =
 pub returns : goal.returns
 returns g c = record {
   honest = search rules;
-  cause = search rules;
+  cause = record {
+    sink_later = omega (arith, c.loop-text.invariant.3);
+    link_later = omega (arith, c.loop-text.invariant.4);
+    rose = tt;
+    others = (refl, c.loop-text.invariant.3, c.loop-text.invariant.4);
+  };
   follows = λ begun up0 down0 run.
       let new = record (moment (g.L.Link.honest c.loop-text.link) (g.L.Link.up c.loop-text.link) (g.L.Link.down c.loop-text.link)
       c.loop-text.ends) { faults = g.L.Link.faults c.loop-text.link } in

@@ -1,5 +1,5 @@
 -- The lines so far were good, and the run has come to where they take it.
-use Rattle.std.proofs.Common.{◌≤◌, ◌+◌, [], length}
+use Rattle.std.proofs.Common.{◌≡◌, ◌≤◌, ◌+◌, [], length}
 use Rattle.pipe_frames.specs.Pipe.{Pipe}
 use Rattle.inspect_world.specs.Costs.{line_bytes}
 use Rattle.inspect_world.specs.World.{World}
@@ -16,8 +16,8 @@ invariant-loop-text g l =
     (2 ≤ l.number)
     × (l.number + length l.lines ≤ 2 + length l.initial.lines)
     × (g.L.Link.honest l.initial.link → g.L.Link.honest l.link)
-    × (g.K.Sink.faults l.initial.out ≤ g.K.Sink.faults l.out)
-    × (g.L.Link.faults l.initial.link ≤ g.L.Link.faults l.link)
+    × (g.K.Sink.faults l.out ≡ g.K.Sink.faults l.initial.out)
+    × (g.L.Link.faults l.link ≡ g.L.Link.faults l.initial.link)
     × ((up0 down0 : Pipe) (w : World RunState)
     → InPlay (g.L.Link.honest l.initial.link) up0 down0 (g.L.Link.up l.initial.link) (g.L.Link.down l.initial.link)
     (line_bytes l.initial.lines) w l.initial.ends

@@ -163,4 +163,4 @@ returns-in-Ok-clause-cause g c =
     let ran = (c.in-Ok.ensures {u = c.in-Ok.field-0}).cause in
     closed-cause c.close.result (g.K.Sink.faults c.args.out.now) (g.K.Sink.faults c.run_lines.new.out) (g.K.Sink.faults c.close.new.out)
     (g.L.Link.faults c.args.link.now) (g.L.Link.faults c.run_lines.new.link)
-    (g.L.Link.faults c.close.new.link) ran.sink_later ran.link_later c.close.ensures.cause
+    (g.L.Link.faults c.close.new.link) ran.others.1 ran.others.2 c.close.ensures.cause

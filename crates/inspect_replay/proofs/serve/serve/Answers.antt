@@ -2,6 +2,7 @@
 use Rattle.std.proofs.Common.{Err, sym, subst}
 use Rattle.inspect_replay.specs.Serving.{ServeCall, ServeTook}
 use Rattle.inspect_replay.proofs.ServeEnds.{stop-served, served-reads}
+use Rattle.inspect_replay.proofs.FaultAnswers.{stop-answers}
 use Rattle.inspect_replay.proofs.serve.serve.Goals as goal
 
 pub returns-in-Err-clause-took : goal.returns-in-Err-clause-took
@@ -24,3 +25,6 @@ returns-in-Err-clause-reads g c =
       taken_after = g.K.Sink.taken c.serve_source.new.out;
     } in
     served-reads call (Err c.in-Err.stop) c.in-Err.ensures.served
+
+pub returns-in-Err-clause-answered : goal.returns-in-Err-clause-answered
+returns-in-Err-clause-answered g c = stop-answers _ c.in-Err.stop c.status_of.result c.status_of.ensures c.in-Err.ensures.cause.others

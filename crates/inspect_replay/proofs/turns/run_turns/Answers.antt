@@ -1,5 +1,5 @@
 -- Each line is carried out in its turn.
-use Rattle.std.proofs.Common.{◌+◌, refl, ap, arith, length}
+use Rattle.std.proofs.Common.{◌+◌, ◌∙◌, refl, ap, arith, length}
 use Rattle.replay_script.specs.Seen.{seen}
 use Rattle.inspect_world.specs.Costs.{lines_cost}
 use Rattle.drill_script.proofs.LineKindLaws.{line-shows}
@@ -13,7 +13,7 @@ pub loop-line-init : goal.loop-line-init
 loop-line-init g c = (
   c.requires,
   (λ h. h),
-  omega arith,
+  refl,
   (λ state0 up0 down0 run. run),
   λ up0 down0 more w play. record { world = w; in_play = play; leads = refl },
 )
@@ -49,7 +49,7 @@ loop-line-preserved g c =
     let carried = c.in-Ok.ensures {u = c.in-Ok.field-0} in (
       (rest-drill c.loop-line.drill line more first c.loop-line.invariant.0).1,
       (λ h. c.carry_plain-carried.ensures.honest (c.loop-line.invariant.1 h)),
-      omega (arith, c.loop-line.invariant.2, c.carry_plain-carried.ensures.cause.link_later),
+      carried.cause.others.2 ∙ c.loop-line.invariant.2,
       (λ state0 up0 down0 run.
           (carried.follows (lines_more (length more) state0) up0 down0
           (follow-line state0 up0 down0 _ _ c.loop-line.ends c.loop-line.drill line more first

@@ -1,5 +1,5 @@
 -- The lines that are left lead on from where the run has come to.
-use Rattle.std.proofs.Common.{◌≤◌, ◌+◌, ℕ, length}
+use Rattle.std.proofs.Common.{◌≡◌, ◌+◌, ℕ, length}
 use Rattle.pipe_frames.specs.Pipe.{Pipe}
 use Rattle.drill_script.specs.LineKinds.{AreDrillLines}
 use Rattle.inspect_world.specs.Costs.{lines_cost}
@@ -16,7 +16,7 @@ abbrev pub invariant-loop-line : goal.invariant-loop-line
 invariant-loop-line g l =
     AreDrillLines l.drill
     × (g.L.Link.honest l.initial.link → g.L.Link.honest l.link)
-    × (g.L.Link.faults l.initial.link ≤ g.L.Link.faults l.link)
+    × (g.L.Link.faults l.link ≡ g.L.Link.faults l.initial.link)
     × ((state0 : Started) (up0 down0 : Pipe)
     → FollowsRun (lines_more (length l.initial.drill) state0) up0 down0 (g.L.Link.up l.initial.link) (g.L.Link.down l.initial.link)
     l.initial.ends

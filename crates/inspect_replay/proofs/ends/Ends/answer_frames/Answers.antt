@@ -1,5 +1,5 @@
 -- Each frame that is answered takes the run on.
-use Rattle.std.proofs.Common.{rules, ◌∷◌, arith, refl, sym, ap, ◌∙◌, Err, Ok}
+use Rattle.std.proofs.Common.{rules, ◌∷◌, refl, sym, ap, ◌∙◌, Err, Ok}
 use Rattle.pipe_frames.specs.Frames.{Frames}
 use Rattle.inspect_world.specs.World.{answered}
 use Rattle.inspect_world.specs.RunStates.{run_step}
@@ -31,7 +31,7 @@ returns-in-Err g c = record {
 pub loop-frame-preserved : goal.loop-frame-preserved
 loop-frame-preserved g c = (
   λ h. c.answer.ensures.goes.honest (c.loop-frame.invariant.0 h),
-  omega (arith, c.loop-frame.invariant.1, c.answer.ensures.goes.cause.link_later),
+  (c.in-Ok.ensures {u = c.in-Ok.field-0}).goes.cause.others.2 ∙ c.loop-frame.invariant.1,
   λ up0 down0 w run.
       let both = answer_turn (Ok c.in-Ok.field-0) _ _ up0 down0 (g.L.Link.up c.loop-frame.link) (g.L.Link.down c.loop-frame.link)
       (g.L.Link.up c.answer.new.link) (g.L.Link.down c.answer.new.link)

@@ -1,5 +1,5 @@
 -- Each frame that is answered takes the run on to where all frames take it.
-use Rattle.std.proofs.Common.{◌≤◌, length}
+use Rattle.std.proofs.Common.{◌≡◌, length}
 use Rattle.pipe_frames.specs.Pipe.{Pipe}
 use Rattle.inspect_world.specs.World.{World, answered}
 use Rattle.inspect_world.specs.Links.{Started}
@@ -12,7 +12,7 @@ use Rattle.inspect_replay.proofs.ends.Ends.answer_frames.Given as goal
 abbrev pub invariant-loop-frame : goal.invariant-loop-frame
 invariant-loop-frame g l =
     (g.L.Link.honest l.initial.link → g.L.Link.honest l.link)
-    × (g.L.Link.faults l.initial.link ≤ g.L.Link.faults l.link)
+    × (g.L.Link.faults l.link ≡ g.L.Link.faults l.initial.link)
     × ((up0 down0 : Pipe) (w : World RunState)
     → InRunWith (g.L.Link.honest l.initial.link) up0 down0 (g.L.Link.up l.initial.link) (g.L.Link.down l.initial.link) w l.initial.self
     → Answering (g.L.Link.honest l.link) up0 down0 (g.L.Link.up l.link) (g.L.Link.down l.link)

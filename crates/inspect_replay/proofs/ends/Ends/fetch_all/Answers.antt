@@ -1,5 +1,5 @@
 -- Each text that is fetched takes the run on.
-use Rattle.std.proofs.Common.{rules, get_or, arith, refl, Ok, Err, [], drop}
+use Rattle.std.proofs.Common.{rules, get_or, ◌∙◌, refl, Ok, Err, [], drop}
 use Rattle.std.proofs.lemmas.List.{drop_all}
 use Rattle.front_mirror.specs.Front.{first_value}
 use Rattle.inspect_world.specs.Fetches.{all_fetched}
@@ -28,7 +28,7 @@ returns-in-Err g c = record {
 pub loop-number-preserved : goal.loop-number-preserved
 loop-number-preserved g c = (
   λ h. c.fetch_if_known.ensures.honest (c.loop-number.invariant.0 h),
-  omega (arith, c.loop-number.invariant.1, c.fetch_if_known.ensures.cause.link_later),
+  (c.in-Ok.ensures {u = c.in-Ok.field-0}).cause.others.2 ∙ c.loop-number.invariant.1,
   λ up0 down0 w few run.
       (fetch_turn (Ok c.in-Ok.field-0) (g.L.Link.honest c.loop-number.link) (g.L.Link.honest c.fetch_if_known.new.link) up0 down0
       (g.L.Link.up c.loop-number.link) (g.L.Link.down c.loop-number.link) (g.L.Link.up c.fetch_if_known.new.link)

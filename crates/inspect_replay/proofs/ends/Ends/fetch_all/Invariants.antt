@@ -1,5 +1,5 @@
 -- The texts so far were fetched, and those that are left take the run to where all take it.
-use Rattle.std.proofs.Common.{◌≤◌, ◌+◌, [], length, drop}
+use Rattle.std.proofs.Common.{◌≡◌, ◌≤◌, ◌+◌, [], length, drop}
 use Rattle.pipe_frames.specs.Pipe.{Pipe}
 use Rattle.front_mirror.specs.Front.{first_value}
 use Rattle.inspect_world.specs.World.{World}
@@ -16,7 +16,7 @@ use Rattle.inspect_replay.proofs.ends.Ends.fetch_all.Given as goal
 abbrev pub invariant-loop-number : goal.invariant-loop-number
 invariant-loop-number g l =
     (g.L.Link.honest l.initial.link → g.L.Link.honest l.link)
-    × (g.L.Link.faults l.initial.link ≤ g.L.Link.faults l.link)
+    × (g.L.Link.faults l.link ≡ g.L.Link.faults l.initial.link)
     × ((up0 down0 : Pipe) (w : World RunState) → w.spent.fetches + length l.numbers ≤ most_fetches
     → InRun (g.L.Link.honest l.initial.link) up0 down0 (g.L.Link.up l.initial.link) (g.L.Link.down l.initial.link) w l.initial.self
     → Fetching (g.L.Link.honest l.link) up0 down0 (g.L.Link.up l.link) (g.L.Link.down l.link)

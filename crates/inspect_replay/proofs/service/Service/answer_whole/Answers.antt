@@ -1,5 +1,5 @@
 -- Each frame that is answered is one more of those that were whole.
-use Rattle.std.proofs.Common.{◌∷◌, arith, refl, sym, ap, ◌∙◌}
+use Rattle.std.proofs.Common.{◌∷◌, refl, sym, ap, ◌∙◌}
 use Rattle.pipe_frames.specs.Frames.{Frames}
 use Rattle.inspect_replay.specs.Serving.{serve_moment}
 use Rattle.inspect_replay.proofs.ServeLemmas.{one-answered, one-in-part, all-answered}
@@ -16,7 +16,7 @@ returns-in-Err-clause-answers g c = λ state stands.
 pub loop-frame-preserved : goal.loop-frame-preserved
 loop-frame-preserved g c = record {
   rest = ap (λ (f : Frames). f.rest) c.answer.ensures.same ∙ c.in-Some.ensures.rest ∙ c.loop-frame.invariant.rest;
-  later = omega (arith, c.loop-frame.invariant.later, c.answer.ensures.cause.later);
+  same = (c.in-Ok.ensures {u = c.in-Ok.field-0}).cause.others.1 ∙ c.loop-frame.invariant.same;
   answers = λ state stands.
       one-answered (serve_moment c.loop-frame.self (g.K.Sink.taken c.loop-frame.out))
       (serve_moment c.answer.new.self (g.K.Sink.taken c.answer.new.out)) state c.args.self.now.splitter.whole

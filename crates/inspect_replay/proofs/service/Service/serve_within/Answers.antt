@@ -1,5 +1,5 @@
 -- Each piece that came was answered, up to as many bytes as an input may have.
-use Rattle.std.proofs.Common.{◌≤◌, ◌+◌, ◌^◌, length, arith}
+use Rattle.std.proofs.Common.{◌≤◌, ◌+◌, ◌^◌, ◌∙◌, length, arith, refl}
 use Rattle.std.proofs.lemmas.List.{length-take}
 use Rattle.inspect_replay.specs.Serving.{serve_moment}
 use Rattle.inspect_replay.proofs.ServeLemmas.{serves-nothing}
@@ -9,10 +9,11 @@ use Rattle.inspect_replay.proofs.service.Service.serve_within.Goals as goal
 
 pub loop-came-init : goal.loop-came-init
 loop-came-init g c = record {
-  so_far = nothing-came (g.S.Source.calls c.args.src.now) (g.S.Source.left c.args.src.now) (serve_moment c.args.self.now (g.K.Sink.taken c.args.out.now))
+  so_far = nothing-came (g.S.Source.calls c.args.src.now) (g.S.Source.left c.args.src.now)
+      (serve_moment c.args.self.now (g.K.Sink.taken c.args.out.now))
       (serves-nothing c.args.self.now (g.K.Sink.taken c.args.out.now) c.requires.first);
-  source_later = omega arith;
-  sink_later = omega arith;
+  source_same = refl;
+  sink_same = refl;
 }
 
 pub returns-in-Ok-eq0-clause-served : goal.returns-in-Ok-eq0-clause-served
@@ -26,7 +27,8 @@ returns-in-Ok-eq0-clause-served g c =
     (g.K.Sink.taken c.args.out.now)
     (serve_moment c.loop-came.self (g.K.Sink.taken c.loop-came.out))
     (serve_moment c.serve_piece.new.self (g.K.Sink.taken c.serve_piece.new.out))
-    c.loop-came.came c.in-Ok-eq0.field-0 (length c.serve_piece.new.buf) so_far piece room c.serve_piece.ensures.counted) (piece.ends c.in-Ok-eq0.field-0-test)
+    c.loop-came.came c.in-Ok-eq0.field-0 (length c.serve_piece.new.buf) so_far piece room c.serve_piece.ensures.counted)
+    (piece.ends c.in-Ok-eq0.field-0-test)
 
 pub overflow_add-came : goal.overflow_add-came
 overflow_add-came g c =
@@ -47,15 +49,16 @@ loop-came-preserved g c =
           (serve_moment c.serve_piece.new.self (g.K.Sink.taken c.serve_piece.new.out))
           c.loop-came.came c.in-Ok.count (length c.serve_piece.new.buf) so_far (c.in-Ok.ensures.served _ so_far.serves) room
           c.serve_piece.ensures.counted;
-      source_later = omega (arith, c.loop-came.invariant.source_later, c.serve_piece.ensures.cause.source_later);
-      sink_later = omega (arith, c.loop-came.invariant.sink_later, c.serve_piece.ensures.cause.sink_later);
+      source_same = c.in-Ok.ensures.cause.others.0 ∙ c.loop-came.invariant.source_same;
+      sink_same = c.in-Ok.ensures.cause.others.1 ∙ c.loop-came.invariant.sink_same;
     }
 
 pub returns-in-Err-clause-served : goal.returns-in-Err-clause-served
 returns-in-Err-clause-served g c =
     let so_far = c.loop-came.invariant.so_far in
     let room : c.loop-came.came + length c.serve_piece.new.buf ≤ 2 ^ 26 = grind (arith, length-take) in
-    loop-stopped (g.S.Source.calls c.args.src.now) (g.S.Source.calls c.loop-came.src) (g.S.Source.left c.args.src.now) (g.S.Source.left c.loop-came.src) (g.S.Source.left c.serve_piece.new.src)
+    loop-stopped (g.S.Source.calls c.args.src.now) (g.S.Source.calls c.loop-came.src) (g.S.Source.left c.args.src.now)
+    (g.S.Source.left c.loop-came.src) (g.S.Source.left c.serve_piece.new.src)
     (g.K.Sink.taken c.args.out.now)
     (serve_moment c.loop-came.self (g.K.Sink.taken c.loop-came.out))
     (serve_moment c.serve_piece.new.self (g.K.Sink.taken c.serve_piece.new.out))
@@ -64,7 +67,8 @@ returns-in-Err-clause-served g c =
 pub returns-clause-served : goal.returns-clause-served
 returns-clause-served g c =
     let full : 2 ^ 26 ≤ c.loop-came.came = omega (arith, c.loop-came-test.false) in
-    loop-full (g.S.Source.calls c.args.src.now) (g.S.Source.calls c.loop-came.src) (g.S.Source.left c.args.src.now) (g.S.Source.left c.loop-came.src) (g.S.Source.left c.end_of_input.new.src)
+    loop-full (g.S.Source.calls c.args.src.now) (g.S.Source.calls c.loop-came.src) (g.S.Source.left c.args.src.now)
+    (g.S.Source.left c.loop-came.src) (g.S.Source.left c.end_of_input.new.src)
     (g.K.Sink.taken c.args.out.now)
     (serve_moment c.loop-came.self
     (g.K.Sink.taken c.loop-came.out)) c.loop-came.came c.end_of_input.result c.loop-came.invariant.so_far full c.end_of_input.ensures.met
