@@ -1,17 +1,20 @@
 -- From the top down and from the bottom up.
-use Rattle.std.proofs.Common.{◌≡◌, ℕ, ◌+◌, ◌≤◌, ◌==◌, Bool, true, false, cond, List, [], ◌∷◌, ◌++◌, map, reverse, Option, Some, None}
-use Rattle.std.proofs.Common.{unwrap_or, filter, not, IsSome, refl, sym, ap, ◌∙◌, arith}
+use Rattle.std.proofs.Common.{◌≡◌, ◌≢◌, ℕ, zero, suc, ◌+◌, ◌<◌, ◌≤◌, ◌==◌, Bool, true, false, cond, List, [], ◌∷◌, ◌++◌, map, reverse}
+use Rattle.std.proofs.Common.{Option, Some, None}
+use Rattle.std.proofs.Common.{unwrap_or, filter, not, length, IsSome, refl, sym, ap, subst, ◌∙◌, arith}
+use Rattle.std.proofs.lemmas.Bool.{eqb-true, ne_eqb}
 use Rattle.std.specs.List.{find}
 use Rattle.std.specs.Option.{option_map, is_some}
 use Rattle.std.proofs.lemmas.List.{append_assoc, append-nil, map-append, reverse-append, reverse-reverse}
 use Rattle.node_tree.specs.Nodes.{Nodes, none, node, Branch, alone}
 use Rattle.node_tree.specs.Keys.{has, tally, first_of}
 use Rattle.node_tree.proofs.KeyLemmas.{has-find, has-absent}
-use Rattle.page_tree.specs.Pages.{PageRow, row_serial, find_in, node_at}
-use Rattle.page_tree.proofs.ZipperLemmas.{find-append, branch-found, AreApart, IsOf, find-of, of-find}
-use Rattle.page_tree.proofs.SiblingLemmas.{live-of}
-use Rattle.select_match.proofs.WalkLemmas.{from, ancestors-from, walk-start, walk-step}
-use Rattle.page_tree.specs.Zippers.{Generation, Zipper, ancestors, ancestors_in, parent_of, serial_of, all_in, has_serial, zipper_at, find_zipper, root_of}
+use Rattle.page_tree.specs.Pages.{PageRow, row_serial, find_in, node_at, parent_at, times_in}
+use Rattle.page_tree.proofs.ZipperLemmas.{find-append, branch-found, AreApart, IsOf, find-of, of-find, some_times, serial_above}
+use Rattle.page_tree.proofs.SiblingLemmas.{live-of, parent_at-of, parent_by, at_top, under}
+use Rattle.select_match.proofs.WalkLemmas.{from, ancestors-from, walk-start}
+use Rattle.page_tree.specs.Zippers.{Generation, Zipper, ancestors, ancestors_in, parent_of, serial_of, all_in, has_serial, zipper_at}
+use Rattle.page_tree.specs.Zippers.{zippers, find_zipper, root_of}
 use Rattle.dom_agent.specs.Requests.{Opening, ancestors_down, pushing}
 use Rattle.dom_agent.specs.Climbs.{climbed, unopened_at, up_openings}
 
@@ -105,7 +108,8 @@ filtered-append : (q : Branch PageRow → Bool) (xs ys : List (Branch PageRow)) 
 filtered-append q [] ys = refl
 filtered-append q (x ∷ xs) ys = ap (λ (l : List (Branch PageRow)). cond (q x) (x ∷ l) l) (filtered-append q xs ys) ∙ by (q x)
   where
-    by : (b : Bool) → cond b (x ∷ (filter q xs ++ filter q ys)) (filter q xs ++ filter q ys) ≡ cond b (x ∷ filter q xs) (filter q xs) ++ filter q ys
+    by : (b : Bool)
+        → cond b (x ∷ (filter q xs ++ filter q ys)) (filter q xs ++ filter q ys) ≡ cond b (x ∷ filter q xs) (filter q xs) ++ filter q ys
     by true = refl
     by false = refl
 
@@ -166,25 +170,105 @@ of-live tree s live = of-find tree s (zipper_at s tree) (at_some s tree (find_zi
         is_none None f h = absurd (cc)
         is_none (Some b) f h = absurd (cc)
 
--- a walk up, a node further
-pub climb-step : (o : ℕ → Bool) (tree : Branch PageRow) → AreApart tree → (at : Option Zipper) (q : Zipper) (next : Option Zipper)
-    → at ≡ Some q → next ≡ parent_of q → IsOf tree q → (old new whole : List Opening) (serial : ℕ) → serial ≡ serial_of q
-    → new ≡ old ++ unopened_at o serial (node_at serial tree) → old ++ up_openings o (from ancestors at) ≡ whole
-    → new ++ up_openings o (from ancestors next) ≡ whole
-climb-step o tree apart at q next is step fits old new whole serial same added inv =
-    let rest = up_openings o (from ancestors next) in
-    ap (λ (l : List Opening). l ++ rest) added
-    ∙ append_assoc old (unopened_at o serial (node_at serial tree)) rest
-    ∙ ap (λ (n : ℕ). old ++ (unopened_at o n (node_at n tree) ++ rest)) same
-    ∙ ap (λ (l : List Opening). old ++ l) (sym (up-one o tree q (from ancestors next) (node-of tree apart q fits)))
-    ∙ ap (λ (zs : List Zipper). old ++ up_openings o zs) (sym (walk-step ancestors ancestors-from at q next is step))
-    ∙ inv
+-- ---- a walk up by serials
 
-pub climb-start : (o : ℕ → Bool) (z w : Zipper) (at : Option Zipper) (old : List Opening) → z ≡ w → at ≡ parent_of z
-    → old ++ up_openings o (from ancestors at) ≡ old ++ up_openings o (ancestors w)
-climb-start o z w at old same e =
-    ap (λ (zs : List Zipper). old ++ up_openings o zs) (walk-start ancestors ancestors-from z at e)
-    ∙ ap (λ (v : Zipper). old ++ up_openings o (ancestors v)) same
+-- the node of that serial and those above it; none where the serial is 0
+abbrev pub climb_at : ℕ → Branch PageRow → List Zipper
+climb_at serial tree = cond (serial == 0) [] (zipper_at serial tree ∷ ancestors (zipper_at serial tree))
+
+climb-found : (tree : Branch PageRow) (k : ℕ) (p : Zipper) → 1 ≤ k → find_zipper k tree ≡ Some p → climb_at k tree ≡ p ∷ ancestors p
+climb-found tree k p some e =
+    ap (λ (b : Bool). cond b [] (zipper_at k tree ∷ ancestors (zipper_at k tree)))
+    (ne_eqb k 0 (λ (is : k ≡ 0). no_zero k some is))
+    ∙ ap (λ (o : Option Zipper). unwrap_or o (root_of tree) ∷ ancestors (unwrap_or o (root_of tree))) e
+  where
+    no_zero : (k : ℕ) → 1 ≤ k → k ≢ 0
+    no_zero k h is = absurd (omega arith)
+
+found_at : (tree : Branch PageRow) (s : ℕ) → IsSome (find_in s tree) → find_zipper s tree ≡ Some (zipper_at s tree)
+found_at tree s live =
+    at_some s tree (find_zipper s tree) refl
+    (ap (λ (o : Option (Branch PageRow)). is_some o) (sym (branch-found s [] [] (alone tree))) ∙ live)
+
+-- the first of that serial has that serial
+serial_by : (k : ℕ) (y : Zipper) (rest : Option Zipper) (z : Zipper) (b : Bool) → (rest ≡ Some z → serial_of z ≡ k)
+    → (serial_of y == k) ≡ b → cond b (Some y) rest ≡ Some z → serial_of z ≡ k
+serial_by k y rest z true later is f = let same : y ≡ z = cc in ap serial_of (sym same) ∙ eqb-true (serial_of y) k is
+serial_by k y rest z false later is f = later f
+
+first_serial : (k : ℕ) (zs : List Zipper) (z : Zipper) → find (has_serial k) zs ≡ Some z → serial_of z ≡ k
+first_serial k [] z e = absurd (cc)
+first_serial k (y ∷ ys) z e =
+    serial_by k y (find (has_serial k) ys) z (serial_of y == k) (λ later. first_serial k ys z later) refl e
+
+found_serial : (tree : Branch PageRow) (k : ℕ) (z : Zipper) → find_zipper k tree ≡ Some z → serial_of z ≡ k
+found_serial tree k z e = first_serial k (zippers tree) z e
+
+past_zero : (k : ℕ) → k ≢ 0 → 1 ≤ k
+past_zero zero some = absurd (some refl)
+past_zero (suc k) some = omega arith
+
+module _ (tree : Branch PageRow) (apart : AreApart tree) (least : (s : ℕ) → 0 < times_in s tree → 1 ≤ s) where
+  -- what stands above a node is its parent, by the serial, and what stands above that
+  pub climb-parent : (s : ℕ) → IsSome (find_in s tree) → ancestors (zipper_at s tree) ≡ climb_at (parent_at s tree) tree
+  climb-parent s live =
+      let z = zipper_at s tree in
+      let above = walk-start ancestors ancestors-from z (parent_of z) refl in
+      let named = parent_at-of tree s z (found_at tree s live) in
+      sym above ∙ (elim (parent_by tree apart z (of-live tree s live)) [
+        | at_top is nothing ↦ ap (from ancestors) nothing ∙ sym (ap (λ (k : ℕ). climb_at k tree) (named ∙ is))
+        | under p leads is found ↦ ap (from ancestors) leads
+            ∙ sym (climb-found tree (serial_of p) p (least (serial_of p)
+            (some_times tree p (ap (λ (k : ℕ). find_zipper k tree) is ∙ found)))
+            (ap (λ (k : ℕ). find_zipper k tree) is ∙ found))
+            ∙ ap (λ (k : ℕ). climb_at k tree) (is ∙ sym named)
+      ])
+
+  -- a parent stands in the tree, if there is one
+  pub parent-there : (s : ℕ) → IsSome (find_in s tree) → parent_at s tree ≢ 0 → IsSome (find_in (parent_at s tree) tree)
+  parent-there s live some =
+      let z = zipper_at s tree in
+      let named = parent_at-of tree s z (found_at tree s live) in
+      elim (parent_by tree apart z (of-live tree s live)) [
+        | at_top is nothing ↦ absurd (some (named ∙ is))
+        | under p leads is found ↦ subst (λ (o : Option (Branch PageRow)). IsSome o)
+            (sym (ap (λ (k : ℕ). find_in k tree) named ∙ live-of tree (serial_above z.above) p found)) refl
+      ]
+
+  -- one node more
+  pub climb-step : (o : ℕ → Bool) (at next : ℕ) → at ≢ 0 → IsSome (find_in at tree) → next ≡ parent_at at tree
+      → (old new whole : List Opening) → new ≡ old ++ unopened_at o at (node_at at tree)
+      → old ++ up_openings o (climb_at at tree) ≡ whole → new ++ up_openings o (climb_at next tree) ≡ whole
+  climb-step o at next some live step old new whole added inv =
+      let z = zipper_at at tree in
+      let found = found_at tree at live in
+      let is : serial_of z ≡ at = found_serial tree at z found in
+      ap (λ (l : List Opening). l ++ up_openings o (climb_at next tree)) added
+      ∙ append_assoc old (unopened_at o at (node_at at tree)) (up_openings o (climb_at next tree))
+      ∙ ap (λ (n : ℕ). old ++ (unopened_at o n (node_at n tree) ++ up_openings o (climb_at next tree))) (sym is)
+      ∙ ap (λ (k : ℕ). old ++ (unopened_at o (serial_of z) (node_at (serial_of z) tree) ++ up_openings o (climb_at k tree))) step
+      ∙ ap (λ (zs : List Zipper). old ++ (unopened_at o (serial_of z) (node_at (serial_of z) tree) ++ up_openings o zs))
+      (sym (climb-parent at live))
+      ∙ ap (λ (l : List Opening). old ++ l) (sym (up-one o tree z (ancestors z) (node-of tree apart z (of-live tree at live))))
+      ∙ ap (λ (zs : List Zipper). old ++ up_openings o zs) (sym (climb-found tree at z (past_zero at some) found))
+      ∙ inv
+
+  -- fewer stand above the parent
+  pub climb-smaller : (at next : ℕ) → at ≢ 0 → IsSome (find_in at tree) → next ≡ parent_at at tree
+      → length (climb_at next tree) < length (climb_at at tree)
+  climb-smaller at next some live step =
+      omega (
+        arith,
+        ap (λ (k : ℕ). length (climb_at k tree)) step,
+        ap (λ (zs : List Zipper). length zs) (climb-parent at live),
+        ap (λ (zs : List Zipper). length zs) (climb-found tree at (zipper_at at tree) (past_zero at some) (found_at tree at live)),
+      )
+
+-- nothing is left above the top
+pub climb-end : (o : ℕ → Bool) (tree : Branch PageRow) (at : ℕ) (old whole : List Opening) → at ≡ 0
+    → old ++ up_openings o (climb_at at tree) ≡ whole → old ≡ whole
+climb-end o tree at old whole is inv =
+    sym (append-nil old) ∙ sym (ap (λ (k : ℕ). old ++ up_openings o (climb_at k tree)) is) ∙ inv
 
 pub climbed-turned : (o : ℕ → Bool) (s : ℕ) (tree : Branch PageRow) → has row_serial s (alone tree) ≡ true
     → tally row_serial s (alone tree) ≤ 1 → up_openings o (ancestors (zipper_at s tree)) ≡ reverse (pushing o s (alone tree))

@@ -5,7 +5,7 @@ use Rattle.std.proofs.lemmas.Bool.{eq-eqb}
 use Rattle.std.specs.Result.{OnOk, IfOk, IsOkAnd}
 use Rattle.std.specs.declared.alloc.AllocError.{AllocError}
 use Rattle.std.specs.FinMap as map
-use Rattle.node_tree.specs.Nodes.{Nodes, none, Branch, alone, from, tree_at, width}
+use Rattle.node_tree.specs.Nodes.{Nodes, none, node, Branch, alone, width}
 use Rattle.node_tree.proofs.KeyLemmas.{Stands, find-stands, stands-below}
 use Rattle.node_tree.proofs.ChangeLemmas.{at-new}
 use Rattle.page_tree.specs.Pages.{PageRow, PageValue, IsValid, row_serial, find_in, node_at, parent_at}
@@ -16,7 +16,6 @@ use Rattle.page_tree.specs.declared.edits.TreeEdit.TheVariants.{Attach, Detach}
 use Rattle.page_tree.specs.declared.edit_faults.EditErr.{EditErr}
 use Rattle.cdp_messages.specs.declared.down.Event.{Event}
 use Rattle.page_tree.proofs.ChildLemmas.{Inserted, front, behind, inserted-before, inserted-taken, stands-inserted}
-use Rattle.page_tree.proofs.CursorLemmas.{from-next}
 use Rattle.page_tree.proofs.WholeLemmas.{whole-valid}
 use Rattle.page_tree.proofs.EditLemmas.{serial-live, whole-after, valid-after}
 use Rattle.page_tree.proofs.BackLemmas.{turned-live}
@@ -50,17 +49,17 @@ by_agent page b self e edit value_is edit_is = λ k. binding_edited (sym edit_is
 
 -- ---- the sibling before
 
-module _ (ids : ℕ → ℕ) (n : Nodes PageRow) (k : ℕ) (x : Branch PageRow) (serial p q : ℕ) (inside : k < width n) (at : tree_at k n ≡ Some x)
-    (was : id_before ids p serial (from k n) ≡ q) where
-  here : cond {A = ℕ} (x.row.serial == serial) p (id_before ids (ids x.row.serial) serial (from (k + 1) n)) ≡ q
-  here = sym (ap (id_before ids p serial) (from-next n k x inside at)) ∙ was
+module _ (ids : ℕ → ℕ) (x : Branch PageRow) (n rest : Nodes PageRow) (serial p q : ℕ) (split : n ≡ node x.row x.children rest)
+    (was : id_before ids p serial n ≡ q) where
+  here : cond {A = ℕ} (x.row.serial == serial) p (id_before ids (ids x.row.serial) serial rest) ≡ q
+  here = sym (ap (id_before ids p serial) split) ∙ was
 
   pub prior_found : x.row.serial ≡ serial → p ≡ q
-  prior_found same = sym (ap (λ b. cond {A = ℕ} b p (id_before ids (ids x.row.serial) serial (from (k + 1) n)))
+  prior_found same = sym (ap (λ b. cond {A = ℕ} b p (id_before ids (ids x.row.serial) serial rest))
       (eq-eqb x.row.serial serial same)) ∙ here
 
-  pub prior_turn : (x.row.serial == serial) ≡ false → id_before ids (ids x.row.serial) serial (from (k + 1) n) ≡ q
-  prior_turn other = sym (ap (λ b. cond {A = ℕ} b p (id_before ids (ids x.row.serial) serial (from (k + 1) n))) other) ∙ here
+  pub prior_turn : (x.row.serial == serial) ≡ false → id_before ids (ids x.row.serial) serial rest ≡ q
+  prior_turn other = sym (ap (λ b. cond {A = ℕ} b p (id_before ids (ids x.row.serial) serial rest)) other) ∙ here
 
 pub prior_end : (ids : ℕ → ℕ) (left : Nodes PageRow) (serial p q : ℕ) → left ≡ none → id_before ids p serial left ≡ q → p ≡ q
 prior_end ids left serial p q framed was = sym (ap (id_before ids p serial) framed) ∙ was
@@ -100,6 +99,31 @@ module _ (page : PageValue) (valid : IsValid page) (serial : ℕ) (fits : first_
 
   pub removed_some : (parent : ℕ) → parent ≡ parent_at serial page.tree → 1 ≤ width (node_at parent page.tree).children
   removed_some parent is = omega (arith, ap (λ (p : ℕ). width (node_at p page.tree).children) is, fewer)
+
+  pub removed_tells : (n : Nodes PageRow) (b : BindingValue) (parent above id : ℕ) → parent ≡ parent_at serial page.tree
+      → opened_in b parent ≡ true → above ≡ id_in b parent → id ≡ id_in b serial
+      → ◌≡◌ {A = List Move} (change above (removes id) ∷ []) (edited (binding_keeper n) (Detach serial) page.tree b).moves
+  removed_tells n b parent above id is open_now above_is id_is =
+      let kids = children_at (parent_at serial page.tree) (after_tree (Detach serial) page.tree) in
+      let open_there : opened_in b (parent_at serial page.tree) ≡ true = ap (opened_in b) (sym is) ∙ open_now in
+      let here : serial ≡ (node_at serial page.tree).row.serial =
+      sym (serial-live serial page.tree (seen.live3 page valid serial can)) in
+      (λ k. change ((above_is ∙ ap (id_in b) is) k) (removes ((id_is ∙ ap (id_in b) here) k)) ∷ [])
+      ∙ sym (ap (λ v. cond v (change (id_in b (parent_at serial page.tree)) (removes (id_in b (node_at serial page.tree).row.serial)) ∷ [])
+      (cond (is_some (map.get b.ids (parent_at serial page.tree)))
+      (change (id_in b (parent_at serial page.tree)) (counts (width kids)) ∷ []) [])) open_there)
+
+  pub removed_untold : (n : Nodes PageRow) (b : BindingValue) (parent : ℕ) → parent ≡ parent_at serial page.tree
+      → opened_in b parent ≡ false → map.get b.ids parent ≡ None
+      → ◌≡◌ {A = List Move} [] (edited (binding_keeper n) (Detach serial) page.tree b).moves
+  removed_untold n b parent is shut unknown =
+      let kids = children_at (parent_at serial page.tree) (after_tree (Detach serial) page.tree) in
+      let shut_there : opened_in b (parent_at serial page.tree) ≡ false = ap (opened_in b) (sym is) ∙ shut in
+      let unknown_there : map.get b.ids (parent_at serial page.tree) ≡ None = ap (map.get b.ids) (sym is) ∙ unknown in
+      sym (ap (λ (o : Option ℕ). cond {A = List Move} (is_some o) (change (unwrap_or o 0) (counts (width kids)) ∷ []) []) unknown_there)
+      ∙ sym (ap (λ v. cond v (change (id_in b (parent_at serial page.tree)) (removes (id_in b (node_at serial page.tree).row.serial)) ∷ [])
+      (cond (is_some (map.get b.ids (parent_at serial page.tree)))
+      (change (id_in b (parent_at serial page.tree)) (counts (width kids)) ∷ []) [])) shut_there)
 
   pub removed_counts : (n : Nodes PageRow) (b : BindingValue) (parent above len : ℕ) → parent ≡ parent_at serial page.tree
       → opened_in b parent ≡ false → Some above ≡ map.get b.ids parent → len ≡ width (node_at parent page.tree).children

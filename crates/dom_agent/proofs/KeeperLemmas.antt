@@ -39,11 +39,11 @@ use Rattle.dom_agent.specs.Requests.{all_opened, pushed as push_of, all_pushed, 
 use Rattle.dom_agent.specs.Requests.{of_attributes}
 use Rattle.dom_agent.specs.Requests.{of_description, with_first, first_asked, all_asked, of_query, with_id, with_ids, state_after}
 use Rattle.dom_agent.specs.Requests.{opening_moves, moves_of}
-use Rattle.dom_agent.specs.Laws.{session_outcome, binding_outcome, has_depth, StaysBound, SameMoves}
+use Rattle.dom_agent.specs.Laws.{FindsInside, session_outcome, binding_outcome, has_depth, StaysBound, SameMoves}
 use Rattle.dom_agent.proofs.OpeningsLemmas.{AreOpenings, AreContainers, opened_all, request-are, pushing-are}
 use Rattle.dom_agent.proofs.StepLemmas.{Goes, goes-pushed}
 use Rattle.dom_agent.proofs.OutcomeLemmas.{containers-page, known-found, root-opened, document-left}
-use Rattle.dom_agent.proofs.QueryLemmas.{known_query, first-there}
+use Rattle.dom_agent.proofs.QueryLemmas.{query-live, known_query, first-there}
 use Rattle.dom_agent.specs.Queries.{Query, query_of, first_matching, all_matching}
 use Rattle.select_match.specs.Matches.{list_matches}
 use Rattle.cdp_messages.specs.declared.command.Why.{Why}
@@ -246,191 +246,192 @@ module _ (page : PageValue) (valid : IsValid page) where
       (alike-openings m distinct page.tree (requested o d (alone x)) o pushed since b session stands are) in
       (alike.stands, alike.shown, refl)
 
-  request_alike : (id : ℕ) (depth : Option ℤ) (pierce : Option Bool) (o : Option (ℕ → Bool)) (pushed : List ℕ) (since : ℕ)
-      (b : BindingValue) → IsSession m (record { opened = o; pushed = pushed; since = since })
-      → Stands m (record { opened = o; pushed = pushed; since = since }) b
-      → AlikeOutcomes m (session_outcome page (RequestChildNodes id depth pierce) (record { opened = o; pushed = pushed; since = since }))
-      (binding_outcome page (RequestChildNodes id depth pierce) b)
-  request_alike id depth pierce None pushed since b session stands =
-      subst (λ (serial : Option ℕ). AlikeOutcomes m
-      (session_outcome page (RequestChildNodes id depth pierce) (record { opened = None; pushed = pushed; since = since }))
-      (of_children binder page.tree depth (known_node binder page.tree b serial) b)) (sym (stands.serials_are id)) refl
-  request_alike id depth pierce (Some o) pushed since b session stands =
-      let w : Session = session_of o pushed since in
-      let found : Option (Branch PageRow) = known_node keeper page.tree w (serial_at w m id) in
-      subst (λ (f : Option (Branch PageRow)). AlikeOutcomes m (of_children keeper page.tree depth found w)
-      (of_children binder page.tree depth f b))
-      (sym (ap (known_node binder page.tree b) (stands.serials_are id) ∙ same_node w b (serial_at w m id)))
-      (children_alike depth o pushed since b session stands found
-      (known-found page valid o pushed since (serial_at w m id) (λ s e. (find-there (λ s. session_ids w s == id) (known o m) s e).0)))
+  module _ (whole : Branch PageRow) (inside : FindsInside whole page.tree) where
+    request_alike : (id : ℕ) (depth : Option ℤ) (pierce : Option Bool) (o : Option (ℕ → Bool)) (pushed : List ℕ) (since : ℕ)
+        (b : BindingValue) → IsSession m (record { opened = o; pushed = pushed; since = since })
+        → Stands m (record { opened = o; pushed = pushed; since = since }) b
+        → AlikeOutcomes m (session_outcome page whole (RequestChildNodes id depth pierce) (record { opened = o; pushed = pushed; since = since }))
+        (binding_outcome page whole (RequestChildNodes id depth pierce) b)
+    request_alike id depth pierce None pushed since b session stands =
+        subst (λ (serial : Option ℕ). AlikeOutcomes m
+        (session_outcome page whole (RequestChildNodes id depth pierce) (record { opened = None; pushed = pushed; since = since }))
+        (of_children binder page.tree depth (known_node binder page.tree b serial) b)) (sym (stands.serials_are id)) refl
+    request_alike id depth pierce (Some o) pushed since b session stands =
+        let w : Session = session_of o pushed since in
+        let found : Option (Branch PageRow) = known_node keeper page.tree w (serial_at w m id) in
+        subst (λ (f : Option (Branch PageRow)). AlikeOutcomes m (of_children keeper page.tree depth found w)
+        (of_children binder page.tree depth f b))
+        (sym (ap (known_node binder page.tree b) (stands.serials_are id) ∙ same_node w b (serial_at w m id)))
+        (children_alike depth o pushed since b session stands found
+        (known-found page valid o pushed since (serial_at w m id) (λ s e. (find-there (λ s. session_ids w s == id) (known o m) s e).0)))
 
-  push_alike : (s : ℕ) (o : ℕ → Bool) (pushed : List ℕ) (since : ℕ) (b : BindingValue) → IsSession m (session_of o pushed since)
-      → Stands m (session_of o pushed since) b → has row_serial s m ≡ true
-      → AlikeOutcomes m (with_id keeper page.tree s (push_of keeper page.tree s (session_of o pushed since)))
-      (with_id binder page.tree s (push_of binder page.tree s b))
-  push_alike s o pushed since b session stands there =
-      let alike = alike-pushed page.tree (distinct-alone page valid) (containers-page page valid) s o pushed since b session stands in
-      let id = pushed-id page.tree (distinct-alone page valid) (containers-page page valid) s o pushed since b session stands there in
-      (alike.stands, alike.shown, ap NodeId id)
+    push_alike : (s : ℕ) (o : ℕ → Bool) (pushed : List ℕ) (since : ℕ) (b : BindingValue) → IsSession m (session_of o pushed since)
+        → Stands m (session_of o pushed since) b → has row_serial s m ≡ true
+        → AlikeOutcomes m (with_id keeper page.tree s (push_of keeper page.tree s (session_of o pushed since)))
+        (with_id binder page.tree s (push_of binder page.tree s b))
+    push_alike s o pushed since b session stands there =
+        let alike = alike-pushed page.tree (distinct-alone page valid) (containers-page page valid) s o pushed since b session stands in
+        let id = pushed-id page.tree (distinct-alone page valid) (containers-page page valid) s o pushed since b session stands there in
+        (alike.stands, alike.shown, ap NodeId id)
 
-  path_alike : (o : ℕ → Bool) (pushed : List ℕ) (since : ℕ) (b : BindingValue) → IsSession m (session_of o pushed since)
-      → Stands m (session_of o pushed since) b → (found : Option (Branch PageRow))
-      → ((x : Branch PageRow) → found ≡ Some x → has row_serial x.row.serial m ≡ true)
-      → AlikeOutcomes m (of_path keeper page.tree found (session_of o pushed since)) (of_path binder page.tree found b)
-  path_alike o pushed since b session stands None there = refl
-  path_alike o pushed since b session stands (Some x) there = push_alike x.row.serial o pushed since b session stands (there x refl)
+    path_alike : (o : ℕ → Bool) (pushed : List ℕ) (since : ℕ) (b : BindingValue) → IsSession m (session_of o pushed since)
+        → Stands m (session_of o pushed since) b → (found : Option (Branch PageRow))
+        → ((x : Branch PageRow) → found ≡ Some x → has row_serial x.row.serial m ≡ true)
+        → AlikeOutcomes m (of_path keeper page.tree found (session_of o pushed since)) (of_path binder page.tree found b)
+    path_alike o pushed since b session stands None there = refl
+    path_alike o pushed since b session stands (Some x) there = push_alike x.row.serial o pushed since b session stands (there x refl)
 
-  by_path_alike : (path : List ℕ) (o : Option (ℕ → Bool)) (pushed : List ℕ) (since : ℕ) (b : BindingValue)
-      → IsSession m (record { opened = o; pushed = pushed; since = since })
-      → Stands m (record { opened = o; pushed = pushed; since = since }) b
-      → AlikeOutcomes m (session_outcome page (PushByPath path) (record { opened = o; pushed = pushed; since = since }))
-      (binding_outcome page (PushByPath path) b)
-  by_path_alike path None pushed since b session stands =
-      alike_begun m false (opened_in b page.tree.row.serial)
-      (of_path keeper page.tree (node_at_path path page.tree) (record { opened = None; pushed = pushed; since = since }))
-      (of_path binder page.tree (node_at_path path page.tree) b)
-      (stands.opened_is page.tree.row.serial) (λ e. cc)
-  by_path_alike path (Some o) pushed since b session stands =
-      alike_begun m (o page.tree.row.serial) (opened_in b page.tree.row.serial)
-      (of_path keeper page.tree (node_at_path path page.tree) (session_of o pushed since))
-      (of_path binder page.tree (node_at_path path page.tree) b)
-      (stands.opened_is page.tree.row.serial)
-      (λ _. path_alike o pushed since b session stands (node_at_path path page.tree) (λ x e. path-there path page.tree x e))
+    by_path_alike : (path : List ℕ) (o : Option (ℕ → Bool)) (pushed : List ℕ) (since : ℕ) (b : BindingValue)
+        → IsSession m (record { opened = o; pushed = pushed; since = since })
+        → Stands m (record { opened = o; pushed = pushed; since = since }) b
+        → AlikeOutcomes m (session_outcome page whole (PushByPath path) (record { opened = o; pushed = pushed; since = since }))
+        (binding_outcome page whole (PushByPath path) b)
+    by_path_alike path None pushed since b session stands =
+        alike_begun m false (opened_in b page.tree.row.serial)
+        (of_path keeper page.tree (node_at_path path page.tree) (record { opened = None; pushed = pushed; since = since }))
+        (of_path binder page.tree (node_at_path path page.tree) b)
+        (stands.opened_is page.tree.row.serial) (λ e. cc)
+    by_path_alike path (Some o) pushed since b session stands =
+        alike_begun m (o page.tree.row.serial) (opened_in b page.tree.row.serial)
+        (of_path keeper page.tree (node_at_path path page.tree) (session_of o pushed since))
+        (of_path binder page.tree (node_at_path path page.tree) b)
+        (stands.opened_is page.tree.row.serial)
+        (λ _. path_alike o pushed since b session stands (node_at_path path page.tree) (λ x e. path-there path page.tree x e))
 
-  all_alike : (serials : List ℕ) (o : ℕ → Bool) (pushed : List ℕ) (since : ℕ) (b : BindingValue) → IsSession m (session_of o pushed since)
-      → Stands m (session_of o pushed since) b → o page.tree.row.serial ≡ true
-      → AlikeOutcomes m (with_ids keeper page.tree (all_pushed keeper page.tree serials (session_of o pushed since)))
-      (with_ids binder page.tree (all_pushed binder page.tree serials b))
-  all_alike serials o pushed since b session stands begun =
-      let alike = alike-all_pushed page.tree (distinct-alone page valid) (containers-page page valid) serials
-      (Some o) pushed since b begun session stands in
-      (alike.progress.stands, alike.progress.shown, ap NodeIds alike.ids)
+    all_alike : (serials : List ℕ) (o : ℕ → Bool) (pushed : List ℕ) (since : ℕ) (b : BindingValue) → IsSession m (session_of o pushed since)
+        → Stands m (session_of o pushed since) b → o page.tree.row.serial ≡ true
+        → AlikeOutcomes m (with_ids keeper page.tree (all_pushed keeper page.tree serials (session_of o pushed since)))
+        (with_ids binder page.tree (all_pushed binder page.tree serials b))
+    all_alike serials o pushed since b session stands begun =
+        let alike = alike-all_pushed page.tree (distinct-alone page valid) (containers-page page valid) serials
+        (Some o) pushed since b begun session stands in
+        (alike.progress.stands, alike.progress.shown, ap NodeIds alike.ids)
 
-  by_serials_alike : (serials : List ℕ) (o : Option (ℕ → Bool)) (pushed : List ℕ) (since : ℕ) (b : BindingValue)
-      → IsSession m (record { opened = o; pushed = pushed; since = since })
-      → Stands m (record { opened = o; pushed = pushed; since = since }) b
-      → AlikeOutcomes m (session_outcome page (PushBySerials serials) (record { opened = o; pushed = pushed; since = since }))
-      (binding_outcome page (PushBySerials serials) b)
-  by_serials_alike serials None pushed since b session stands =
-      alike_begun m false (opened_in b page.tree.row.serial)
-      (with_ids keeper page.tree (all_pushed keeper page.tree serials (record { opened = None; pushed = pushed; since = since })))
-      (with_ids binder page.tree (all_pushed binder page.tree serials b))
-      (stands.opened_is page.tree.row.serial) (λ e. cc)
-  by_serials_alike serials (Some o) pushed since b session stands =
-      alike_begun m (o page.tree.row.serial) (opened_in b page.tree.row.serial)
-      (with_ids keeper page.tree (all_pushed keeper page.tree serials (session_of o pushed since)))
-      (with_ids binder page.tree (all_pushed binder page.tree serials b))
-      (stands.opened_is page.tree.row.serial)
-      (λ begun. all_alike serials o pushed since b session stands begun)
+    by_serials_alike : (serials : List ℕ) (o : Option (ℕ → Bool)) (pushed : List ℕ) (since : ℕ) (b : BindingValue)
+        → IsSession m (record { opened = o; pushed = pushed; since = since })
+        → Stands m (record { opened = o; pushed = pushed; since = since }) b
+        → AlikeOutcomes m (session_outcome page whole (PushBySerials serials) (record { opened = o; pushed = pushed; since = since }))
+        (binding_outcome page whole (PushBySerials serials) b)
+    by_serials_alike serials None pushed since b session stands =
+        alike_begun m false (opened_in b page.tree.row.serial)
+        (with_ids keeper page.tree (all_pushed keeper page.tree serials (record { opened = None; pushed = pushed; since = since })))
+        (with_ids binder page.tree (all_pushed binder page.tree serials b))
+        (stands.opened_is page.tree.row.serial) (λ e. cc)
+    by_serials_alike serials (Some o) pushed since b session stands =
+        alike_begun m (o page.tree.row.serial) (opened_in b page.tree.row.serial)
+        (with_ids keeper page.tree (all_pushed keeper page.tree serials (session_of o pushed since)))
+        (with_ids binder page.tree (all_pushed binder page.tree serials b))
+        (stands.opened_is page.tree.row.serial)
+        (λ begun. all_alike serials o pushed since b session stands begun)
 
-  -- what changes nothing, of a node that both name
-  same_known : (w : Session) (b : BindingValue) → Stands m w b → (id : ℕ)
-      → known_node binder page.tree b (binder.serial_of b id) ≡ known_node keeper page.tree w (serial_at w m id)
-  same_known w b stands id = ap (known_node binder page.tree b) (stands.serials_are id) ∙ same_node w b (serial_at w m id)
+    -- what changes nothing, of a node that both name
+    same_known : (w : Session) (b : BindingValue) → Stands m w b → (id : ℕ)
+        → known_node binder page.tree b (binder.serial_of b id) ≡ known_node keeper page.tree w (serial_at w m id)
+    same_known w b stands id = ap (known_node binder page.tree b) (stands.serials_are id) ∙ same_node w b (serial_at w m id)
 
-  attributes_alike : (w : Session) (b : BindingValue) → Stands m w b → (found : Option (Branch PageRow))
-      → AlikeOutcomes m (of_attributes keeper page.tree found w) (of_attributes binder page.tree found b)
-  attributes_alike w b stands None = refl
-  attributes_alike w b stands (Some x) = either_both (AlikeOutcomes m) (is_element x.row.label.kind) _ (refused _) _ (refused _)
-      (λ _. (stands, refl, refl)) refl
+    attributes_alike : (w : Session) (b : BindingValue) → Stands m w b → (found : Option (Branch PageRow))
+        → AlikeOutcomes m (of_attributes keeper page.tree found w) (of_attributes binder page.tree found b)
+    attributes_alike w b stands None = refl
+    attributes_alike w b stands (Some x) = either_both (AlikeOutcomes m) (is_element x.row.label.kind) _ (refused _) _ (refused _)
+        (λ _. (stands, refl, refl)) refl
 
-  description_alike : (depth : Option ℤ) (w : Session) (b : BindingValue) → Stands m w b → (found : Option (Branch PageRow))
-      → AlikeOutcomes m (of_description keeper page.tree depth found w) (of_description binder page.tree depth found b)
-  description_alike depth w b stands None = refl
-  description_alike depth w b stands (Some x) = (stands, refl, refl)
+    description_alike : (depth : Option ℤ) (w : Session) (b : BindingValue) → Stands m w b → (found : Option (Branch PageRow))
+        → AlikeOutcomes m (of_description keeper page.tree depth found w) (of_description binder page.tree depth found b)
+    description_alike depth w b stands None = refl
+    description_alike depth w b stands (Some x) = (stands, refl, refl)
 
-  same_named : (w : Session) (b : BindingValue) → Stands m w b → (id serial : Option ℕ)
-      → known_node binder page.tree b (named_serial binder b id serial) ≡ known_node keeper page.tree w (named_serial keeper w id serial)
-  same_named w b stands None serial = same_node w b serial
-  same_named w b stands (Some id) serial = same_known w b stands id
+    same_named : (w : Session) (b : BindingValue) → Stands m w b → (id serial : Option ℕ)
+        → known_node binder page.tree b (named_serial binder b id serial) ≡ known_node keeper page.tree w (named_serial keeper w id serial)
+    same_named w b stands None serial = same_node w b serial
+    same_named w b stands (Some id) serial = same_known w b stands id
 
-  -- ---- queries
+    -- ---- queries
 
-  first_alike : (found : Option ℕ) (o : ℕ → Bool) (pushed : List ℕ) (since : ℕ) (b : BindingValue)
-      → IsSession m (session_of o pushed since) → Stands m (session_of o pushed since) b
-      → ((s : ℕ) → found ≡ Some s → has row_serial s m ≡ true)
-      → AlikeOutcomes m (with_first keeper page.tree found (session_of o pushed since)) (with_first binder page.tree found b)
-  first_alike None o pushed since b session stands there = (stands, refl, refl)
-  first_alike (Some s) o pushed since b session stands there = push_alike s o pushed since b session stands (there s refl)
+    first_alike : (found : Option ℕ) (o : ℕ → Bool) (pushed : List ℕ) (since : ℕ) (b : BindingValue)
+        → IsSession m (session_of o pushed since) → Stands m (session_of o pushed since) b
+        → ((s : ℕ) → found ≡ Some s → has row_serial s m ≡ true)
+        → AlikeOutcomes m (with_first keeper page.tree found (session_of o pushed since)) (with_first binder page.tree found b)
+    first_alike None o pushed since b session stands there = (stands, refl, refl)
+    first_alike (Some s) o pushed since b session stands there = push_alike s o pushed since b session stands (there s refl)
 
-  query_alike : (w : Session) (b : BindingValue) (asks : Query → Session → Outcome Session)
-      (others : Query → BindingValue → Outcome BindingValue) (q : Result Query Why)
-      → ((r : Query) → q ≡ Ok r → AlikeOutcomes m (asks r w) (others r b))
-      → AlikeOutcomes m (of_query keeper page.tree asks q w) (of_query binder page.tree others q b)
-  query_alike w b asks others (Err why) alike = refl
-  query_alike w b asks others (Ok q) alike = alike q refl
+    query_alike : (w : Session) (b : BindingValue) (asks : Query → Session → Outcome Session)
+        (others : Query → BindingValue → Outcome BindingValue) (q : Result Query Why)
+        → ((r : Query) → q ≡ Ok r → AlikeOutcomes m (asks r w) (others r b))
+        → AlikeOutcomes m (of_query keeper page.tree asks q w) (of_query binder page.tree others q b)
+    query_alike w b asks others (Err why) alike = refl
+    query_alike w b asks others (Ok q) alike = alike q refl
 
-  abbrev query_found : (id : ℕ) (text : List ℕ) → Session → Result Query Why
-  query_found id text w = query_of (known_node keeper page.tree w (serial_at w m id)) text
+    abbrev query_found : (id : ℕ) (text : List ℕ) → Session → Result Query Why
+    query_found id text w = query_of (known_node keeper page.tree w (serial_at w m id)) text
 
-  first_queried : (id : ℕ) (text : List ℕ) (o : Option (ℕ → Bool)) (pushed : List ℕ) (since : ℕ) (b : BindingValue)
-      → IsSession m (record { opened = o; pushed = pushed; since = since })
-      → Stands m (record { opened = o; pushed = pushed; since = since }) b
-      → (let w : Session = record { opened = o; pushed = pushed; since = since } in AlikeOutcomes m
-      (of_query keeper page.tree (first_asked keeper page.tree) (query_found id text w) w)
-      (of_query binder page.tree (first_asked binder page.tree) (query_found id text w) b))
-  first_queried id text None pushed since b session stands = refl
-  first_queried id text (Some o) pushed since b session stands =
-      let w : Session = session_of o pushed since in
-      query_alike w b (first_asked keeper page.tree) (first_asked binder page.tree) (query_found id text w)
-      (λ q is. first_alike (first_matching q.selectors q.root page.tree) o pushed since b session stands
-      (λ s e. first-there (list_matches q.selectors) page.tree (known_query keeper page.tree w (serial_at w m id) text q is) s e))
+    first_queried : (id : ℕ) (text : List ℕ) (o : Option (ℕ → Bool)) (pushed : List ℕ) (since : ℕ) (b : BindingValue)
+        → IsSession m (record { opened = o; pushed = pushed; since = since })
+        → Stands m (record { opened = o; pushed = pushed; since = since }) b
+        → (let w : Session = record { opened = o; pushed = pushed; since = since } in AlikeOutcomes m
+        (of_query keeper page.tree (first_asked keeper page.tree whole) (query_found id text w) w)
+        (of_query binder page.tree (first_asked binder page.tree whole) (query_found id text w) b))
+    first_queried id text None pushed since b session stands = refl
+    first_queried id text (Some o) pushed since b session stands =
+        let w : Session = session_of o pushed since in
+        query_alike w b (first_asked keeper page.tree whole) (first_asked binder page.tree whole) (query_found id text w)
+        (λ q is. first_alike (first_matching q.selectors q.root whole) o pushed since b session stands
+        (λ s e. inside q.selectors q.root s (query-live keeper page.tree w (serial_at w m id) text q is) e))
 
-  all_queried : (id : ℕ) (text : List ℕ) (o : Option (ℕ → Bool)) (pushed : List ℕ) (since : ℕ) (b : BindingValue)
-      → IsSession m (record { opened = o; pushed = pushed; since = since })
-      → Stands m (record { opened = o; pushed = pushed; since = since }) b
-      → (let w : Session = record { opened = o; pushed = pushed; since = since } in AlikeOutcomes m
-      (of_query keeper page.tree (all_asked keeper page.tree) (query_found id text w) w)
-      (of_query binder page.tree (all_asked binder page.tree) (query_found id text w) b))
-  all_queried id text None pushed since b session stands = refl
-  all_queried id text (Some o) pushed since b session stands =
-      let w : Session = session_of o pushed since in
-      query_alike w b (all_asked keeper page.tree) (all_asked binder page.tree) (query_found id text w)
-      (λ q is. all_alike (all_matching q.selectors q.root page.tree) o pushed since b session stands
-      (root-opened page valid o pushed since session))
+    all_queried : (id : ℕ) (text : List ℕ) (o : Option (ℕ → Bool)) (pushed : List ℕ) (since : ℕ) (b : BindingValue)
+        → IsSession m (record { opened = o; pushed = pushed; since = since })
+        → Stands m (record { opened = o; pushed = pushed; since = since }) b
+        → (let w : Session = record { opened = o; pushed = pushed; since = since } in AlikeOutcomes m
+        (of_query keeper page.tree (all_asked keeper page.tree whole) (query_found id text w) w)
+        (of_query binder page.tree (all_asked binder page.tree whole) (query_found id text w) b))
+    all_queried id text None pushed since b session stands = refl
+    all_queried id text (Some o) pushed since b session stands =
+        let w : Session = session_of o pushed since in
+        query_alike w b (all_asked keeper page.tree whole) (all_asked binder page.tree whole) (query_found id text w)
+        (λ q is. all_alike (all_matching q.selectors q.root whole) o pushed since b session stands
+        (root-opened page valid whole o pushed since session))
 
-  document_alike : (depth : Option ℤ) (pierce : Option Bool) (w : Session) (b : BindingValue)
-      → is_spent (levels_of (unwrap_or depth (pos 1))) ≡ false → Stands m w b
-      → AlikeOutcomes m (session_outcome page (GetDocument depth pierce) w) (binding_outcome page (GetDocument depth pierce) b)
-  document_alike depth pierce w b left stands =
-      let d : Option ℕ = levels_of (unwrap_or depth (pos 1)) in
-      let e : Option ℕ = capped most_told d in
-      let after : Session = document_opened e m w in
-      let now : Stands m after (started e m b) = Stands-document_opened e m w b (distinct-alone page valid) stands.next_is in
-      let same = cut-stands m (above e m) after.pushed after.since (started e m b) now in
-      let begun : IsSession m after = IsSession-document_opened e page.tree.row page.tree.children w (distinct-alone page valid)
-      (root_holds page valid) (spent-capped more_told d ∙ left) in
-      let alike = alike-openings m (distinct-alone page valid) page.tree (dealt more_told most_told d m) (above e m) after.pushed
-      after.since (started e m b) begun now (start-deals more_told page d valid left).are in (
-        alike.stands,
-        alike.shown,
-        ap (root_of (record { row = record { id = 0; serial = 0; label = page.tree.row.label; hold = leaf }; children = none })) same,
-      )
+    document_alike : (depth : Option ℤ) (pierce : Option Bool) (w : Session) (b : BindingValue)
+        → is_spent (levels_of (unwrap_or depth (pos 1))) ≡ false → Stands m w b
+        → AlikeOutcomes m (session_outcome page whole (GetDocument depth pierce) w) (binding_outcome page whole (GetDocument depth pierce) b)
+    document_alike depth pierce w b left stands =
+        let d : Option ℕ = levels_of (unwrap_or depth (pos 1)) in
+        let e : Option ℕ = capped most_told d in
+        let after : Session = document_opened e m w in
+        let now : Stands m after (started e m b) = Stands-document_opened e m w b (distinct-alone page valid) stands.next_is in
+        let same = cut-stands m (above e m) after.pushed after.since (started e m b) now in
+        let begun : IsSession m after = IsSession-document_opened e page.tree.row page.tree.children w (distinct-alone page valid)
+        (root_holds page valid) (spent-capped more_told d ∙ left) in
+        let alike = alike-openings m (distinct-alone page valid) page.tree (dealt more_told most_told d m) (above e m) after.pushed
+        after.since (started e m b) begun now (start-deals more_told page d valid left).are in (
+          alike.stands,
+          alike.shown,
+          ap (root_of (record { row = record { id = 0; serial = 0; label = page.tree.row.label; hold = leaf }; children = none })) same,
+        )
 
-  pub outcomes_alike : (c : DomAsk) (w : Session) (b : BindingValue) → has_depth c ≡ true → IsSession m w → Stands m w b
-      → AlikeOutcomes m (session_outcome page c w) (binding_outcome page c b)
-  outcomes_alike (GetDocument depth pierce) w b fits session stands =
-      document_alike depth pierce w b (document-left depth pierce fits) stands
-  outcomes_alike (RequestChildNodes id depth pierce) w b fits session stands =
-      request_alike id depth pierce w.opened w.pushed w.since b session stands
-  outcomes_alike (PushByPath path) w b fits session stands = by_path_alike path w.opened w.pushed w.since b session stands
-  outcomes_alike (PushBySerials serials) w b fits session stands = by_serials_alike serials w.opened w.pushed w.since b session stands
-  outcomes_alike (QuerySelector id text) w b fits session stands =
-      subst (λ (f : Option (Branch PageRow)). AlikeOutcomes m (session_outcome page (QuerySelector id text) w)
-      (of_query binder page.tree (first_asked binder page.tree) (query_of f text) b)) (sym (same_known w b stands id))
-      (first_queried id text w.opened w.pushed w.since b session stands)
-  outcomes_alike (QuerySelectorAll id text) w b fits session stands =
-      subst (λ (f : Option (Branch PageRow)). AlikeOutcomes m (session_outcome page (QuerySelectorAll id text) w)
-      (of_query binder page.tree (all_asked binder page.tree) (query_of f text) b)) (sym (same_known w b stands id))
-      (all_queried id text w.opened w.pushed w.since b session stands)
-  outcomes_alike (GetAttributes id) w b fits session stands =
-      subst (λ (f : Option (Branch PageRow)). AlikeOutcomes m (session_outcome page (GetAttributes id) w)
-      (of_attributes binder page.tree f b)) (sym (same_known w b stands id))
-      (attributes_alike w b stands (known_node keeper page.tree w (serial_at w m id)))
-  outcomes_alike (DescribeNode id serial depth pierce) w b fits session stands =
-      subst (λ (f : Option (Branch PageRow)). AlikeOutcomes m (session_outcome page (DescribeNode id serial depth pierce) w)
-      (of_description binder page.tree depth f b)) (sym (same_named w b stands id serial))
-      (description_alike depth w b stands (known_node keeper page.tree w (named_serial keeper w id serial)))
+    pub outcomes_alike : (c : DomAsk) (w : Session) (b : BindingValue) → has_depth c ≡ true → IsSession m w → Stands m w b
+        → AlikeOutcomes m (session_outcome page whole c w) (binding_outcome page whole c b)
+    outcomes_alike (GetDocument depth pierce) w b fits session stands =
+        document_alike depth pierce w b (document-left depth pierce fits) stands
+    outcomes_alike (RequestChildNodes id depth pierce) w b fits session stands =
+        request_alike id depth pierce w.opened w.pushed w.since b session stands
+    outcomes_alike (PushByPath path) w b fits session stands = by_path_alike path w.opened w.pushed w.since b session stands
+    outcomes_alike (PushBySerials serials) w b fits session stands = by_serials_alike serials w.opened w.pushed w.since b session stands
+    outcomes_alike (QuerySelector id text) w b fits session stands =
+        subst (λ (f : Option (Branch PageRow)). AlikeOutcomes m (session_outcome page whole (QuerySelector id text) w)
+        (of_query binder page.tree (first_asked binder page.tree whole) (query_of f text) b)) (sym (same_known w b stands id))
+        (first_queried id text w.opened w.pushed w.since b session stands)
+    outcomes_alike (QuerySelectorAll id text) w b fits session stands =
+        subst (λ (f : Option (Branch PageRow)). AlikeOutcomes m (session_outcome page whole (QuerySelectorAll id text) w)
+        (of_query binder page.tree (all_asked binder page.tree whole) (query_of f text) b)) (sym (same_known w b stands id))
+        (all_queried id text w.opened w.pushed w.since b session stands)
+    outcomes_alike (GetAttributes id) w b fits session stands =
+        subst (λ (f : Option (Branch PageRow)). AlikeOutcomes m (session_outcome page whole (GetAttributes id) w)
+        (of_attributes binder page.tree f b)) (sym (same_known w b stands id))
+        (attributes_alike w b stands (known_node keeper page.tree w (serial_at w m id)))
+    outcomes_alike (DescribeNode id serial depth pierce) w b fits session stands =
+        subst (λ (f : Option (Branch PageRow)). AlikeOutcomes m (session_outcome page whole (DescribeNode id serial depth pierce) w)
+        (of_description binder page.tree depth f b)) (sym (same_named w b stands id serial))
+        (description_alike depth w b stands (known_node keeper page.tree w (named_serial keeper w id serial)))
 
 -- ---- laws
 
@@ -459,11 +460,11 @@ alike_moves n id (refused why) (served q other) h = absurd h
 alike_moves n id (refused why) (refused other) h = λ i. failed (record { id = Some id; why = h i }) ∷ []
 
 pub stays_bound : StaysBound
-stays_bound page c w b valid fits session stands =
-    alike_states (alone page.tree) w b (session_outcome page c w) (binding_outcome page c b) stands
-    (outcomes_alike page valid c w b fits session stands)
+stays_bound page whole c w b inside valid fits session stands =
+    alike_states (alone page.tree) w b (session_outcome page whole c w) (binding_outcome page whole c b) stands
+    (outcomes_alike page valid whole inside c w b fits session stands)
 
 pub same_moves : SameMoves
-same_moves page c w b id valid fits session stands =
-    alike_moves (alone page.tree) id (session_outcome page c w) (binding_outcome page c b)
-    (outcomes_alike page valid c w b fits session stands)
+same_moves page whole c w b id inside valid fits session stands =
+    alike_moves (alone page.tree) id (session_outcome page whole c w) (binding_outcome page whole c b)
+    (outcomes_alike page valid whole inside c w b fits session stands)

@@ -31,3 +31,7 @@ pub mod EditMoves
 pub mod EditKeepers
 pub mod EditCode
 pub mod GrowLemmas
+pub mod ModeLemmas
+pub mod ModeQueries
+pub mod KeptMode
+pub mod ForesightLemmas

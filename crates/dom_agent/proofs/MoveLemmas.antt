@@ -103,11 +103,11 @@ tells_no_view (GetAttributes id) other = (λ b. refl, λ text. refl)
 tells_no_view (DescribeNode id serial depth pierce) other = (λ b. refl, λ text. refl)
 
 pub steps_are_moves : StepsAreMoves
-steps_are_moves page ask w id sheets valid fits session can small can_sheets =
+steps_are_moves page whole ask w id sheets valid fits session can small can_sheets =
     let n : Nodes PageRow = alone page.tree in
     let say = can_say page w sheets valid can can_sheets in
     either_ask (λ c. has_depth c ≡ true
-    → (let o = session_outcome page c w in Course (moves_of id o) (session_view w page sheets)
+    → (let o = session_outcome page whole c w in Course (moves_of id o) (session_view w page sheets)
     (session_view (state_after w o) page sheets)))
     (λ depth pierce h. (let d : Option ℕ = levels_of (unwrap_or depth (pos 1)) in
     let left = document-left depth pierce h in
@@ -119,8 +119,8 @@ steps_are_moves page ask w id sheets valid fits session can small can_sheets =
     (say z (IsSession-document_opened (capped most_told d) page.tree.row page.tree.children w (distinct-alone page valid)
     (root_holds page valid) (spent-capped more_told d ∙ left)) (omega (arith, g.longer, few))) refl
     (root-low more_told page d (session_ids z) valid) few))
-    (λ c other h. moved page c w id sheets session can small say (session_outcome page c w) (tells_no_view c other)
-    (asks-go page valid c other w session))
+    (λ c other h. moved page c w id sheets session can small say (session_outcome page whole c w) (tells_no_view c other)
+    (asks-go page valid whole c other w session))
     ask fits
 
 -- ---- the reply
@@ -131,6 +131,6 @@ answered page c w (served p body) g = g.2
 answered page c w (refused why) g = tt
 
 pub replies_answer : RepliesAnswer
-replies_answer page ask w valid fits session =
-    either_ask (λ c. IsReplyTo c (session_outcome page c w)) (λ depth pierce. refl)
-    (λ c other. answered page c w (session_outcome page c w) (asks-go page valid c other w session)) ask
+replies_answer page whole ask w valid fits session =
+    either_ask (λ c. IsReplyTo c (session_outcome page whole c w)) (λ depth pierce. refl)
+    (λ c other. answered page c w (session_outcome page whole c w) (asks-go page valid whole c other w session)) ask

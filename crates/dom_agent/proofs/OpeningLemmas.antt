@@ -22,14 +22,14 @@ pub requested-node : (o : ℕ → Bool) (d : Option ℕ) (x : Branch PageRow) (t
     → requested o d (node x.row x.children t) ≡ requested o d (alone x) ++ requested o d t
 requested-node o d x t = ap (λ l. l ++ requested o d t) (sym (append-nil _))
 
-pub request_turn : (o : ℕ → Bool) (d : Option ℕ) (n : Nodes PageRow) (k : ℕ) (x : Branch PageRow) (before after all : List Opening)
-    → k < width n → tree_at k n ≡ Some x → after ≡ before ++ requested o d (alone x) → before ++ requested o d (from k n) ≡ all
-    → after ++ requested o d (from (k + 1) n) ≡ all
-request_turn o d n k x before after all h at this was =
-    ap (λ l. l ++ requested o d (from (k + 1) n)) this
-    ∙ append_assoc before (requested o d (alone x)) (requested o d (from (k + 1) n))
-    ∙ ap (λ l. before ++ l) (sym (requested-node o d x (from (k + 1) n)))
-    ∙ ap (λ m. before ++ requested o d m) (sym (from-next n k x h at))
+pub request_turn : (o : ℕ → Bool) (d : Option ℕ) (x : Branch PageRow) (n rest : Nodes PageRow) (before after all : List Opening)
+    → n ≡ node x.row x.children rest → after ≡ before ++ requested o d (alone x) → before ++ requested o d n ≡ all
+    → after ++ requested o d rest ≡ all
+request_turn o d x n rest before after all split this was =
+    ap (λ l. l ++ requested o d rest) this
+    ∙ append_assoc before (requested o d (alone x)) (requested o d rest)
+    ∙ ap (λ l. before ++ l) (sym (requested-node o d x rest))
+    ∙ ap (λ m. before ++ requested o d m) (sym split)
     ∙ was
 
 pub request_end : (o : ℕ → Bool) (d : Option ℕ) (left : Nodes PageRow) (before all : List Opening) → left ≡ none

@@ -191,130 +191,131 @@ module _ (page : PageValue) (valid : IsValid page) where
         one p.ids,
       )
 
-  -- each command but `DOM.getDocument`
-  abbrev pub Asks : DomAsk → Session → Type 0
-  Asks c w = OutcomeGoes page c w (session_outcome page c w)
+  module _ (whole : Branch PageRow) where
+    -- each command but `DOM.getDocument`
+    abbrev pub Asks : DomAsk → Session → Type 0
+    Asks c w = OutcomeGoes page c w (session_outcome page whole c w)
 
-  pub request-goes : (id : ℕ) (depth : Option ℤ) (pierce : Option Bool) (o : Option (ℕ → Bool)) (pushed : List ℕ) (since : ℕ)
-      → IsSession n (record { opened = o; pushed = pushed; since = since })
-      → Asks (RequestChildNodes id depth pierce) (record { opened = o; pushed = pushed; since = since })
-  request-goes id depth pierce None pushed since session = tt
-  request-goes id depth pierce (Some o) pushed since session =
-      let w : Session = session_of o pushed since in
-      children-go (RequestChildNodes id depth pierce) depth o pushed since session refl (known_node keeper page.tree w (serial_at w n id))
-      (known-found o pushed since (serial_at w n id) (λ s e. (find-there (λ s. session_ids w s == id) (known o n) s e).0))
+    pub request-goes : (id : ℕ) (depth : Option ℤ) (pierce : Option Bool) (o : Option (ℕ → Bool)) (pushed : List ℕ) (since : ℕ)
+        → IsSession n (record { opened = o; pushed = pushed; since = since })
+        → Asks (RequestChildNodes id depth pierce) (record { opened = o; pushed = pushed; since = since })
+    request-goes id depth pierce None pushed since session = tt
+    request-goes id depth pierce (Some o) pushed since session =
+        let w : Session = session_of o pushed since in
+        children-go (RequestChildNodes id depth pierce) depth o pushed since session refl (known_node keeper page.tree w (serial_at w n id))
+        (known-found o pushed since (serial_at w n id) (λ s e. (find-there (λ s. session_ids w s == id) (known o n) s e).0))
 
-  pub path-pushed : (path : List ℕ) (o : Option (ℕ → Bool)) (pushed : List ℕ) (since : ℕ)
-      → IsSession n (record { opened = o; pushed = pushed; since = since })
-      → Asks (PushByPath path) (record { opened = o; pushed = pushed; since = since })
-  path-pushed path None pushed since session = tt
-  path-pushed path (Some o) pushed since session =
-      let w : Session = session_of o pushed since in
-      begun_or (OutcomeGoes page (PushByPath path) w) (o page.tree.row.serial) (of_path keeper page.tree (node_at_path path page.tree) w)
-      (refused _)
-      (λ _. path-goes path o pushed since session (node_at_path path page.tree)) tt
+    pub path-pushed : (path : List ℕ) (o : Option (ℕ → Bool)) (pushed : List ℕ) (since : ℕ)
+        → IsSession n (record { opened = o; pushed = pushed; since = since })
+        → Asks (PushByPath path) (record { opened = o; pushed = pushed; since = since })
+    path-pushed path None pushed since session = tt
+    path-pushed path (Some o) pushed since session =
+        let w : Session = session_of o pushed since in
+        begun_or (OutcomeGoes page (PushByPath path) w) (o page.tree.row.serial) (of_path keeper page.tree (node_at_path path page.tree) w)
+        (refused _)
+        (λ _. path-goes path o pushed since session (node_at_path path page.tree)) tt
 
-  pub serials-pushed : (serials : List ℕ) (o : Option (ℕ → Bool)) (pushed : List ℕ) (since : ℕ)
-      → IsSession n (record { opened = o; pushed = pushed; since = since })
-      → Asks (PushBySerials serials) (record { opened = o; pushed = pushed; since = since })
-  serials-pushed serials None pushed since session = tt
-  serials-pushed serials (Some o) pushed since session =
-      let w : Session = session_of o pushed since in
-      begun_or (OutcomeGoes page (PushBySerials serials) w) (o page.tree.row.serial)
-      (with_ids keeper page.tree (all_pushed keeper page.tree serials w)) (refused _)
-      (λ begun. serials-go (PushBySerials serials) (λ ids. refl) serials o pushed since session begun) tt
+    pub serials-pushed : (serials : List ℕ) (o : Option (ℕ → Bool)) (pushed : List ℕ) (since : ℕ)
+        → IsSession n (record { opened = o; pushed = pushed; since = since })
+        → Asks (PushBySerials serials) (record { opened = o; pushed = pushed; since = since })
+    serials-pushed serials None pushed since session = tt
+    serials-pushed serials (Some o) pushed since session =
+        let w : Session = session_of o pushed since in
+        begun_or (OutcomeGoes page (PushBySerials serials) w) (o page.tree.row.serial)
+        (with_ids keeper page.tree (all_pushed keeper page.tree serials w)) (refused _)
+        (λ begun. serials-go (PushBySerials serials) (λ ids. refl) serials o pushed since session begun) tt
 
-  -- ---- what changes nothing
+    -- ---- what changes nothing
 
-  -- a reply alone
-  reply-goes : (c : DomAsk) (w : Session) (body : ReplyBody) → IsSession n w → (CanTell page w → CanSpell body)
-      → answers (ask_name c) body ≡ true → OutcomeGoes page c w (only_replied keeper page.tree body w)
-  reply-goes c w body session spells one = (goes-none n w session, spells, one)
+    -- a reply alone
+    reply-goes : (c : DomAsk) (w : Session) (body : ReplyBody) → IsSession n w → (CanTell page w → CanSpell body)
+        → answers (ask_name c) body ≡ true → OutcomeGoes page c w (only_replied keeper page.tree body w)
+    reply-goes c w body session spells one = (goes-none n w session, spells, one)
 
-  -- a node that is found stands in the page
-  named-found : (w : Session) (serial : Option ℕ) (x : Branch PageRow) → known_node keeper page.tree w serial ≡ Some x
-      → (s : ℕ) × (find row_serial s n ≡ Some x)
-  named-found w None x e = cc
-  named-found w (Some s) x e = (s, e)
+    -- a node that is found stands in the page
+    named-found : (w : Session) (serial : Option ℕ) (x : Branch PageRow) → known_node keeper page.tree w serial ≡ Some x
+        → (s : ℕ) × (find row_serial s n ≡ Some x)
+    named-found w None x e = cc
+    named-found w (Some s) x e = (s, e)
 
-  named-there : (w : Session) (id serial : Option ℕ) (x : Branch PageRow)
-      → known_node keeper page.tree w (named_serial keeper w id serial) ≡ Some x
-      → (s : ℕ) × (find row_serial s n ≡ Some x)
-  named-there w None serial x e = named-found w serial x e
-  named-there w (Some id) serial x e = named-found w (serial_at w n id) x e
+    named-there : (w : Session) (id serial : Option ℕ) (x : Branch PageRow)
+        → known_node keeper page.tree w (named_serial keeper w id serial) ≡ Some x
+        → (s : ℕ) × (find row_serial s n ≡ Some x)
+    named-there w None serial x e = named-found w serial x e
+    named-there w (Some id) serial x e = named-found w (serial_at w n id) x e
 
-  attributes-go : (id : ℕ) (w : Session) → IsSession n w → (found : Option (Branch PageRow))
-      → ((x : Branch PageRow) → found ≡ Some x → (s : ℕ) × (find row_serial s n ≡ Some x))
-      → OutcomeGoes page (GetAttributes id) w (of_attributes keeper page.tree found w)
-  attributes-go id w session None there = tt
-  attributes-go id w session (Some x) there =
-      begun_or (OutcomeGoes page (GetAttributes id) w) (is_element x.row.label.kind)
-      (only_replied keeper page.tree (Attributes x.row.label.attributes) w) (refused _)
-      (λ element. (let at = there x refl in reply-goes (GetAttributes id) w (Attributes x.row.label.attributes) session
-      (attributes-spell page w valid at.0 x at.1 element) refl)) tt
+    attributes-go : (id : ℕ) (w : Session) → IsSession n w → (found : Option (Branch PageRow))
+        → ((x : Branch PageRow) → found ≡ Some x → (s : ℕ) × (find row_serial s n ≡ Some x))
+        → OutcomeGoes page (GetAttributes id) w (of_attributes keeper page.tree found w)
+    attributes-go id w session None there = tt
+    attributes-go id w session (Some x) there =
+        begun_or (OutcomeGoes page (GetAttributes id) w) (is_element x.row.label.kind)
+        (only_replied keeper page.tree (Attributes x.row.label.attributes) w) (refused _)
+        (λ element. (let at = there x refl in reply-goes (GetAttributes id) w (Attributes x.row.label.attributes) session
+        (attributes-spell page w valid at.0 x at.1 element) refl)) tt
 
-  description-goes : (id serial : Option ℕ) (depth : Option ℤ) (pierce : Option Bool) (w : Session) → IsSession n w
-      → (found : Option (Branch PageRow)) → ((x : Branch PageRow) → found ≡ Some x → (s : ℕ) × (find row_serial s n ≡ Some x))
-      → OutcomeGoes page (DescribeNode id serial depth pierce) w (of_description keeper page.tree depth found w)
-  description-goes id serial depth pierce w session None there = tt
-  description-goes id serial depth pierce w session (Some x) there =
-      let levels : Option ℕ = levels_of (unwrap_or depth (pos 1)) in
-      let at = there x refl in
-      reply-goes (DescribeNode id serial depth pierce) w (ReplyNode (described (capped most_told levels) x)) session
-      (described-spells page w valid at.0 x at.1 levels) refl
+    description-goes : (id serial : Option ℕ) (depth : Option ℤ) (pierce : Option Bool) (w : Session) → IsSession n w
+        → (found : Option (Branch PageRow)) → ((x : Branch PageRow) → found ≡ Some x → (s : ℕ) × (find row_serial s n ≡ Some x))
+        → OutcomeGoes page (DescribeNode id serial depth pierce) w (of_description keeper page.tree depth found w)
+    description-goes id serial depth pierce w session None there = tt
+    description-goes id serial depth pierce w session (Some x) there =
+        let levels : Option ℕ = levels_of (unwrap_or depth (pos 1)) in
+        let at = there x refl in
+        reply-goes (DescribeNode id serial depth pierce) w (ReplyNode (described (capped most_told levels) x)) session
+        (described-spells page w valid at.0 x at.1 levels) refl
 
-  -- ---- queries
+    -- ---- queries
 
-  -- the document is opened where anything is
-  pub root-opened : (o : ℕ → Bool) (pushed : List ℕ) (since : ℕ) → IsSession n (session_of o pushed since) → o page.tree.row.serial ≡ true
-  root-opened o pushed since session = (and_parts (o page.tree.row.serial) true session.opened_set.rooted).0
+    -- the document is opened where anything is
+    pub root-opened : (o : ℕ → Bool) (pushed : List ℕ) (since : ℕ) → IsSession n (session_of o pushed since) → o page.tree.row.serial ≡ true
+    root-opened o pushed since session = (and_parts (o page.tree.row.serial) true session.opened_set.rooted).0
 
-  first-goes : (c : DomAsk) → ((id : ℕ) → answers (ask_name c) (NodeId id) ≡ true)
-      → (found : Option ℕ) (o : ℕ → Bool) (pushed : List ℕ) (since : ℕ) → IsSession n (session_of o pushed since)
-      → OutcomeGoes page c (session_of o pushed since) (with_first keeper page.tree found (session_of o pushed since))
-  first-goes c one None o pushed since session = reply-goes c (session_of o pushed since) (NodeId 0) session
-      (λ can. number_spells (NodeId 0) refl tt refl) (one 0)
-  first-goes c one (Some s) o pushed since session = push-goes c one s o pushed since session
+    first-goes : (c : DomAsk) → ((id : ℕ) → answers (ask_name c) (NodeId id) ≡ true)
+        → (found : Option ℕ) (o : ℕ → Bool) (pushed : List ℕ) (since : ℕ) → IsSession n (session_of o pushed since)
+        → OutcomeGoes page c (session_of o pushed since) (with_first keeper page.tree found (session_of o pushed since))
+    first-goes c one None o pushed since session = reply-goes c (session_of o pushed since) (NodeId 0) session
+        (λ can. number_spells (NodeId 0) refl tt refl) (one 0)
+    first-goes c one (Some s) o pushed since session = push-goes c one s o pushed since session
 
-  query-goes : (c : DomAsk) (w : Session) (asks : Query → Session → Outcome Session)
-      → ((q : Query) → OutcomeGoes page c w (asks q w)) → (q : Result Query Why)
-      → OutcomeGoes page c w (of_query keeper page.tree asks q w)
-  query-goes c w asks go (Err why) = tt
-  query-goes c w asks go (Ok q) = go q
+    query-goes : (c : DomAsk) (w : Session) (asks : Query → Session → Outcome Session)
+        → ((q : Query) → OutcomeGoes page c w (asks q w)) → (q : Result Query Why)
+        → OutcomeGoes page c w (of_query keeper page.tree asks q w)
+    query-goes c w asks go (Err why) = tt
+    query-goes c w asks go (Ok q) = go q
 
-  first-queried : (id : ℕ) (text : List ℕ) (o : Option (ℕ → Bool)) (pushed : List ℕ) (since : ℕ)
-      → IsSession n (record { opened = o; pushed = pushed; since = since })
-      → Asks (QuerySelector id text) (record { opened = o; pushed = pushed; since = since })
-  first-queried id text None pushed since session = tt
-  first-queried id text (Some o) pushed since session =
-      let w : Session = session_of o pushed since in
-      query-goes (QuerySelector id text) w (first_asked keeper page.tree)
-      (λ q. first-goes (QuerySelector id text) (λ k. refl) (first_matching q.selectors q.root page.tree) o pushed since session)
-      (query_of (known_node keeper page.tree w (serial_at w n id)) text)
+    first-queried : (id : ℕ) (text : List ℕ) (o : Option (ℕ → Bool)) (pushed : List ℕ) (since : ℕ)
+        → IsSession n (record { opened = o; pushed = pushed; since = since })
+        → Asks (QuerySelector id text) (record { opened = o; pushed = pushed; since = since })
+    first-queried id text None pushed since session = tt
+    first-queried id text (Some o) pushed since session =
+        let w : Session = session_of o pushed since in
+        query-goes (QuerySelector id text) w (first_asked keeper page.tree whole)
+        (λ q. first-goes (QuerySelector id text) (λ k. refl) (first_matching q.selectors q.root whole) o pushed since session)
+        (query_of (known_node keeper page.tree w (serial_at w n id)) text)
 
-  all-queried : (id : ℕ) (text : List ℕ) (o : Option (ℕ → Bool)) (pushed : List ℕ) (since : ℕ)
-      → IsSession n (record { opened = o; pushed = pushed; since = since })
-      → Asks (QuerySelectorAll id text) (record { opened = o; pushed = pushed; since = since })
-  all-queried id text None pushed since session = tt
-  all-queried id text (Some o) pushed since session =
-      let w : Session = session_of o pushed since in
-      query-goes (QuerySelectorAll id text) w (all_asked keeper page.tree)
-      (λ q. serials-go (QuerySelectorAll id text) (λ ids. refl) (all_matching q.selectors q.root page.tree) o pushed since session
-      (root-opened o pushed since session)) (query_of (known_node keeper page.tree w (serial_at w n id)) text)
+    all-queried : (id : ℕ) (text : List ℕ) (o : Option (ℕ → Bool)) (pushed : List ℕ) (since : ℕ)
+        → IsSession n (record { opened = o; pushed = pushed; since = since })
+        → Asks (QuerySelectorAll id text) (record { opened = o; pushed = pushed; since = since })
+    all-queried id text None pushed since session = tt
+    all-queried id text (Some o) pushed since session =
+        let w : Session = session_of o pushed since in
+        query-goes (QuerySelectorAll id text) w (all_asked keeper page.tree whole)
+        (λ q. serials-go (QuerySelectorAll id text) (λ ids. refl) (all_matching q.selectors q.root whole) o pushed since session
+        (root-opened o pushed since session)) (query_of (known_node keeper page.tree w (serial_at w n id)) text)
 
-  -- each ask but that for the document
-  pub asks-go : (c : DomAsk) → IsOther c → (w : Session) → IsSession n w → Asks c w
-  asks-go (GetDocument depth pierce) other w session = absurd other
-  asks-go (RequestChildNodes id depth pierce) other w session = request-goes id depth pierce w.opened w.pushed w.since session
-  asks-go (PushByPath path) other w session = path-pushed path w.opened w.pushed w.since session
-  asks-go (PushBySerials serials) other w session = serials-pushed serials w.opened w.pushed w.since session
-  asks-go (QuerySelector id text) other w session = first-queried id text w.opened w.pushed w.since session
-  asks-go (QuerySelectorAll id text) other w session = all-queried id text w.opened w.pushed w.since session
-  asks-go (GetAttributes id) other w session = attributes-go id w session (known_node keeper page.tree w (serial_at w n id))
-      (named-found w (serial_at w n id))
-  asks-go (DescribeNode id serial depth pierce) other w session =
-      description-goes id serial depth pierce w session (known_node keeper page.tree w (named_serial keeper w id serial))
-      (named-there w id serial)
+    -- each ask but that for the document
+    pub asks-go : (c : DomAsk) → IsOther c → (w : Session) → IsSession n w → Asks c w
+    asks-go (GetDocument depth pierce) other w session = absurd other
+    asks-go (RequestChildNodes id depth pierce) other w session = request-goes id depth pierce w.opened w.pushed w.since session
+    asks-go (PushByPath path) other w session = path-pushed path w.opened w.pushed w.since session
+    asks-go (PushBySerials serials) other w session = serials-pushed serials w.opened w.pushed w.since session
+    asks-go (QuerySelector id text) other w session = first-queried id text w.opened w.pushed w.since session
+    asks-go (QuerySelectorAll id text) other w session = all-queried id text w.opened w.pushed w.since session
+    asks-go (GetAttributes id) other w session = attributes-go id w session (known_node keeper page.tree w (serial_at w n id))
+        (named-found w (serial_at w n id))
+    asks-go (DescribeNode id serial depth pierce) other w session =
+        description-goes id serial depth pierce w session (known_node keeper page.tree w (named_serial keeper w id serial))
+        (named-there w id serial)
 
 -- ---- laws
 
@@ -371,16 +372,16 @@ document-few page valid d left w =
     )
 
 pub stays_session : StaysSession
-stays_session page ask w valid fits session =
-    either_ask (λ c. has_depth c ≡ true → IsSession (alone page.tree) (state_after w (session_outcome page c w)))
+stays_session page whole ask w valid fits session =
+    either_ask (λ c. has_depth c ≡ true → IsSession (alone page.tree) (state_after w (session_outcome page whole c w)))
     (λ depth pierce h. (document-goes page valid (levels_of (unwrap_or depth (pos 1))) (document-left depth pierce h) w).session)
-    (λ c other h. goes_session page c w (session_outcome page c w) session (asks-go page valid c other w session))
+    (λ c other h. goes_session page c w (session_outcome page whole c w) session (asks-go page valid whole c other w session))
     ask fits
 
 pub draws_few : DrawsFew
-draws_few page ask w valid fits session =
+draws_few page whole ask w valid fits session =
     let n : Nodes PageRow = alone page.tree in
-    either_ask (λ c. has_depth c ≡ true → length (state_after w (session_outcome page c w)).pushed ≤ length w.pushed + node_count n)
+    either_ask (λ c. has_depth c ≡ true → length (state_after w (session_outcome page whole c w)).pushed ≤ length w.pushed + node_count n)
     (λ depth pierce h. document-few page valid (levels_of (unwrap_or depth (pos 1))) (document-left depth pierce h) w)
-    (λ c other h. goes_few page c w (session_outcome page c w) (asks-go page valid c other w session))
+    (λ c other h. goes_few page c w (session_outcome page whole c w) (asks-go page valid whole c other w session))
     ask fits

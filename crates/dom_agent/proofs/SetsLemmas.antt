@@ -47,13 +47,13 @@ by_test a b c {P} e set = (
 )
 
 pub document_opens : DocumentOpens
-document_opens page depth pierce w valid s =
+document_opens page whole depth pierce w valid s =
     let n : Nodes PageRow = alone page.tree in
     let d : Option ℕ = levels_asked depth in
     let z : Session = document_opened (capped most_told d) n w in
     let xs : List Opening = dealt more_told most_told d n in
     let o : ℕ → Bool = above (capped most_told d) n in
-    let is : is_open (state_after w (session_outcome page (GetDocument depth pierce) w)).opened s
+    let is : is_open (state_after w (session_outcome page whole (GetDocument depth pierce) w)).opened s
     ≡ stands_in s (containers_within d n) =
     ap (λ (q : Option (ℕ → Bool)). is_open q s) (opened_after n page.tree xs o z.pushed z.since)
     ∙ opened_all-set xs o s
@@ -106,7 +106,7 @@ module _ (page : PageValue) (valid : IsValid page) where
       (ancestors-set page.tree s t (distinct-alone page valid s))
 
 pub request_opens : RequestOpens
-request_opens page id depth pierce w x valid found s =
+request_opens page whole id depth pierce w x valid found s =
     subst (λ (f : Option (Branch PageRow)).
     (is_open (state_after w (of_children (session_keeper (alone page.tree)) page.tree depth f w)).opened s ≡ true)
     ↔ ((is_open w.opened s ≡ true) ⊎ IsReached (levels_asked depth) x s)) (sym found)
@@ -121,7 +121,7 @@ path_by page valid None pushed since s begun t = cc
 path_by page valid (Some o) pushed since s begun t = push_by page valid s o pushed since t
 
 pub path_opens : PathOpens
-path_opens page path w x valid begun found t =
+path_opens page whole path w x valid begun found t =
     let n : Nodes PageRow = alone page.tree in
     let P : Outcome Session → Type 0 = λ y. (is_open (state_after w y).opened t ≡ true)
     ↔ ((is_open w.opened t ≡ true) ⊎ IsAncestor page.tree x.row.serial t) in
@@ -161,7 +161,7 @@ push_pushes page valid (Some o) pushed since s session begun =
     ∙ one_level_each (filter (λ (x : Branch PageRow). not (o x.row.serial)) (ancestors_down s n)))
 
 pub path_pushes : PathPushes
-path_pushes page path w x valid session begun found =
+path_pushes page whole path w x valid session begun found =
     let n : Nodes PageRow = alone page.tree in
     let P : Outcome Session → Type 0 = λ y. (state_after w y).pushed ≡ w.pushed ++ children_in_turn (shut_ancestors page w x.row.serial) in
     subst (λ (b : Bool). P (cond b (of_path (session_keeper n) page.tree (node_at_path path page.tree) w) (refused NotPushed))) (sym begun)
@@ -232,7 +232,7 @@ module _ (page : PageValue) (valid : IsValid page) where
       ))
 
 pub serials_open : SerialsOpen
-serials_open page serials w valid begun t =
+serials_open page whole serials w valid begun t =
     let n : Nodes PageRow = alone page.tree in
     subst (λ (b : Bool). (is_open (state_after w
     (cond b (with_ids (session_keeper n) page.tree (all_pushed (session_keeper n) page.tree serials w)) (refused NotPushed))).opened t
@@ -242,21 +242,21 @@ serials_open page serials w valid begun t =
 -- ---- what a query opens
 
 pub first_found_opens : FirstFoundOpens
-first_found_opens page id text w q s valid begun asked found t =
+first_found_opens page whole id text w q s valid begun asked found t =
     let n : Nodes PageRow = alone page.tree in
     let P : Outcome Session → Type 0 = λ y. (is_open (state_after w y).opened t ≡ true)
     ↔ ((is_open w.opened t ≡ true) ⊎ IsAncestor page.tree s t) in
-    subst (λ (r : Result Query Why). P (of_query (session_keeper n) page.tree (first_asked (session_keeper n) page.tree) r w)) (sym asked)
+    subst (λ (r : Result Query Why). P (of_query (session_keeper n) page.tree (first_asked (session_keeper n) page.tree whole) r w)) (sym asked)
     (subst (λ (f : Option ℕ). P (with_first (session_keeper n) page.tree f w)) (sym found)
     (path_by page valid w.opened w.pushed w.since s begun t))
 
 pub found_open : FoundOpen
-found_open page id text w q valid begun asked t =
+found_open page whole id text w q valid begun asked t =
     let n : Nodes PageRow = alone page.tree in
     subst (λ (r : Result Query Why).
-    (is_open (state_after w (of_query (session_keeper n) page.tree (all_asked (session_keeper n) page.tree) r w)).opened t ≡ true)
-    ↔ ((is_open w.opened t ≡ true) ⊎ IsAncestorOfOne page.tree (all_matching q.selectors q.root page.tree) t)) (sym asked)
-    (serials_by page valid (all_matching q.selectors q.root page.tree) w.opened w.pushed w.since begun t)
+    (is_open (state_after w (of_query (session_keeper n) page.tree (all_asked (session_keeper n) page.tree whole) r w)).opened t ≡ true)
+    ↔ ((is_open w.opened t ≡ true) ⊎ IsAncestorOfOne page.tree (all_matching q.selectors q.root whole) t)) (sym asked)
+    (serials_by page valid (all_matching q.selectors q.root whole) w.opened w.pushed w.since begun t)
 
 -- ---- what becomes known by a request
 
@@ -274,7 +274,7 @@ request_pushes_by page valid depth (Some o) pushed since id x found =
     pushed-all (alone page.tree) page.tree xs o pushed since ∙ ap (λ l. pushed ++ l) (known-in-turn page valid xs o pushed since)
 
 pub request_pushes : RequestPushes
-request_pushes page id depth pierce w x valid session found =
+request_pushes page whole id depth pierce w x valid session found =
     let n : Nodes PageRow = alone page.tree in
     subst (λ (f : Option (Branch PageRow)). (state_after w (of_children (session_keeper n) page.tree depth f w)).pushed
     ≡ w.pushed ++ known_in_turn page (requested (is_open w.opened) (levels_asked depth) (alone x)) w) (sym found)

@@ -242,7 +242,7 @@ tells_by page valid depth (Some o) pushed since id x session found =
     (requested-at o d (alone x) (closed-in_view o x v session.opened_set.closed)) session
 
 pub request_tells : RequestTells
-request_tells page id depth pierce w x valid session found =
+request_tells page whole id depth pierce w x valid session found =
     let n : Nodes PageRow = alone page.tree in
     subst (λ (f : Option (Branch PageRow)). All (TellsLevels (levels_asked depth) x w)
     (shown_by_outcome (of_children (session_keeper n) page.tree depth f w))) (sym found)

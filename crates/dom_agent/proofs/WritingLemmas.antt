@@ -1,17 +1,15 @@
 -- Nodes that are written straight from the page, as a message tells what is shown of them.
-use Rattle.std.proofs.Common.{◌≡◌, ℕ, suc, ◌+◌, ◌<◌, Bool, true, false, not, ◌&&◌, cond, List, [], ◌∷◌, ◌++◌, Option, Some, append_assoc}
+use Rattle.std.proofs.Common.{◌≡◌, ℕ, suc, ◌+◌, Bool, true, false, not, ◌&&◌, cond, List, [], ◌∷◌, ◌++◌, Option, append_assoc}
 use Rattle.std.proofs.Common.{append-nil, refl, sym, ap, ◌∙◌}
 use Rattle.std.specs.Prelude.{codes, option_map}
 use Rattle.json.specs.Token.{Token, begin_array, end_array, key}
 use Rattle.json.specs.Tree.{items_tokens}
 use Rattle.serde_json.specs.Data.{Data, array}
 use Rattle.serde_json.specs.Written.{items_outline}
-use Rattle.node_tree.specs.Nodes.{Nodes, none, node, Branch, from, tree_at, width}
+use Rattle.node_tree.specs.Nodes.{Nodes, none, node, Branch, width}
 use Rattle.node_tree.specs.Labels.{holds}
 use Rattle.node_tree.specs.Seen.{Seen, leaf, counted, opened, is_opened}
-use Rattle.node_tree.proofs.NodeLemmas.{from-zero}
 use Rattle.page_tree.specs.Pages.{PageRow}
-use Rattle.page_tree.proofs.CursorLemmas.{from-next}
 use Rattle.node_binding.specs.Cuts.{opens, cut}
 use Rattle.node_binding.specs.Openings.{less, is_spent}
 use Rattle.dom_objects.specs.Told.{Told, told_nodes, told_branch, hold_of}
@@ -180,30 +178,26 @@ children_written false d old e e1 e2 = cc
 abbrev pub left_tokens : ℕ → Nodes Seen → List Token
 left_tokens id kids = items_tokens (items_outline (tree_items (told_nodes id kids)))
 
--- The walk over the children n, of which a client sees `see n`.
-module _ (see : Nodes PageRow → Nodes Seen) (parent : ℕ) (n : Nodes PageRow) where
-  -- what was written, with what is left from a place on
-  abbrev pub with_left : List Token → ℕ → List Token
-  with_left now k = now ++ left_tokens parent (see (from k n))
+-- A walk over children n, of which a client sees `see n`.
+module _ (see : Nodes PageRow → Nodes Seen) (parent : ℕ) where
+  -- what was written, with what is left
+  abbrev pub with_left : List Token → Nodes PageRow → List Token
+  with_left now n = now ++ left_tokens parent (see n)
 
-  pub left_start : (old : List Token) {now : List Token} → now ≡ old ++ begin_array ∷ []
-      → with_left now 0 ≡ old ++ data_tokens (nodes_data parent (see n))
-  left_start old begun =
-      ap (λ ts. with_left ts 0) begun
-      ∙ append_assoc old (begin_array ∷ []) (left_tokens parent (see (from 0 n)))
-      ∙ ap (λ (m : Nodes PageRow). old ++ (begin_array ∷ left_tokens parent (see m))) (from-zero n)
+  pub left_start : (n : Nodes PageRow) (old : List Token) {now : List Token} → now ≡ old ++ begin_array ∷ []
+      → with_left now n ≡ old ++ data_tokens (nodes_data parent (see n))
+  left_start n old begun = ap (λ ts. with_left ts n) begun ∙ append_assoc old (begin_array ∷ []) (left_tokens parent (see n))
 
-  pub left_turn : (one : Branch Seen) (k : ℕ) (x : Branch PageRow) (now next all : List Token) → k < width n → tree_at k n ≡ Some x
-      → see (node x.row x.children (from (k + 1) n)) ≡ node one.row one.children (see (from (k + 1) n))
-      → next ≡ now ++ data_tokens (tree_data (told_branch parent one)) → with_left now k ≡ all
-      → with_left next (k + 1) ≡ all
-  left_turn one k x now next all inside at first wrote was =
-      ap (λ ts. with_left ts (k + 1)) wrote
-      ∙ append_assoc now (data_tokens (tree_data (told_branch parent one))) (left_tokens parent (see (from (k + 1) n)))
-      ∙ ap (λ (m : Nodes Seen). now ++ left_tokens parent m) (sym (ap see (from-next n k x inside at) ∙ first))
+  pub left_turn : (one : Branch Seen) (x : Branch PageRow) (n rest : Nodes PageRow) (now next all : List Token)
+      → n ≡ node x.row x.children rest → see (node x.row x.children rest) ≡ node one.row one.children (see rest)
+      → next ≡ now ++ data_tokens (tree_data (told_branch parent one)) → with_left now n ≡ all → with_left next rest ≡ all
+  left_turn one x n rest now next all split first wrote was =
+      ap (λ ts. with_left ts rest) wrote
+      ∙ append_assoc now (data_tokens (tree_data (told_branch parent one))) (left_tokens parent (see rest))
+      ∙ ap (λ (m : Nodes Seen). now ++ left_tokens parent m) (sym (ap see split ∙ first))
       ∙ was
 
-  pub left_end : (k : ℕ) (now last all : List Token) → see none ≡ none → from k n ≡ none → last ≡ now ++ end_array ∷ []
-      → with_left now k ≡ all → last ≡ all
-  left_end k now last all nothing ended closed was = closed ∙ ap (λ (m : Nodes Seen). now ++ left_tokens parent m)
+  pub left_end : (n : Nodes PageRow) (now last all : List Token) → see none ≡ none → n ≡ none → last ≡ now ++ end_array ∷ []
+      → with_left now n ≡ all → last ≡ all
+  left_end n now last all nothing ended closed was = closed ∙ ap (λ (m : Nodes Seen). now ++ left_tokens parent m)
       (sym (ap see ended ∙ nothing)) ∙ was

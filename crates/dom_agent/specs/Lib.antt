@@ -11,3 +11,6 @@ pub mod Sets
 pub mod Shows
 pub mod Edits
 pub mod EditLaws
+pub mod ModeEdits
+pub mod InCode
+pub mod Foresight

@@ -149,13 +149,13 @@ module _ {S : Type 0} (k : Keeper S) (document : Branch PageRow) where
   with_first None w = only_replied (NodeId 0) w
   with_first (Some s) w = with_id s (pushed s w)
 
-  -- a query for one node
-  abbrev pub first_asked : Query → S → Outcome S
-  first_asked q w = with_first (first_matching q.selectors q.root document) w
+  -- a query for one node, of the whole page
+  abbrev pub first_asked : Branch PageRow → Query → S → Outcome S
+  first_asked whole q w = with_first (first_matching q.selectors q.root whole) w
 
-  -- all that match, pushed in document order
-  abbrev pub all_asked : Query → S → Outcome S
-  all_asked q w = with_ids (all_pushed (all_matching q.selectors q.root document) w)
+  -- all that match in the whole page, pushed in document order
+  abbrev pub all_asked : Branch PageRow → Query → S → Outcome S
+  all_asked whole q w = with_ids (all_pushed (all_matching q.selectors q.root whole) w)
 
   -- a query that is not refused asks for some of what matches
   abbrev pub of_query : (Query → S → Outcome S) → Result Query Why → S → Outcome S
@@ -172,16 +172,16 @@ module _ {S : Type 0} (k : Keeper S) (document : Branch PageRow) where
   of_description depth None w = refused UnknownNode
   of_description depth (Some x) w = only_replied (Node (described (capped most_told (levels_of (unwrap_or depth (pos 1)))) x)) w
 
-  -- what a command comes to
-  abbrev pub outcome : DomAsk → S → Outcome S
-  outcome (GetDocument depth pierce) w = with_document (levels_of (unwrap_or depth (pos 1))) w
-  outcome (RequestChildNodes id depth pierce) w = of_children depth (known_node w (k.serial_of w id)) w
-  outcome (PushByPath path) w = once_begun w (of_path (node_at_path path document) w)
-  outcome (PushBySerials serials) w = once_begun w (with_ids (all_pushed serials w))
-  outcome (QuerySelector id text) w = of_query first_asked (query_of (known_node w (k.serial_of w id)) text) w
-  outcome (QuerySelectorAll id text) w = of_query all_asked (query_of (known_node w (k.serial_of w id)) text) w
-  outcome (GetAttributes id) w = of_attributes (known_node w (k.serial_of w id)) w
-  outcome (DescribeNode id serial depth pierce) w = of_description depth (known_node w (named_serial k w id serial)) w
+  -- what a command comes to; the document is what the client is shown of the whole page, in which queries look
+  abbrev pub outcome : Branch PageRow → DomAsk → S → Outcome S
+  outcome whole (GetDocument depth pierce) w = with_document (levels_of (unwrap_or depth (pos 1))) w
+  outcome whole (RequestChildNodes id depth pierce) w = of_children depth (known_node w (k.serial_of w id)) w
+  outcome whole (PushByPath path) w = once_begun w (of_path (node_at_path path document) w)
+  outcome whole (PushBySerials serials) w = once_begun w (with_ids (all_pushed serials w))
+  outcome whole (QuerySelector id text) w = of_query (first_asked whole) (query_of (known_node w (k.serial_of w id)) text) w
+  outcome whole (QuerySelectorAll id text) w = of_query (all_asked whole) (query_of (known_node w (k.serial_of w id)) text) w
+  outcome whole (GetAttributes id) w = of_attributes (known_node w (k.serial_of w id)) w
+  outcome whole (DescribeNode id serial depth pierce) w = of_description depth (known_node w (named_serial k w id serial)) w
 
 -- ---- what is kept, and what is sent
 

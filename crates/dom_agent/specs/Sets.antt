@@ -21,15 +21,15 @@ levels_asked depth = levels_of (unwrap_or depth (pos 1))
 
 -- after `DOM.getDocument` the containers of a level below the depth are opened, and nothing else
 abbrev pub DocumentOpens : Type 0
-DocumentOpens = (page : PageValue) (depth : Option ℤ) (pierce : Option Bool) (w : Session) → IsValid page
-    → (s : ℕ) → (is_open (state_after w (session_outcome page (GetDocument depth pierce) w)).opened s ≡ true)
+DocumentOpens = (page : PageValue) (whole : Branch PageRow) (depth : Option ℤ) (pierce : Option Bool) (w : Session) → IsValid page
+    → (s : ℕ) → (is_open (state_after w (session_outcome page whole (GetDocument depth pierce) w)).opened s ≡ true)
     ↔ IsReached (levels_asked depth) page.tree s
 
 -- a request for the children of the known node x opens each container at or below it at a distance below the depth
 abbrev pub RequestOpens : Type 0
-RequestOpens = (page : PageValue) (id : ℕ) (depth : Option ℤ) (pierce : Option Bool) (w : Session) (x : Branch PageRow) → IsValid page
+RequestOpens = (page : PageValue) (whole : Branch PageRow) (id : ℕ) (depth : Option ℤ) (pierce : Option Bool) (w : Session) (x : Branch PageRow) → IsValid page
     → known_node (session_keeper (alone page.tree)) page.tree w (serial_at w (alone page.tree) id) ≡ Some x
-    → OpensAlso w (state_after w (session_outcome page (RequestChildNodes id depth pierce) w)) (IsReached (levels_asked depth) x)
+    → OpensAlso w (state_after w (session_outcome page whole (RequestChildNodes id depth pierce) w)) (IsReached (levels_asked depth) x)
 
 -- the nodes of the page that are known afterwards and were not before, in document order
 abbrev pub newly_known : PageValue → Session → Session → List ℕ
@@ -43,17 +43,17 @@ known_in_turn page (x ∷ xs) w =
 
 -- the nodes that become known by a request for children get the next ids, in the order of its openings
 abbrev pub RequestPushes : Type 0
-RequestPushes = (page : PageValue) (id : ℕ) (depth : Option ℤ) (pierce : Option Bool) (w : Session) (x : Branch PageRow) → IsValid page
+RequestPushes = (page : PageValue) (whole : Branch PageRow) (id : ℕ) (depth : Option ℤ) (pierce : Option Bool) (w : Session) (x : Branch PageRow) → IsValid page
     → IsSession (alone page.tree) w
     → known_node (session_keeper (alone page.tree)) page.tree w (serial_at w (alone page.tree) id) ≡ Some x
-    → (state_after w (session_outcome page (RequestChildNodes id depth pierce) w)).pushed
+    → (state_after w (session_outcome page whole (RequestChildNodes id depth pierce) w)).pushed
     ≡ w.pushed ++ known_in_turn page (requested (is_open w.opened) (levels_asked depth) (alone x)) w
 
 -- a push of the node that a path leads to opens its proper ancestors
 abbrev pub PathOpens : Type 0
-PathOpens = (page : PageValue) (path : List ℕ) (w : Session) (x : Branch PageRow) → IsValid page
+PathOpens = (page : PageValue) (whole : Branch PageRow) (path : List ℕ) (w : Session) (x : Branch PageRow) → IsValid page
     → is_open w.opened page.tree.row.serial ≡ true → node_at_path path page.tree ≡ Some x
-    → OpensAlso w (state_after w (session_outcome page (PushByPath path) w)) (IsAncestor page.tree x.row.serial)
+    → OpensAlso w (state_after w (session_outcome page whole (PushByPath path) w)) (IsAncestor page.tree x.row.serial)
 
 -- the serials of some nodes, side by side
 abbrev pub row_serials : Nodes PageRow → List ℕ
@@ -71,9 +71,9 @@ shut_ancestors page w s = filter (λ (x : Branch PageRow). not (is_open w.opened
 
 -- the nodes that become known by a push by path get the next ids: the children of each ancestor that it opens, from the top down
 abbrev pub PathPushes : Type 0
-PathPushes = (page : PageValue) (path : List ℕ) (w : Session) (x : Branch PageRow) → IsValid page → IsSession (alone page.tree) w
+PathPushes = (page : PageValue) (whole : Branch PageRow) (path : List ℕ) (w : Session) (x : Branch PageRow) → IsValid page → IsSession (alone page.tree) w
     → is_open w.opened page.tree.row.serial ≡ true → node_at_path path page.tree ≡ Some x
-    → (state_after w (session_outcome page (PushByPath path) w)).pushed
+    → (state_after w (session_outcome page whole (PushByPath path) w)).pushed
     ≡ w.pushed ++ children_in_turn (shut_ancestors page w x.row.serial)
 
 -- a push of several nodes opens the proper ancestors of each; a serial that no node has opens nothing
@@ -84,8 +84,8 @@ pub record IsAncestorOfOne (document : Branch PageRow) (serials : List ℕ) (t :
 
 -- once the document is opened, a push by serials opens the proper ancestors of each node that has one of them
 abbrev pub SerialsOpen : Type 0
-SerialsOpen = (page : PageValue) (serials : List ℕ) (w : Session) → IsValid page → is_open w.opened page.tree.row.serial ≡ true
-    → OpensAlso w (state_after w (session_outcome page (PushBySerials serials) w)) (IsAncestorOfOne page.tree serials)
+SerialsOpen = (page : PageValue) (whole : Branch PageRow) (serials : List ℕ) (w : Session) → IsValid page → is_open w.opened page.tree.row.serial ≡ true
+    → OpensAlso w (state_after w (session_outcome page whole (PushBySerials serials) w)) (IsAncestorOfOne page.tree serials)
 
 -- what a query asks by this text, below the known node of this id
 abbrev pub query_asked : PageValue → Session → ℕ → List ℕ → Result Query Why
@@ -94,14 +94,14 @@ query_asked page w id text =
 
 -- once the document is opened, a query for one node opens the proper ancestors of the first that matches
 abbrev pub FirstFoundOpens : Type 0
-FirstFoundOpens = (page : PageValue) (id : ℕ) (text : List ℕ) (w : Session) (q : Query) (s : ℕ) → IsValid page
+FirstFoundOpens = (page : PageValue) (whole : Branch PageRow) (id : ℕ) (text : List ℕ) (w : Session) (q : Query) (s : ℕ) → IsValid page
     → is_open w.opened page.tree.row.serial ≡ true → query_asked page w id text ≡ Ok q
-    → first_matching q.selectors q.root page.tree ≡ Some s
-    → OpensAlso w (state_after w (session_outcome page (QuerySelector id text) w)) (IsAncestor page.tree s)
+    → first_matching q.selectors q.root whole ≡ Some s
+    → OpensAlso w (state_after w (session_outcome page whole (QuerySelector id text) w)) (IsAncestor page.tree s)
 
 -- a query for all nodes opens the ancestors of each that matches
 abbrev pub FoundOpen : Type 0
-FoundOpen = (page : PageValue) (id : ℕ) (text : List ℕ) (w : Session) (q : Query) → IsValid page
+FoundOpen = (page : PageValue) (whole : Branch PageRow) (id : ℕ) (text : List ℕ) (w : Session) (q : Query) → IsValid page
     → is_open w.opened page.tree.row.serial ≡ true → query_asked page w id text ≡ Ok q
-    → OpensAlso w (state_after w (session_outcome page (QuerySelectorAll id text) w))
-    (IsAncestorOfOne page.tree (all_matching q.selectors q.root page.tree))
+    → OpensAlso w (state_after w (session_outcome page whole (QuerySelectorAll id text) w))
+    (IsAncestorOfOne page.tree (all_matching q.selectors q.root whole))

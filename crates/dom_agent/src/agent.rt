@@ -6,30 +6,35 @@ ghost use Rattle.page_tree.specs.Pages.{find_in};
 ghost use Rattle.page_tree.specs.Edits.{after, back_tree};
 ghost use Rattle.page_tree.specs.EditFaults.{first_fault, IsReady, RefusesEdit};
 ghost use Rattle.node_binding.specs.Openings.{IsDepth, levels_of};
-ghost use Rattle.node_binding.specs.Bindings.{empty_from, cleared, id_in, opened_in};
+ghost use Rattle.shown_pages.specs.ShownPages.{shown_page};
+ghost use Rattle.shown_pages.specs.ShownEdits.{shown_edit};
+ghost use Rattle.node_binding.specs.Bindings.{empty_from, in_mode, KnowsNothing, cleared, id_in, opened_in};
 ghost use Rattle.cdp_messages.specs.DomAsks.{fits_ask};
 ghost use Rattle.cdp_messages.specs.declared.dom_ask.DomAsk.TheVariants.{GetDocument, RequestChildNodes, PushByPath, PushBySerials};
 ghost use Rattle.cdp_messages.specs.declared.dom_ask.DomAsk.TheVariants.{QuerySelector, QuerySelectorAll, GetAttributes, DescribeNode};
 ghost use Rattle.client_views.specs.Moves.{replied, failed, frames_of_moves};
 ghost use Rattle.dom_agent.specs.Keepers.{binding_keeper};
 ghost use Rattle.dom_agent.specs.Queries.{query_seen};
-ghost use Rattle.dom_agent.specs.Requests.{state_after, answer, pushed, all_pushed, with_id, with_ids, first_asked, all_asked, frames_told};
-ghost use Rattle.dom_agent.specs.Requests.{known_node, named_serial};
+ghost use Rattle.dom_agent.specs.Requests.{state_after, answer, named_serial, frames_told};
+ghost use Rattle.dom_agent.specs.InCode.{node_pushed, nodes_pushed, with_node, with_nodes, node_known, first_of, all_of};
+ghost use Rattle.dom_agent.specs.InCode.{agent_outcome};
 ghost use Rattle.dom_agent.specs.Laws.{binding_outcome};
 ghost use Rattle.dom_agent.specs.Edits.{OnFault};
-ghost use Rattle.dom_agent.specs.EditLaws.{binding_edited};
+ghost use Rattle.dom_agent.specs.ModeEdits.{shown_binding_edited};
+ghost use Rattle.dom_agent.specs.Foresight.{IsForeseen, HasCome, kept_after, frames_after};
 
 use crate::described::tell_described;
-use crate::edits::{apply_and_tell, attach, attribute_dropped, attribute_set, detach, text_set};
+use crate::foresight::{Foreseen, foresee, tell_foreseen};
 use crate::openings::request_node;
 use crate::paths::node_at_path;
 use crate::pushes::{open_above, push_all};
 use crate::queries::{Query, QueryErr, read_query};
 use crate::serving::{open_all, open_document};
 use cdp_messages::{DomAsk, Numbers, Refused, ReplyBody, Why, write_refused, write_reply};
-use node_binding::{Binding, capped, find_in, levels_of};
-use page_tree::{EditErr, Node, Page, TreeEdit};
+use node_binding::{Binding, capped, levels_of};
+use page_tree::{EditErr, Page, TreeEdit};
 use select_match::{all_matches, first_match};
+use shown_pages::{Mode, ShownNode};
 use std::alloc::{AllocError, Global};
 use std::marker::Model;
 
@@ -51,7 +56,7 @@ impl Model for DomAgent {
 }
 
 impl DomAgent {
-    /// Nothing is known, and the first id is 1. Takes no memory.
+    /// Nothing is known, the first id is 1, and the mode is `All`. Takes no memory.
     pub fn new(alloc: Global) -> DomAgent
         ensures { result ≡ empty_from 1 }
     {
@@ -59,6 +64,21 @@ impl DomAgent {
             alloc,
             binding: Binding::new(alloc),
         }
+    }
+
+    /// What the client is shown of the page.
+    pub fn mode(&self) -> Mode
+        ensures { result ≡ self.now.mode }
+    {
+        self.binding.mode()
+    }
+
+    /// Another mode, while nothing is known. Writes nothing.
+    pub fn set_mode(&mut self, mode: Mode)
+        requires { KnowsNothing self.old }
+        ensures { self.new ≡ in_mode mode self.old }
+    {
+        self.binding.set_mode(mode);
     }
 
     /// Carries the command out, and appends the frames that answer it to `out`, with the id of the command's frame: the reply last,
@@ -73,12 +93,13 @@ impl DomAgent {
     ) -> Result<(), AllocError>
         requires ask { fits_ask ask.now ≡ true }
         requires room { self.old.next < drawn_before_call }
-        requires few { (state_after self.old (binding_outcome page.now ask.now self.old)).next < drawn_before_nodes }
+        requires few { (state_after self.old
+            (binding_outcome (shown_page self.old.mode page.now) page.now.tree ask.now self.old)).next < drawn_before_nodes }
         ensures known { OnOk result
-            (self.new ≡ state_after self.old (binding_outcome page.now ask.now self.old)) }
+            (self.new ≡ state_after self.old (binding_outcome (shown_page self.old.mode page.now) page.now.tree ask.now self.old)) }
         ensures sent { OnOk result
             (out.new.items ≡ out.old.items
-            ++ answer id (binding_outcome page.now ask.now self.old)) }
+            ++ answer id (binding_outcome (shown_page self.old.mode page.now) page.now.tree ask.now self.old)) }
     {
         match ask {
             DomAsk::GetDocument { depth, pierce: _ } => { self.get_document(page, id, *depth, out) }
@@ -117,10 +138,10 @@ impl DomAgent {
         requires depth { IsDepth (unwrap_or depth (pos 1)) }
         requires room { self.old.next < drawn_before_call }
         ensures known { OnOk result
-            (self.new ≡ state_after self.old (binding_outcome page.now (GetDocument depth None) self.old)) }
+            (self.new ≡ state_after self.old (agent_outcome page.now (GetDocument depth None) self.old)) }
         ensures sent { OnOk result
             (out.new.items ≡ out.old.items
-            ++ answer id (binding_outcome page.now (GetDocument depth None) self.old)) }
+            ++ answer id (agent_outcome page.now (GetDocument depth None) self.old)) }
     {
         open_document(
             self.alloc,
@@ -133,12 +154,12 @@ impl DomAgent {
     }
 
     /// The known node that has the id.
-    fn node_of<'a>(&self, page: &'a Page, id: u64) -> Option<Node<'a>>
+    fn node_of<'a>(&self, page: &'a Page, id: u64) -> Option<ShownNode<'a>>
         ensures { result
-            ≡ known_node (binding_keeper (alone page.now.tree)) page.now.tree self.now (map.get self.now.serials id) }
+            ≡ node_known (shown_page self.now.mode page.now).tree self.now (map.get self.now.serials id) }
     {
         let serial = self.serial_of(id)?;
-        find_in(page, serial)
+        ShownNode::find(page, serial, self.mode())
     }
 
     fn request_child_nodes(
@@ -153,10 +174,10 @@ impl DomAgent {
         requires room { self.old.next < drawn_before_call }
         ensures known { OnOk result
             (self.new
-            ≡ state_after self.old (binding_outcome page.now (RequestChildNodes node depth None) self.old)) }
+            ≡ state_after self.old (agent_outcome page.now (RequestChildNodes node depth None) self.old)) }
         ensures sent { OnOk result
             (out.new.items ≡ out.old.items
-            ++ answer id (binding_outcome page.now (RequestChildNodes node depth None) self.old)) }
+            ++ answer id (agent_outcome page.now (RequestChildNodes node depth None) self.old)) }
     {
         page.valid();
         let Some(found) = self.node_of(page, node) else {
@@ -179,14 +200,15 @@ impl DomAgent {
     ) -> Result<(), AllocError>
         requires room { self.old.next < drawn_before_call }
         ensures known { OnOk result
-            (self.new ≡ state_after self.old (binding_outcome page.now (PushByPath path.now) self.old)) }
+            (self.new ≡ state_after self.old (agent_outcome page.now (PushByPath path.now) self.old)) }
         ensures sent { OnOk result
-            (out.new.items ≡ out.old.items ++ answer id (binding_outcome page.now (PushByPath path.now) self.old)) }
+            (out.new.items ≡ out.old.items ++ answer id (agent_outcome page.now (PushByPath path.now) self.old)) }
     {
         if !self.binding.is_opened(page.document()) {
             return refuse(self.alloc, id, Why::NotPushed, out);
         }
-        let Some(found) = node_at_path(&page.root(), path) else {
+        let document = ShownNode::document(page, self.mode());
+        let Some(found) = node_at_path(&document, path) else {
             return refuse(self.alloc, id, Why::NoPath, out);
         };
         self.answer_pushed(page, id, found.serial(), out)
@@ -202,12 +224,13 @@ impl DomAgent {
     ) -> Result<(), AllocError>
         requires room { self.old.next < drawn_before_call }
         ensures known { OnOk result (self.new
-            ≡ (pushed (binding_keeper (alone page.now.tree)) page.now.tree serial self.old).state) }
+            ≡ (node_pushed (shown_page self.old.mode page.now).tree serial self.old).state) }
         ensures sent { OnOk result (out.new.items ≡ out.old.items
-            ++ answer id (with_id (binding_keeper (alone page.now.tree)) page.now.tree serial
-            (pushed (binding_keeper (alone page.now.tree)) page.now.tree serial self.old))) }
+            ++ answer id (with_node (shown_page self.old.mode page.now).tree serial
+            (node_pushed (shown_page self.old.mode page.now).tree serial self.old))) }
     {
-        open_above(self.alloc, &mut self.binding, page, serial, out)?;
+        let mode = self.mode();
+        open_above(self.alloc, &mut self.binding, page, mode, serial, out)?;
         let node = self.binding.id_of(serial).unwrap_or(0);
         reply(self.alloc, id, ReplyBody::NodeId(node), out)?;
         Ok(())
@@ -221,12 +244,12 @@ impl DomAgent {
         serials: &[u64],
         out: &mut Vec<u8>,
     ) -> Result<(), AllocError>
-        requires few { (state_after self.old (binding_outcome page.now (PushBySerials serials.now) self.old)).next < drawn_before_nodes }
+        requires few { (state_after self.old (agent_outcome page.now (PushBySerials serials.now) self.old)).next < drawn_before_nodes }
         ensures known { OnOk result
-            (self.new ≡ state_after self.old (binding_outcome page.now (PushBySerials serials.now) self.old)) }
+            (self.new ≡ state_after self.old (agent_outcome page.now (PushBySerials serials.now) self.old)) }
         ensures sent { OnOk result
             (out.new.items ≡ out.old.items
-            ++ answer id (binding_outcome page.now (PushBySerials serials.now) self.old)) }
+            ++ answer id (agent_outcome page.now (PushBySerials serials.now) self.old)) }
     {
         if !self.has_document(page) {
             return refuse(self.alloc, id, Why::NotPushed, out);
@@ -242,15 +265,16 @@ impl DomAgent {
         serials: &[u64],
         out: &mut Vec<u8>,
     ) -> Result<(), AllocError>
-        requires few { (all_pushed (binding_keeper (alone page.now.tree)) page.now.tree serials.now self.old).progress.state.next <
+        requires few { (nodes_pushed (shown_page self.old.mode page.now).tree serials.now self.old).progress.state.next <
             drawn_before_nodes }
         ensures known { OnOk result (self.new
-            ≡ (all_pushed (binding_keeper (alone page.now.tree)) page.now.tree serials.now self.old).progress.state) }
+            ≡ (nodes_pushed (shown_page self.old.mode page.now).tree serials.now self.old).progress.state) }
         ensures sent { OnOk result (out.new.items ≡ out.old.items
-            ++ answer id (with_ids (binding_keeper (alone page.now.tree)) page.now.tree
-            (all_pushed (binding_keeper (alone page.now.tree)) page.now.tree serials.now self.old))) }
+            ++ answer id (with_nodes (shown_page self.old.mode page.now).tree
+            (nodes_pushed (shown_page self.old.mode page.now).tree serials.now self.old))) }
     {
-        let ids = push_all(self.alloc, &mut self.binding, page, serials, out)?;
+        let mode = self.mode();
+        let ids = push_all(self.alloc, &mut self.binding, page, mode, serials, out)?;
         reply(self.alloc, id, ReplyBody::NodeIds(Numbers::new(ids)), out)?;
         Ok(())
     }
@@ -265,9 +289,9 @@ impl DomAgent {
     ) -> Result<(), AllocError>
         requires room { self.old.next < drawn_before_call }
         ensures known { OnOk result
-            (self.new ≡ state_after self.old (binding_outcome page.now (QuerySelector node selector.now) self.old)) }
+            (self.new ≡ state_after self.old (agent_outcome page.now (QuerySelector node selector.now) self.old)) }
         ensures sent { OnOk result
-            (out.new.items ≡ out.old.items ++ answer id (binding_outcome page.now (QuerySelector node selector.now) self.old)) }
+            (out.new.items ≡ out.old.items ++ answer id (agent_outcome page.now (QuerySelector node selector.now) self.old)) }
     {
         let found = self.node_of(page, node);
         match read_query(self.alloc, found, selector) {
@@ -285,13 +309,14 @@ impl DomAgent {
         query: &Query,
         out: &mut Vec<u8>,
     ) -> Result<(), AllocError>
-        requires live { IsSome (find_in query.now.root page.now.tree) }
+        requires shown { IsSome (find_in query.now.root (shown_page self.old.mode page.now).tree) }
         requires room { self.old.next < drawn_before_call }
         ensures known { OnOk result (self.new ≡ state_after self.old
-            (first_asked (binding_keeper (alone page.now.tree)) page.now.tree (query_seen query.now) self.old)) }
+            (first_of (shown_page self.old.mode page.now).tree page.now.tree (query_seen query.now) self.old)) }
         ensures sent { OnOk result (out.new.items ≡ out.old.items ++ answer id
-            (first_asked (binding_keeper (alone page.now.tree)) page.now.tree (query_seen query.now) self.old)) }
+            (first_of (shown_page self.old.mode page.now).tree page.now.tree (query_seen query.now) self.old)) }
     {
+        page.valid();
         match first_match(self.alloc, &query.selectors, page, query.root) {
             Some(serial) => self.answer_pushed(page, id, serial, out),
             None => reply(self.alloc, id, ReplyBody::NodeId(0), out),
@@ -306,12 +331,12 @@ impl DomAgent {
         selector: &str,
         out: &mut Vec<u8>,
     ) -> Result<(), AllocError>
-        requires few { (state_after self.old (binding_outcome page.now (QuerySelectorAll node selector.now) self.old)).next <
+        requires few { (state_after self.old (agent_outcome page.now (QuerySelectorAll node selector.now) self.old)).next <
             drawn_before_nodes }
         ensures known { OnOk result
-            (self.new ≡ state_after self.old (binding_outcome page.now (QuerySelectorAll node selector.now) self.old)) }
+            (self.new ≡ state_after self.old (agent_outcome page.now (QuerySelectorAll node selector.now) self.old)) }
         ensures sent { OnOk result
-            (out.new.items ≡ out.old.items ++ answer id (binding_outcome page.now (QuerySelectorAll node selector.now) self.old)) }
+            (out.new.items ≡ out.old.items ++ answer id (agent_outcome page.now (QuerySelectorAll node selector.now) self.old)) }
     {
         let found = self.node_of(page, node);
         match read_query(self.alloc, found, selector) {
@@ -329,14 +354,15 @@ impl DomAgent {
         query: &Query,
         out: &mut Vec<u8>,
     ) -> Result<(), AllocError>
-        requires live { IsSome (find_in query.now.root page.now.tree) }
+        requires shown { IsSome (find_in query.now.root (shown_page self.old.mode page.now).tree) }
         requires few { (state_after self.old
-            (all_asked (binding_keeper (alone page.now.tree)) page.now.tree (query_seen query.now) self.old)).next < drawn_before_nodes }
+            (all_of (shown_page self.old.mode page.now).tree page.now.tree (query_seen query.now) self.old)).next < drawn_before_nodes }
         ensures known { OnOk result (self.new ≡ state_after self.old
-            (all_asked (binding_keeper (alone page.now.tree)) page.now.tree (query_seen query.now) self.old)) }
+            (all_of (shown_page self.old.mode page.now).tree page.now.tree (query_seen query.now) self.old)) }
         ensures sent { OnOk result (out.new.items ≡ out.old.items ++ answer id
-            (all_asked (binding_keeper (alone page.now.tree)) page.now.tree (query_seen query.now) self.old)) }
+            (all_of (shown_page self.old.mode page.now).tree page.now.tree (query_seen query.now) self.old)) }
     {
+        page.valid();
         let serials = all_matches(self.alloc, &query.selectors, page, query.root)?;
         self.answer_all_pushed(page, id, serials.as_slice(), out)
     }
@@ -348,9 +374,9 @@ impl DomAgent {
         node: u64,
         out: &mut Vec<u8>,
     ) -> Result<(), AllocError>
-        ensures known { self.now ≡ state_after self.now (binding_outcome page.now (GetAttributes node) self.now) }
+        ensures known { self.now ≡ state_after self.now (agent_outcome page.now (GetAttributes node) self.now) }
         ensures sent { OnOk result
-            (out.new.items ≡ out.old.items ++ answer id (binding_outcome page.now (GetAttributes node) self.now)) }
+            (out.new.items ≡ out.old.items ++ answer id (agent_outcome page.now (GetAttributes node) self.now)) }
     {
         let Some(found) = self.node_of(page, node) else {
             return refuse(self.alloc, id, Why::UnknownNode, out);
@@ -368,13 +394,13 @@ impl DomAgent {
         page: &'a Page,
         id: Option<u64>,
         serial: Option<u64>,
-    ) -> Option<Node<'a>>
-        ensures { result ≡ known_node (binding_keeper (alone page.now.tree)) page.now.tree self.now
-            (named_serial (binding_keeper (alone page.now.tree)) self.now id serial) }
+    ) -> Option<ShownNode<'a>>
+        ensures { result ≡ node_known (shown_page self.now.mode page.now).tree self.now
+            (named_serial (binding_keeper (alone (shown_page self.now.mode page.now).tree)) self.now id serial) }
     {
         match id {
             Some(id) => self.node_of(page, id),
-            None => find_in(page, serial?),
+            None => ShownNode::find(page, serial?, self.mode()),
         }
     }
 
@@ -388,9 +414,9 @@ impl DomAgent {
         out: &mut Vec<u8>,
     ) -> Result<(), AllocError>
         requires depth { IsDepth (unwrap_or depth (pos 1)) }
-        ensures known { self.now ≡ state_after self.now (binding_outcome page.now (DescribeNode node serial depth None) self.now) }
+        ensures known { self.now ≡ state_after self.now (agent_outcome page.now (DescribeNode node serial depth None) self.now) }
         ensures sent { OnOk result
-            (out.new.items ≡ out.old.items ++ answer id (binding_outcome page.now (DescribeNode node serial depth None) self.now)) }
+            (out.new.items ≡ out.old.items ++ answer id (agent_outcome page.now (DescribeNode node serial depth None) self.now)) }
     {
         let Some(found) = self.named_node(page, node, serial) else {
             return refuse(self.alloc, id, Why::UnknownNode, out);
@@ -398,24 +424,26 @@ impl DomAgent {
         tell_described(self.alloc, &found, capped(levels_asked(depth)), id, out)
     }
 
-    /// Opens each ancestor of the node that is not opened yet, from the top down, by one level; appends a frame for each.
+    /// Opens each ancestor of the shown node that is not opened yet, from the top down, by one level; appends a frame for each.
     /// Gives the id of the node.
     pub fn push(&mut self, page: &Page, serial: u64, out: &mut Vec<u8>) -> Result<u64, AllocError>
+        requires shown { IsSome (find_in serial (shown_page self.old.mode page.now).tree) }
         requires room { self.old.next < drawn_before_call }
         ensures few { OnOk result (self.new.next ≤ self.old.next + drawn_by_push) }
         ensures id { IfOk result (λ id. id ≡ id_in self.new serial) }
         ensures known { OnOk result
-            (self.new ≡ (pushed (binding_keeper (alone page.now.tree)) page.now.tree serial self.old).state) }
+            (self.new ≡ (node_pushed (shown_page self.old.mode page.now).tree serial self.old).state) }
         ensures sent { OnOk result
             (out.new.items ≡ out.old.items
-            ++ frames_told (pushed (binding_keeper (alone page.now.tree)) page.now.tree serial self.old).shown) }
+            ++ frames_told (node_pushed (shown_page self.old.mode page.now).tree serial self.old).shown) }
     {
-        open_above(self.alloc, &mut self.binding, page, serial, out)?;
+        let mode = self.mode();
+        open_above(self.alloc, &mut self.binding, page, mode, serial, out)?;
         Ok(self.binding.id_of(serial).unwrap_or(0))
     }
 
-    /// Makes the edit of the page, and appends the events that tell it to the client; answers the edit that leads back. A fault
-    /// changes nothing.
+    /// Makes the edit of the page, and appends the events that tell it to the client, who is shown what its mode shows; answers
+    /// the edit that leads back. A fault changes nothing.
     pub fn edit(
         &mut self,
         page: &mut Page,
@@ -427,44 +455,50 @@ impl DomAgent {
         ensures fault { RefusesEdit result (first_fault edit page.old.tree) }
         ensures page { OnOk result (page.new ≡ after edit page.old) }
         ensures back { IfOk result (λ back. back ≡ back_tree edit page.old.tree) }
-        ensures agent { OnOk result (self.new ≡ (binding_edited edit page.old self.old).state) }
+        ensures agent { OnOk result (self.new ≡ (shown_binding_edited self.old.mode edit page.old self.old).state) }
         ensures sent { OnOk result
-            (out.new.items ≡ out.old.items ++ frames_of_moves (binding_edited edit page.old self.old).moves) }
+            (out.new.items ≡ out.old.items
+            ++ frames_of_moves (shown_binding_edited self.old.mode edit page.old self.old).moves) }
         ensures page_kept { OnFault result (page.new ≡ page.old) }
         ensures agent_kept { OnFault result (self.new ≡ self.old) }
         ensures unsent { OnFault result (out.new.items ≡ out.old.items) }
     {
-        match edit {
-            TreeEdit::SetAttr { node, name, value } => {
-                let event = attribute_set(self.alloc, &self.binding, node, &name, &value);
-                let edit = TreeEdit::SetAttr { node, name, value };
-                apply_and_tell(self.alloc, page, edit, event, out)
-            }
-            TreeEdit::DropAttr { node, name } => {
-                let event = attribute_dropped(self.alloc, &self.binding, node, &name);
-                let edit = TreeEdit::DropAttr { node, name };
-                apply_and_tell(self.alloc, page, edit, event, out)
-            }
-            TreeEdit::SetText { node, value } => {
-                let event = text_set(self.alloc, &self.binding, node, &value);
-                let edit = TreeEdit::SetText { node, value };
-                apply_and_tell(self.alloc, page, edit, event, out)
-            }
-            TreeEdit::Attach {
-                parent,
-                before,
-                tree,
-            } => attach(
-                self.alloc,
-                &mut self.binding,
-                page,
-                parent,
-                before,
-                tree,
-                out,
-            ),
-            TreeEdit::Detach { node } => detach(self.alloc, &mut self.binding, page, node, out),
+        page.valid();
+        if let Some(fault) = page.fault(&edit) {
+            return Err(EditErr::Fault(fault));
         }
+        let foreseen = self.foresee(page, &edit)?;
+        let back = page.apply(edit)?;
+        self.tell(page, foreseen, out)?;
+        Ok(back)
+    }
+
+    /// What an edit that the page takes will be for the client, by the page before it. Where a shown node goes, its ids and those
+    /// below it are forgotten here, while the page still has them. Comes before the one edit that all agents of a page share.
+    pub(crate) fn foresee(&mut self, page: &Page, edit: &TreeEdit) -> Result<Foreseen, AllocError>
+        requires fits { first_fault edit.now page.now.tree ≡ None }
+        requires ready { IsReady page.now.next edit.now page.now.tree }
+        ensures { IfOk result (λ f. IsForeseen f (shown_edit self.old.mode edit.now page.now.tree)
+            (shown_page self.old.mode page.now) self.old self.new) }
+    {
+        foresee(self.alloc, &mut self.binding, page, edit)
+    }
+
+    /// Tells what was foreseen, by the page after the edit. A shown node that came below an opened parent becomes known.
+    pub(crate) fn tell(
+        &mut self,
+        page: &Page,
+        foreseen: Foreseen,
+        out: &mut Vec<u8>,
+    ) -> Result<(), AllocError>
+        requires came { HasCome foreseen (shown_page self.old.mode page.now).tree }
+        requires room { self.old.next < drawn_before_nodes }
+        ensures known { OnOk result
+            (self.new ≡ kept_after foreseen (shown_page self.old.mode page.now).tree self.old) }
+        ensures sent { OnOk result
+            (out.new.items ≡ out.old.items ++ frames_after foreseen (shown_page self.old.mode page.now).tree self.old) }
+    {
+        tell_foreseen(self.alloc, &mut self.binding, page, foreseen, out)
     }
 
     /// Whether the document is opened.

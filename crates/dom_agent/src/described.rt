@@ -17,12 +17,16 @@ use crate::told::node_row;
 use cdp_messages::NodeMessage;
 use dom_objects::NodeWriter;
 use node_binding::{is_reached, less};
-use page_tree::{Children, Node};
+use shown_pages::{ShownNode, Walk};
 use std::alloc::{AllocError, Global};
 
 /// A node as it is described alone, with what is below it to so many levels; `None` stands for all.
 #[cycle(write_described)]
-fn write_described(out: &mut NodeWriter, node: &Node, levels: Option<u64>) -> Result<(), AllocError>
+fn write_described(
+    out: &mut NodeWriter,
+    node: &ShownNode<'_>,
+    levels: Option<u64>,
+) -> Result<(), AllocError>
     ensures ok { OnOk result (out.new.tokens ≡ out.old.tokens
         ++ data_tokens (tree_data (described levels node.now))) }
     ensures before { out.new.before ≡ out.old.before }
@@ -36,7 +40,11 @@ fn write_described(out: &mut NodeWriter, node: &Node, levels: Option<u64>) -> Re
 
 /// Its children, where a level is left for them.
 #[cycle(write_described)]
-fn write_reached(out: &mut NodeWriter, node: &Node, levels: Option<u64>) -> Result<(), AllocError>
+fn write_reached(
+    out: &mut NodeWriter,
+    node: &ShownNode<'_>,
+    levels: Option<u64>,
+) -> Result<(), AllocError>
     ensures ok { OnOk result (out.new.tokens ≡ out.old.tokens
         ++ field_tokens (codes "children") (only_if (shows_children levels node.now.row)
         (array (tree_items (told_nodes 0 (shown_to no_ids (less levels) node.now.children)))))) }
@@ -47,7 +55,8 @@ fn write_reached(out: &mut NodeWriter, node: &Node, levels: Option<u64>) -> Resu
     }
     out.children()?;
     let left = less(levels);
-    write_below(out, &node.children(), left)?;
+    let mut walk = node.walk();
+    write_below(out, &mut walk, left)?;
     Ok(())
 }
 
@@ -55,16 +64,15 @@ fn write_reached(out: &mut NodeWriter, node: &Node, levels: Option<u64>) -> Resu
 #[cycle(write_described)]
 fn write_below(
     out: &mut NodeWriter,
-    children: &Children,
+    walk: &mut Walk<'_>,
     levels: Option<u64>,
 ) -> Result<(), AllocError>
     ensures ok { OnOk result (out.new.tokens ≡ out.old.tokens
-        ++ data_tokens (array (tree_items (told_nodes 0 (shown_to no_ids levels children.now))))) }
+        ++ data_tokens (array (tree_items (told_nodes 0 (shown_to no_ids levels walk.old))))) }
     ensures before { out.new.before ≡ out.old.before }
 {
     out.begin_nodes()?;
-    for i in 0..children.len() {
-        let child = children.at(i);
+    while let Some(child) = walk.next() {
         write_described(out, &child, levels)?;
     }
     out.end_nodes()?;
@@ -74,7 +82,7 @@ fn write_below(
 /// The reply of that id, whose result is the described node.
 fn write_reply(
     out: &mut NodeWriter,
-    node: &Node,
+    node: &ShownNode<'_>,
     levels: Option<u64>,
     id: u64,
 ) -> Result<(), AllocError>
@@ -91,7 +99,7 @@ fn write_reply(
 /// Appends the reply of that id, whose result is the node as it is described to so many levels.
 pub(crate) fn tell_described(
     alloc: Global,
-    node: &Node,
+    node: &ShownNode<'_>,
     levels: Option<u64>,
     id: u64,
     out: &mut Vec<u8>,

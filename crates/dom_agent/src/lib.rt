@@ -14,6 +14,7 @@
 mod agent;
 mod described;
 mod edits;
+mod foresight;
 mod laws;
 mod openings;
 mod paths;
@@ -23,4 +24,4 @@ mod serving;
 mod told;
 
 pub use agent::DomAgent;
-pub use laws::{edit_law, serve_law};
+pub use laws::{edit_law, mode_law, serve_law};

@@ -1,7 +1,8 @@
-ghost use Rattle.std.specs.Prelude.{◌≡◌, ◌++◌, map, option_map, cond, Option, Some, None, IsSome, IfOk, OnOk};
+ghost use Rattle.std.specs.Prelude.{◌≡◌, ◌++◌, map, option_map, is_some, cond, Option, Some, None, IsSome, IfOk, OnOk};
 ghost use Rattle.node_tree.specs.Nodes.{alone};
 ghost use Rattle.node_tree.specs.Keys.{has};
 ghost use Rattle.page_tree.specs.Pages.{row_serial, find_in, node_at};
+ghost use Rattle.shown_pages.specs.ShownPages.{shown_page};
 ghost use Rattle.page_tree.specs.Zippers.{ancestors, zipper_at};
 ghost use Rattle.dom_agent.specs.Climbs.{unopened_at, up_openings};
 ghost use Rattle.node_binding.specs.Bindings.{opened_in};
@@ -9,7 +10,8 @@ ghost use Rattle.dom_agent.specs.Requests.{requested, pushing};
 ghost use Rattle.dom_agent.specs.Openings.{opening_of};
 
 use node_binding::{Binding, Opening, deal_node, is_reached, less};
-use page_tree::{Children, Node, Page};
+use page_tree::Page;
+use shown_pages::{Mode, ShownNode, Walk};
 use std::alloc::{AllocError, Global};
 
 /// Appends what a request for this node opens, in document order: the containers at and below it that are not opened
@@ -17,7 +19,7 @@ use std::alloc::{AllocError, Global};
 #[cycle(request)]
 pub(crate) fn request_node<'a>(
     binding: &Binding,
-    node: &Node<'a>,
+    node: &ShownNode<'a>,
     levels: Option<u64>,
     openings: &mut Vec<Opening<'a>>,
 ) -> Result<(), AllocError>
@@ -32,22 +34,22 @@ pub(crate) fn request_node<'a>(
         return Ok(());
     }
     let left = less(levels);
-    request_children(binding, &node.children(), left, openings)?;
+    let mut walk = node.walk();
+    request_children(binding, &mut walk, left, openings)?;
     Ok(())
 }
 
 #[cycle(request)]
 fn request_children<'a>(
     binding: &Binding,
-    children: &Children<'a>,
+    walk: &mut Walk<'a>,
     levels: Option<u64>,
     openings: &mut Vec<Opening<'a>>,
 ) -> Result<(), AllocError>
     ensures { OnOk result (map opening_of openings.new.items
-        ≡ map opening_of openings.old.items ++ requested (opened_in binding.now) levels children.now) }
+        ≡ map opening_of openings.old.items ++ requested (opened_in binding.now) levels walk.old) }
 {
-    for i in 0..children.len() {
-        let node = children.at(i);
+    while let Some(node) = walk.next() {
         request_node(binding, &node, levels, openings)?;
     }
     Ok(())
@@ -57,59 +59,72 @@ fn request_children<'a>(
 fn add_unopened<'a>(
     binding: &Binding,
     page: &'a Page,
+    mode: Mode,
     serial: u64,
     openings: &mut Vec<Opening<'a>>,
 ) -> Result<(), AllocError>
-    requires { IsSome (find_in serial page.now.tree) }
-    ensures { OnOk result (map opening_of openings.new.items
-        ≡ map opening_of openings.old.items ++ unopened_at (opened_in binding.now) serial (node_at serial page.now.tree)) }
+    requires { IsSome (find_in serial (shown_page mode page.now).tree) }
+    ensures { OnOk result (map opening_of openings.new.items ≡ map opening_of openings.old.items
+        ++ unopened_at (opened_in binding.now) serial (node_at serial (shown_page mode page.now).tree)) }
 {
     if binding.is_opened(serial) {
         return Ok(());
     }
     openings.push(Opening {
         levels: Some(1),
-        node: page.node(serial),
+        node: ShownNode::at(page, serial, mode),
     })?;
     Ok(())
 }
 
-/// Appends the ancestors of the node with that serial that are not opened, from the bottom up, each with one level.
+/// Appends the ancestors of the shown node with that serial that are not opened, from the bottom up, each with one level. What
+/// stands above a shown node is shown.
 fn climb<'a>(
     binding: &Binding,
     page: &'a Page,
+    mode: Mode,
     serial: u64,
     openings: &mut Vec<Opening<'a>>,
 ) -> Result<(), AllocError>
-    requires { IsSome (find_in serial page.now.tree) }
-    ensures { OnOk result (map opening_of openings.new.items
-        ≡ map opening_of openings.old.items ++ up_openings (opened_in binding.now) (ancestors (zipper_at serial page.now.tree))) }
+    requires { IsSome (find_in serial (shown_page mode page.now).tree) }
+    ensures { OnOk result (map opening_of openings.new.items ≡ map opening_of openings.old.items
+        ++ up_openings (opened_in binding.now) (ancestors (zipper_at serial (shown_page mode page.now).tree))) }
 {
     page.valid();
-    let mut at = page.node_ref(serial).parent();
-    while let Some(other) = at {
-        add_unopened(binding, page, other.serial(), openings)?;
-        at = other.parent();
+    let mut at = page.parent(serial);
+    while at != 0 {
+        add_unopened(binding, page, mode, at, openings)?;
+        let above = page.parent(at);
+        at = above;
     }
     Ok(())
 }
 
-/// What a push of the node with that serial opens, from the top down; `None` where no node has it.
+/// The mode shows a node with that serial.
+fn has_shown(page: &Page, serial: u64, mode: Mode) -> bool
+    ensures { result ≡ is_some (find_in serial (shown_page mode page.now).tree) }
+{
+    ShownNode::find(page, serial, mode).is_some()
+}
+
+/// What a push of the node with that serial opens, from the top down; `None` where no shown node has it.
 pub(crate) fn openings_above<'a>(
     alloc: Global,
     binding: &Binding,
     page: &'a Page,
+    mode: Mode,
     serial: u64,
 ) -> Result<Option<Vec<Opening<'a>>>, AllocError>
     ensures { IfOk result (λ openings. option_map (λ v. map opening_of v.items) openings
-        ≡ cond (has row_serial serial (alone page.now.tree)) (Some (pushing (opened_in binding.now) serial (alone page.now.tree))) None) }
+        ≡ cond (has row_serial serial (alone (shown_page mode page.now).tree))
+        (Some (pushing (opened_in binding.now) serial (alone (shown_page mode page.now).tree))) None) }
 {
     page.valid();
-    if !page.live(serial) {
+    if !has_shown(page, serial, mode) {
         return Ok(None);
     }
     let mut openings = Vec::new(alloc);
-    climb(binding, page, serial, &mut openings)?;
+    climb(binding, page, mode, serial, &mut openings)?;
     openings.reverse();
     Ok(Some(openings))
 }

@@ -3,36 +3,37 @@ ghost use Rattle.std.specs.Prelude.{IsTrue, bytes_eq};
 ghost use Rattle.std.specs.Option.{option_copied};
 ghost use Rattle.std.specs.List.{list_all, position};
 ghost use Rattle.std.specs.Str.{str_to_ascii_uppercase};
-ghost use Rattle.node_tree.specs.Nodes.{tree_at};
 ghost use Rattle.dom_objects.specs.NodeObject.{node_name};
 ghost use Rattle.dom_agent.specs.Paths.{parts_of, parts_after_comma, is_digit, leads_badly, is_index, number_in, step_of, steps_of};
 ghost use Rattle.dom_agent.specs.Paths.{child_by, node_by, node_at_path};
 
-use page_tree::{Children, Kind, Node};
+use page_tree::Kind;
+use shown_pages::ShownNode;
 
 /// The node that a path leads to: an index, counted from 0, and a `nodeName` for each level, from the document's children
 /// down, with commas between.
-pub(crate) fn node_at_path<'a>(document: &Node<'a>, path: &str) -> Option<Node<'a>>
+pub(crate) fn node_at_path<'a>(document: &ShownNode<'a>, path: &str) -> Option<ShownNode<'a>>
     ensures { result ≡ node_at_path path.now document.now }
 {
-    node_by(&document.children(), path.as_bytes())
+    node_by(document, path.as_bytes())
 }
 
-fn node_by<'a>(children: &Children<'a>, path: &[u8]) -> Option<Node<'a>>
+/// The node that a path leads to from the children of that one.
+fn node_by<'a>(above: &ShownNode<'a>, path: &[u8]) -> Option<ShownNode<'a>>
     ensures { result
-        ≡ option_and_then (λ steps. node_by steps children.now) (steps_of (parts_of path.now)) }
+        ≡ option_and_then (λ steps. node_by steps above.now.children) (steps_of (parts_of path.now)) }
 {
     let (index, named) = first_part(path);
     let Some(named) = named else {
         return None;
     };
     let (name, rest) = first_part(named);
-    let Some(child) = child_by(children, index, name) else {
+    let Some(child) = child_by(above, index, name) else {
         return None;
     };
     match rest {
         None => Some(child),
-        Some(rest) => node_by(&child.children(), rest),
+        Some(rest) => node_by(&child, rest),
     }
 }
 
@@ -53,25 +54,16 @@ fn comma_in(text: &[u8]) -> Option<usize>
     text.iter().position(|byte| *byte == b',')
 }
 
-fn child_by<'a>(children: &Children<'a>, index: &[u8], name: &[u8]) -> Option<Node<'a>>
+fn child_by<'a>(above: &ShownNode<'a>, index: &[u8], name: &[u8]) -> Option<ShownNode<'a>>
     ensures { result
-        ≡ option_and_then (λ step. child_by step children.now) (step_of index.now name.now) }
+        ≡ option_and_then (λ step. child_by step above.now.children) (step_of index.now name.now) }
 {
     let place = index_in(index)?;
-    let child = child_at(children, place)?;
+    let child = above.child_at(place)?;
     if !has_node_name(&child, name) {
         return None;
     }
     Some(child)
-}
-
-fn child_at<'a>(children: &Children<'a>, place: usize) -> Option<Node<'a>>
-    ensures { result ≡ tree_at place children.now }
-{
-    if place >= children.len() {
-        return None;
-    }
-    Some(children.at(place))
 }
 
 /// Decimal digits without a leading zero, at most 9.
@@ -127,7 +119,7 @@ fn number_in(digits: &[u8]) -> usize
 }
 
 /// Whether that is the node's `nodeName` (DOM, section 4.4); an element's is in upper case.
-fn has_node_name(node: &Node, name: &[u8]) -> bool
+fn has_node_name(node: &ShownNode<'_>, name: &[u8]) -> bool
     ensures { result ≡ bytes_eq (node_name node.now.row.label) name.now }
 {
     match node.kind() {

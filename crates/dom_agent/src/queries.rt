@@ -3,8 +3,8 @@
 ghost use Rattle.dom_agent.specs.Queries.{query_of, IsQuery};
 
 use cdp_messages::Why;
-use page_tree::Node;
 use selectors::{SelErr, SelectorList, read_selectors};
+use shown_pages::ShownNode;
 use std::alloc::Global;
 
 /// The serial of a node below which is searched, and the selectors.
@@ -24,7 +24,7 @@ pub(crate) enum QueryErr {
 /// What is asked of a node, if there is one, with a text; or the first refusal.
 pub(crate) fn read_query(
     alloc: Global,
-    found: Option<Node<'_>>,
+    found: Option<ShownNode<'_>>,
     text: &str,
 ) -> Result<Query, QueryErr>
     ensures { IsQuery result (query_of found.entry text.now) }

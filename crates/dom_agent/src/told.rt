@@ -1,4 +1,4 @@
-//! Nodes of the page, cut to what is known of them, in messages that are written straight from the page.
+//! Nodes of the page, as they are shown and cut to what is known of them, in messages that are written straight from the page.
 
 ghost use Rattle.std.specs.Prelude.{◌≡◌, ◌++◌, [], ◌∷◌, codes, false, cond, OnOk};
 ghost use Rattle.serde_json.specs.Data.{array};
@@ -20,11 +20,11 @@ ghost use Rattle.dom_agent.specs.Edits.{unopened};
 use cdp_messages::NodeMessage;
 use dom_objects::{NodeRow, NodeWriter};
 use node_binding::Binding;
-use page_tree::{Children, Node};
+use shown_pages::{ShownNode, Walk};
 use std::alloc::{AllocError, Global};
 
-/// The number of its children, 0 for what can have none.
-fn count_of(node: &Node) -> u64
+/// The number of its shown children, 0 for what can have none.
+fn count_of(node: &ShownNode<'_>) -> u64
     ensures { result ≡ cond (holds node.now.row.label.kind) (width node.now.children) 0 }
 {
     if !node.kind().is_container() {
@@ -34,7 +34,7 @@ fn count_of(node: &Node) -> u64
 }
 
 /// Whether the children of the node are shown.
-fn is_opened(binding: &Binding, node: &Node) -> bool
+fn is_opened(binding: &Binding, node: &ShownNode<'_>) -> bool
     ensures { result ≡ opens (opened_in binding.now) node.now.row }
 {
     node.kind().is_container() && binding.is_opened(node.serial())
@@ -43,7 +43,7 @@ fn is_opened(binding: &Binding, node: &Node) -> bool
 // ---- a node
 
 /// A node of that id with what is known of it alone, as a child of the node with the id `parent`.
-pub(crate) fn node_row<'a>(node: &Node<'a>, id: u64, parent: u64) -> NodeRow<'a>
+pub(crate) fn node_row<'a>(node: &ShownNode<'a>, id: u64, parent: u64) -> NodeRow<'a>
     ensures { told_by result ≡ record {
       parent = parent;
       count = cond (holds node.now.row.label.kind) (width node.now.children) 0;
@@ -72,7 +72,7 @@ pub(crate) fn node_row<'a>(node: &Node<'a>, id: u64, parent: u64) -> NodeRow<'a>
 fn write_shown(
     out: &mut NodeWriter,
     binding: &Binding,
-    node: &Node,
+    node: &ShownNode<'_>,
     parent: u64,
 ) -> Result<(), AllocError>
     ensures ok { OnOk result (out.new.tokens ≡ out.old.tokens
@@ -92,7 +92,7 @@ fn write_shown(
 fn write_opened(
     out: &mut NodeWriter,
     binding: &Binding,
-    node: &Node,
+    node: &ShownNode<'_>,
     id: u64,
 ) -> Result<(), AllocError>
     ensures ok { OnOk result (out.new.tokens ≡ out.old.tokens
@@ -104,7 +104,8 @@ fn write_opened(
         return Ok(());
     }
     out.children()?;
-    write_children(out, binding, &node.children(), id)?;
+    let mut walk = node.walk();
+    write_children(out, binding, &mut walk, id)?;
     Ok(())
 }
 
@@ -113,16 +114,15 @@ fn write_opened(
 fn write_children(
     out: &mut NodeWriter,
     binding: &Binding,
-    children: &Children,
+    walk: &mut Walk<'_>,
     parent: u64,
 ) -> Result<(), AllocError>
     ensures ok { OnOk result (out.new.tokens ≡ out.old.tokens
-        ++ data_tokens (array (tree_items (told_nodes parent (cut (opened_in binding.now) (id_in binding.now) children.now))))) }
+        ++ data_tokens (array (tree_items (told_nodes parent (cut (opened_in binding.now) (id_in binding.now) walk.old))))) }
     ensures before { out.new.before ≡ out.old.before }
 {
     out.begin_nodes()?;
-    for i in 0..children.len() {
-        let child = children.at(i);
+    while let Some(child) = walk.next() {
         write_shown(out, binding, &child, parent)?;
     }
     out.end_nodes()?;
@@ -130,7 +130,7 @@ fn write_children(
 }
 
 /// A node of which nothing is shown below it.
-fn write_unopened(out: &mut NodeWriter, node: &Node, id: u64, parent: u64) -> Result<(), AllocError>
+fn write_unopened(out: &mut NodeWriter, node: &ShownNode<'_>, id: u64, parent: u64) -> Result<(), AllocError>
     ensures ok { OnOk result (out.new.tokens ≡ out.old.tokens
         ++ data_tokens (tree_data (told_branch parent (unopened id node.now)))) }
     ensures before { out.new.before ≡ out.old.before }
@@ -147,7 +147,7 @@ fn write_unopened(out: &mut NodeWriter, node: &Node, id: u64, parent: u64) -> Re
 fn write_root(
     out: &mut NodeWriter,
     binding: &Binding,
-    document: &Node,
+    document: &ShownNode<'_>,
     id: u64,
 ) -> Result<(), AllocError>
     ensures ok { OnOk result (out.new.tokens ≡ out.old.tokens ++ data_tokens
@@ -164,7 +164,7 @@ fn write_root(
 pub(crate) fn tell_root(
     alloc: Global,
     binding: &Binding,
-    document: &Node,
+    document: &ShownNode<'_>,
     id: u64,
     out: &mut Vec<u8>,
 ) -> Result<(), AllocError>
@@ -180,15 +180,15 @@ pub(crate) fn tell_root(
 fn write_shows(
     out: &mut NodeWriter,
     binding: &Binding,
-    children: &Children,
+    walk: &mut Walk<'_>,
     parent: u64,
 ) -> Result<(), AllocError>
     ensures ok { OnOk result (out.new.tokens ≡ out.old.tokens ++ data_tokens (message_with (message.Children parent)
-        (array (tree_items (told_nodes parent (cut (opened_in binding.now) (id_in binding.now) children.now)))))) }
+        (array (tree_items (told_nodes parent (cut (opened_in binding.now) (id_in binding.now) walk.old)))))) }
     ensures before { out.new.before ≡ out.old.before }
 {
     NodeMessage::Children { parent }.open(out)?;
-    write_children(out, binding, children, parent)?;
+    write_children(out, binding, walk, parent)?;
     NodeMessage::Children { parent }.close(out)?;
     Ok(())
 }
@@ -197,22 +197,22 @@ fn write_shows(
 pub(crate) fn tell_shows(
     alloc: Global,
     binding: &Binding,
-    children: &Children,
+    walk: &mut Walk<'_>,
     parent: u64,
     out: &mut Vec<u8>,
 ) -> Result<(), AllocError>
     ensures { OnOk result (out.new.items ≡ out.old.items
-        ++ frames_of_moves (change parent (shows (cut (opened_in binding.now) (id_in binding.now) children.now)) ∷ [])) }
+        ++ frames_of_moves (change parent (shows (cut (opened_in binding.now) (id_in binding.now) walk.old)) ∷ [])) }
 {
     let mut writer = NodeWriter::new(alloc, out);
-    let written = write_shows(&mut writer, binding, children, parent);
+    let written = write_shows(&mut writer, binding, walk, parent);
     writer.finish(written, out)
 }
 
 /// The event that the node of the id `parent` has got this node as a child.
 fn write_inserted(
     out: &mut NodeWriter,
-    node: &Node,
+    node: &ShownNode<'_>,
     id: u64,
     parent: u64,
     previous: u64,
@@ -231,7 +231,7 @@ fn write_inserted(
 /// of the id `previous`.
 pub(crate) fn tell_inserted(
     alloc: Global,
-    node: &Node,
+    node: &ShownNode<'_>,
     id: u64,
     parent: u64,
     previous: u64,

@@ -115,3 +115,13 @@ bound-serials (x ∷ xs) b k e distinct id =
     ∙ ap (λ o. first_of (find (has_id (k + 1) xs id) xs) o)
     (get-insert b.serials b.next x id ∙ ap (λ n. cond (n == id) (Some x) (map.get b.serials id)) e)
     ∙ serials-step x xs k id (map.get b.serials id) (once x xs (distinct x))
+
+-- ---- the mode stays
+
+pub bound-mode : (ss : List ℕ) (b : BindingValue) → (all_bound ss b).mode ≡ b.mode
+bound-mode [] b = refl
+bound-mode (s ∷ ss) b = bound-mode ss (with_bound s b)
+
+pub opened-mode : (os : List ℕ) (b : BindingValue) → (all_opened os b).mode ≡ b.mode
+opened-mode [] b = refl
+opened-mode (s ∷ ss) b = opened-mode ss (with_opened s b)

@@ -14,9 +14,10 @@ use Rattle.node_binding.specs.Counts.{times}
 use Rattle.node_binding.specs.Cuts.{known}
 use Rattle.node_binding.specs.Openings.{containers_within}
 use Rattle.node_binding.specs.Sessions.{Session, IsSession, session_of, is_open, id_at, attached, detached}
-use Rattle.node_binding.specs.Bindings.{BindingValue, Stands, with_bound, all_forgotten}
-use Rattle.node_binding.specs.Changes.{BindingStandsFor, BindingBegins, Resets, Starts, OpensDown, BindsChild, PassesAttach, Forgets}
-use Rattle.node_binding.specs.Changes.{PassesLabel}
+use Rattle.shown_pages.specs.declared.modes.Mode.{Mode}
+use Rattle.node_binding.specs.Bindings.{BindingValue, Stands, in_mode, with_bound, all_forgotten}
+use Rattle.node_binding.specs.Changes.{BindingStandsFor, BindingBegins, Resets, ChangesMode, Starts, OpensDown, BindsChild, PassesAttach}
+use Rattle.node_binding.specs.Changes.{Forgets, PassesLabel}
 use Rattle.node_binding.proofs.Places.{is_in-times}
 use Rattle.node_binding.proofs.Known.{known-tally}
 use Rattle.node_binding.proofs.StartLemmas.{root_holds, distinct-alone}
@@ -70,6 +71,28 @@ IsSession-unknown : (n m : Nodes PageRow) (pushed : List ℕ) (since : ℕ)
     → IsSession n (record { opened = None; pushed = pushed; since = since })
     → IsSession m (record { opened = None; pushed = pushed; since = since })
 IsSession-unknown n m pushed since session = record { opened_set = tt; since_then = session.since_then; known_stand = session.known_stand }
+
+some_none : {A : Type 0} {x : A} → ¬ (Some x ≡ None)
+some_none e = cc
+
+changes_mode_by : (mode : Mode) (page other : PageValue) (opened : Option (ℕ → Bool)) (pushed : List ℕ) (since : ℕ) (b : BindingValue)
+    → opened ≡ None → BindingStandsFor page (record { opened = opened; pushed = pushed; since = since }) b
+    → BindingStandsFor other (record { opened = opened; pushed = pushed; since = since }) (in_mode mode b)
+changes_mode_by mode page other None pushed since b nothing for =
+    let stands = Stands-unknown (alone page.tree) (alone other.tree) pushed since b for.stands in
+    record {
+      session = IsSession-unknown (alone page.tree) (alone other.tree) pushed since for.session;
+      stands = record {
+        opened_is = stands.opened_is;
+        ids_are = stands.ids_are;
+        serials_are = stands.serials_are;
+        next_is = stands.next_is;
+      };
+    }
+changes_mode_by mode page other (Some o) pushed since b nothing for = absurd (some_none nothing)
+
+pub changes_mode : ChangesMode
+changes_mode mode page other w b nothing for = changes_mode_by mode page other w.opened w.pushed w.since b nothing for
 
 or_nothing : (v : Bool) → cond {A = Option ℕ} v None None ≡ None
 or_nothing true = refl

@@ -119,6 +119,11 @@ pub forgotten-next : (n : Nodes PageRow) (b : BindingValue) → (all_forgotten n
 forgotten-next none b = refl
 forgotten-next (node r c t) b = forgotten-next t _ ∙ forgotten-next c (forgotten r.serial b)
 
+-- the mode stays
+pub forgotten-mode : (n : Nodes PageRow) (b : BindingValue) → (all_forgotten n b).mode ≡ b.mode
+forgotten-mode none b = refl
+forgotten-mode (node r c t) b = forgotten-mode t _ ∙ forgotten-mode c (forgotten r.serial b)
+
 and-swap : (a b : Bool) → (not a && b) ≡ (b && not a)
 and-swap true true = refl
 and-swap true false = refl

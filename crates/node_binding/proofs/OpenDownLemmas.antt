@@ -2,11 +2,10 @@
 use Rattle.std.proofs.Common.{◌≡◌, ℕ, zero, suc, ◌+◌, ◌<◌, ◌≤◌, ◌^◌, true, false, Bool, cond, not, ◌&&◌, List, [], ◌∷◌, ◌++◌, append-nil}
 use Rattle.std.proofs.Common.{Option, Some, None, unwrap_or, refl, sym, ap, subst, ◌∙◌, arith}
 use Rattle.std.proofs.Math.Logic.{⊎_elim}
-use Rattle.node_tree.specs.Nodes.{Nodes, none, node, Branch, from, tree_at, width, alone, node_count}
+use Rattle.node_tree.specs.Nodes.{Nodes, none, node, Branch, alone, node_count}
 use Rattle.node_tree.specs.Keys.{find}
 use Rattle.node_tree.specs.Labels.{holds}
 use Rattle.page_tree.specs.Pages.{PageRow, row_serial, PageValue, IsValid, find_in, node_at}
-use Rattle.page_tree.proofs.CursorLemmas.{from-next}
 use Rattle.node_binding.specs.Openings.{less, is_spent, containers_within, levelled}
 use Rattle.node_binding.specs.Bindings.{BindingValue, with_opened, all_bound, all_opened, revealed, opened_down, forgotten, all_forgotten}
 use Rattle.node_binding.proofs.StartLemmas.{count-alone}
@@ -104,13 +103,13 @@ module _ (page : PageValue) (valid : IsValid page) (s : ℕ) (x : Branch PageRow
 
 -- ---- the loop over trees that go
 
-pub forget_turn : (n : Nodes PageRow) (i : ℕ) (x : Branch PageRow) (serial : ℕ) (kids : Nodes PageRow) (b b1 b2 all : BindingValue)
-    → i < width n → tree_at i n ≡ Some x → serial ≡ x.row.serial → kids ≡ x.children → b1 ≡ forgotten serial b → b2 ≡ all_forgotten kids b1
-    → all_forgotten (from i n) b ≡ all → all_forgotten (from (i + 1) n) b2 ≡ all
-forget_turn n i x serial kids b b1 b2 all h at serial_is kids_are first below was =
-    ap (all_forgotten (from (i + 1) n))
+pub forget_turn : (x : Branch PageRow) (left rest : Nodes PageRow) (serial : ℕ) (kids : Nodes PageRow) (b b1 b2 all : BindingValue)
+    → left ≡ node x.row x.children rest → serial ≡ x.row.serial → kids ≡ x.children → b1 ≡ forgotten serial b
+    → b2 ≡ all_forgotten kids b1 → all_forgotten left b ≡ all → all_forgotten rest b2 ≡ all
+forget_turn x left rest serial kids b b1 b2 all split serial_is kids_are first below was =
+    ap (all_forgotten rest)
     (below ∙ ap (λ m. all_forgotten m b1) kids_are ∙ ap (all_forgotten x.children) (first ∙ ap (λ k. forgotten k b) serial_is))
-    ∙ ap (λ m. all_forgotten m b) (sym (from-next n i x h at))
+    ∙ ap (λ m. all_forgotten m b) (sym split)
     ∙ was
 
 pub forget_tree : (x y : Branch PageRow) (serial : ℕ) (kids : Nodes PageRow) (b b1 b2 : BindingValue) → x ≡ y → serial ≡ x.row.serial

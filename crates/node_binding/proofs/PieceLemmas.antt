@@ -2,10 +2,9 @@
 use Rattle.std.proofs.Common.{◌≡◌, ℕ, zero, suc, ◌+◌, ◌-◌, ◌<◌, ◌≤◌, ◌&&◌, not, Bool, true, false, cond, List, [], ◌∷◌, ◌++◌}
 use Rattle.std.proofs.Common.{append_assoc, append-nil}
 use Rattle.std.proofs.Common.{Option, Some, None, refl, sym, ap, ◌∙◌, arith}
-use Rattle.node_tree.specs.Nodes.{Nodes, none, node, Branch, alone, from, tree_at, width}
+use Rattle.node_tree.specs.Nodes.{Nodes, none, node, Branch, alone}
 use Rattle.node_tree.specs.Labels.{holds}
 use Rattle.page_tree.specs.Pages.{PageRow}
-use Rattle.page_tree.proofs.CursorLemmas.{from-next}
 use Rattle.node_binding.specs.Openings.{less, is_spent}
 use Rattle.node_binding.specs.Deals.{Opening, smaller, capped, dealt}
 use Rattle.node_binding.specs.Pieces.{begun, left_below}
@@ -54,15 +53,15 @@ module _ (m : ℕ) where
       ∙ ap (λ b. old ++ (cond b (begun m left d x ++ dealt m (left_below m left) (less d) x.children) [] ++ [])) (sym off ∙ is)
       ∙ ap (λ l. old ++ l) (sym (dealt-node left d x none))
 
-  pub deal_turn : (left : ℕ) (d : Option ℕ) (n : Nodes PageRow) (k : ℕ) (x : Branch PageRow) (before after all : List Opening)
-      → k < width n → tree_at k n ≡ Some x → after ≡ before ++ dealt m left d (alone x) → before ++ dealt m left d (from k n) ≡ all
-      → after ++ dealt m left d (from (k + 1) n) ≡ all
-  deal_turn left d n k x before after all h at this was =
-      ap (λ l. l ++ dealt m left d (from (k + 1) n)) this
-      ∙ append_assoc before (dealt m left d (alone x)) (dealt m left d (from (k + 1) n))
-      ∙ ap (λ l. before ++ l) (ap (λ l. l ++ dealt m left d (from (k + 1) n)) (dealt-node left d x none ∙ append-nil _)
-      ∙ sym (dealt-node left d x (from (k + 1) n)))
-      ∙ ap (λ t. before ++ dealt m left d t) (sym (from-next n k x h at))
+  pub deal_turn : (left : ℕ) (d : Option ℕ) (x : Branch PageRow) (old rest : Nodes PageRow) (before after all : List Opening)
+      → old ≡ node x.row x.children rest → after ≡ before ++ dealt m left d (alone x) → before ++ dealt m left d old ≡ all
+      → after ++ dealt m left d rest ≡ all
+  deal_turn left d x old rest before after all split this was =
+      ap (λ l. l ++ dealt m left d rest) this
+      ∙ append_assoc before (dealt m left d (alone x)) (dealt m left d rest)
+      ∙ ap (λ l. before ++ l) (ap (λ l. l ++ dealt m left d rest) (dealt-node left d x none ∙ append-nil _)
+      ∙ sym (dealt-node left d x rest))
+      ∙ ap (λ t. before ++ dealt m left d t) (sym split)
       ∙ was
 
   pub deal_end : (left : ℕ) (d : Option ℕ) (rest : Nodes PageRow) (before all : List Opening) → rest ≡ none

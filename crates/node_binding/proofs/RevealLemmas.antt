@@ -1,10 +1,9 @@
 -- Trees become known one after another.
 use Rattle.std.proofs.Common.{◌≡◌, ℕ, ◌+◌, ◌<◌, ◌≤◌, ◌^◌, Bool, true, false, cond, not, ◌&&◌, List, [], ◌∷◌, ◌++◌, length, length-append}
-use Rattle.std.proofs.Common.{Option, Some, refl, sym, ap, ◌∙◌, arith}
-use Rattle.node_tree.specs.Nodes.{Nodes, none, node, Branch, from, tree_at, width, node_count}
+use Rattle.std.proofs.Common.{Option, refl, sym, ap, ◌∙◌, arith}
+use Rattle.node_tree.specs.Nodes.{Nodes, none, node, Branch, node_count}
 use Rattle.node_tree.specs.Labels.{holds}
 use Rattle.page_tree.specs.Pages.{PageRow}
-use Rattle.page_tree.proofs.CursorLemmas.{from-next}
 use Rattle.node_binding.specs.Openings.{less, is_spent, containers_within, levelled}
 use Rattle.node_binding.specs.Bindings.{BindingValue, with_bound, all_bound, with_opened, all_opened, revealed}
 use Rattle.node_binding.proofs.BoundLemmas.{opened-next, bound-next}
@@ -110,20 +109,17 @@ after_first-next : (shown : Bool) (d : Option ℕ) (r : PageRow) (c : Nodes Page
 after_first-next true d r c b = revealed-next (less d) c (with_opened r.serial (with_bound r.serial b))
 after_first-next false d r c b = omega arith
 
-pub reveal_turn : (d : Option ℕ) (n : Nodes PageRow) (i : ℕ) (x : Branch PageRow) (b b4 all : BindingValue) → i < width n
-    → tree_at i n ≡ Some x → b4 ≡ after_first (goes_on d x) d x.row x.children b → RevealTurn d (from i n) b all
-    → RevealTurn d (from (i + 1) n) b4 all
-reveal_turn d n i x b b4 all h at turned was =
-    let split = from-next n i x h at in
-    record {
-      same = ap (revealed d (from (i + 1) n)) turned ∙ sym (revealed-node d x.row x.children (from (i + 1) n) b) ∙ sym
-          (ap (λ m. revealed d m b) split) ∙ was.same;
-      room = omega (arith, was.room, ap node_count split, ap (λ m. m.next) turned, after_first-next (goes_on d x) d x.row x.children b);
-    }
+pub reveal_turn : (d : Option ℕ) (x : Branch PageRow) (left rest : Nodes PageRow) (b b4 all : BindingValue)
+    → left ≡ node x.row x.children rest → b4 ≡ after_first (goes_on d x) d x.row x.children b → RevealTurn d left b all
+    → RevealTurn d rest b4 all
+reveal_turn d x left rest b b4 all split turned was = record {
+  same = ap (revealed d rest) turned ∙ sym (revealed-node d x.row x.children rest b) ∙ sym (ap (λ m. revealed d m b) split) ∙ was.same;
+  room = omega (arith, was.room, ap node_count split, ap (λ m. m.next) turned, after_first-next (goes_on d x) d x.row x.children b);
+}
 
 -- there is room for the children of the next tree
-pub reveal_room : (n : Nodes PageRow) (i : ℕ) (x : Branch PageRow) (s s2 : ℕ) (b b1 b2 : BindingValue) (kids : Nodes PageRow) → i < width n
-    → tree_at i n ≡ Some x → b.next + node_count (from i n) < 2 ^ 63 → b1 ≡ with_bound s b → b2 ≡ with_opened s2 b1 → kids ≡ x.children
-    → b2.next + node_count kids < 2 ^ 63
-reveal_room n i x s s2 b b1 b2 kids h at room bound opened kids_are =
-    omega (arith, ap node_count (from-next n i x h at), ap (λ m. m.next) bound, ap (λ m. m.next) opened, ap node_count kids_are)
+pub reveal_room : (x : Branch PageRow) (left rest : Nodes PageRow) (s s2 : ℕ) (b b1 b2 : BindingValue) (kids : Nodes PageRow)
+    → left ≡ node x.row x.children rest → b.next + node_count left < 2 ^ 63 → b1 ≡ with_bound s b → b2 ≡ with_opened s2 b1
+    → kids ≡ x.children → b2.next + node_count kids < 2 ^ 63
+reveal_room x left rest s s2 b b1 b2 kids split room bound opened kids_are =
+    omega (arith, ap node_count split, ap (λ m. m.next) bound, ap (λ m. m.next) opened, ap node_count kids_are)

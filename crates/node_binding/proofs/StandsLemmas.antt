@@ -11,16 +11,18 @@ use Rattle.node_binding.specs.Counts.{stands_in, last_standing}
 use Rattle.node_binding.specs.Cuts.{known}
 use Rattle.node_binding.specs.Openings.{containers_within, above}
 use Rattle.node_binding.specs.Sessions.{Session, begun, reset, document_opened}
-use Rattle.node_binding.specs.Bindings.{BindingValue, empty_from, all_opened, cleared, started, Stands}
+use Rattle.shown_pages.specs.declared.modes.Mode.{Mode}
+use Rattle.shown_pages.specs.declared.modes.Mode.TheVariants.{All}
+use Rattle.node_binding.specs.Bindings.{BindingValue, empty_in, empty_from, all_opened, cleared, started, Stands}
 use Rattle.node_binding.proofs.Places.{is_in-place}
 use Rattle.node_binding.proofs.BoundLemmas.{opened-ids, opened-serials, opened-next, opened-opened, bound-opened, bound-next, bound-ids}
 use Rattle.node_binding.proofs.BoundLemmas.{bound-serials}
 use Rattle.node_binding.proofs.Known.{known-tally}
 
 -- empty tables stand for each session in which nothing is known
-pub Stands-empty_from : (n : Nodes PageRow) (pushed : List ℕ) (since next : ℕ) → next ≡ length pushed + 1
-    → Stands n (record { opened = None; pushed = pushed; since = since }) (empty_from next)
-Stands-empty_from n pushed since next e = record {
+pub Stands-empty_in : (mode : Mode) (n : Nodes PageRow) (pushed : List ℕ) (since next : ℕ) → next ≡ length pushed + 1
+    → Stands n (record { opened = None; pushed = pushed; since = since }) (empty_in mode next)
+Stands-empty_in mode n pushed since next e = record {
   opened_is = λ s. set.contains-empty nat_cmp s;
   ids_are = λ s. map.get-empty nat_cmp s;
   serials_are = λ id. map.get-empty nat_cmp id;
@@ -28,10 +30,10 @@ Stands-empty_from n pushed since next e = record {
 }
 
 pub Stands-begun : (n : Nodes PageRow) → Stands n begun (empty_from 1)
-Stands-begun n = Stands-empty_from n [] 0 1 refl
+Stands-begun n = Stands-empty_in All n [] 0 1 refl
 
 pub Stands-reset : (n m : Nodes PageRow) (w : Session) (b : BindingValue) → Stands n w b → Stands m (reset w) (cleared b)
-Stands-reset n m w b stands = Stands-empty_from m w.pushed (length w.pushed) b.next stands.next_is
+Stands-reset n m w b stands = Stands-empty_in b.mode m w.pushed (length w.pushed) b.next stands.next_is
 
 pub drop-length : (xs ys : List ℕ) → drop (length xs) (xs ++ ys) ≡ ys
 drop-length [] ys = refl

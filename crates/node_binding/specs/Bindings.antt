@@ -1,4 +1,4 @@
--- A binding: the opened set and the ids as tables.
+-- A binding: the opened set and the ids as tables, and what its client is shown of the page.
 use Rattle.std.specs.Prelude.{◌≡◌, ℕ, ◌+◌, Bool, List, [], ◌∷◌, length, Option, Some, None, unwrap_or, refl}
 use Rattle.std.specs.Ordering.{nat_cmp}
 use Rattle.std.specs.FinSet as set
@@ -6,24 +6,30 @@ use Rattle.std.specs.FinMap as map
 use Rattle.std.specs.Coded.{Coded, code_by, coded×, coded_ℕ}
 use Rattle.node_tree.specs.Nodes.{Nodes, none, node, Branch, alone}
 use Rattle.page_tree.specs.Pages.{PageRow}
+use Rattle.shown_pages.specs.declared.modes.Mode.{Mode}
+use Rattle.shown_pages.specs.declared.modes.Mode.TheVariants.{All}
+use Rattle.shown_pages.specs.contracts.modes.Mode as the_mode
 use Rattle.node_binding.specs.Cuts.{known}
 use Rattle.node_binding.specs.Openings.{less, containers_within, levelled, above}
 use Rattle.node_binding.specs.Sessions.{Session, is_open, id_at, serial_at}
 
--- The serials that are opened; the ids by serial and the serials by id; the id that comes next.
+-- The serials that are opened; the ids by serial and the serials by id; the id that comes next; the mode in which the client sees
+-- the page.
 pub record BindingValue : Type 0 where
   pub opened : set.FinSet nat_cmp
   pub ids : map.FinMap nat_cmp ℕ
   pub serials : map.FinMap nat_cmp ℕ
   pub next : ℕ
+  pub mode : Mode
 
 -- a binding by its parts
 abbrev pub coded_bound : Coded BindingValue
 coded_bound =
-    code_by ((set.FinSet nat_cmp × map.FinMap nat_cmp ℕ) × (map.FinMap nat_cmp ℕ × ℕ))
-    (coded× (coded× (set.code coded_ℕ) (map.code coded_ℕ coded_ℕ)) (coded× (map.code coded_ℕ coded_ℕ) coded_ℕ))
-    (λ b. ((b.opened, b.ids), (b.serials, b.next)))
-    (λ p. record { opened = p.0.0; ids = p.0.1; serials = p.1.0; next = p.1.1 })
+    code_by (((set.FinSet nat_cmp × map.FinMap nat_cmp ℕ) × map.FinMap nat_cmp ℕ) × (ℕ × Mode))
+    (coded× (coded× (coded× (set.code coded_ℕ) (map.code coded_ℕ coded_ℕ)) (map.code coded_ℕ coded_ℕ))
+    (coded× coded_ℕ the_mode.the_row.coded))
+    (λ b. (((b.opened, b.ids), b.serials), (b.next, b.mode)))
+    (λ p. record { opened = p.0.0.0; ids = p.0.0.1; serials = p.0.1; next = p.1.0; mode = p.1.1 })
     (λ _. refl)
 
 -- the opened set as a test
@@ -35,12 +41,30 @@ abbrev pub id_in : BindingValue → ℕ → ℕ
 id_in b s = unwrap_or (map.get b.ids s) 0
 
 -- with nothing in its tables
+abbrev pub empty_in : Mode → ℕ → BindingValue
+empty_in mode next = record { opened = set.empty; ids = map.empty; serials = map.empty; next = next; mode = mode }
+
+-- the same where nothing is hidden
 abbrev pub empty_from : ℕ → BindingValue
-empty_from next = record { opened = set.empty; ids = map.empty; serials = map.empty; next = next }
+empty_from next = empty_in All next
+
+-- in another mode
+abbrev pub in_mode : Mode → BindingValue → BindingValue
+in_mode mode b = record { opened = b.opened; ids = b.ids; serials = b.serials; next = b.next; mode = mode }
+
+-- no node has an id
+abbrev pub KnowsNothing : BindingValue → Type 0
+KnowsNothing b = (s : ℕ) → map.get b.ids s ≡ None
 
 -- s gets the next id
 abbrev pub with_bound : ℕ → BindingValue → BindingValue
-with_bound s b = record { opened = b.opened; ids = map.insert b.ids s b.next; serials = map.insert b.serials b.next s; next = b.next + 1 }
+with_bound s b = record {
+  opened = b.opened;
+  ids = map.insert b.ids s b.next;
+  serials = map.insert b.serials b.next s;
+  next = b.next + 1;
+  mode = b.mode;
+}
 
 -- each gets the next id, in turn
 abbrev pub all_bound : List ℕ → BindingValue → BindingValue
@@ -49,7 +73,7 @@ all_bound (s ∷ ss) b = all_bound ss (with_bound s b)
 
 -- s is opened
 abbrev pub with_opened : ℕ → BindingValue → BindingValue
-with_opened s b = record { opened = set.insert b.opened s; ids = b.ids; serials = b.serials; next = b.next }
+with_opened s b = record { opened = set.insert b.opened s; ids = b.ids; serials = b.serials; next = b.next; mode = b.mode }
 
 -- each of these containers is opened
 abbrev pub all_opened : List ℕ → BindingValue → BindingValue
@@ -61,9 +85,9 @@ abbrev pub ids_without : Option ℕ → map.FinMap nat_cmp ℕ → map.FinMap na
 ids_without None m = m
 ids_without (Some id) m = map.remove m id
 
--- nothing is known
+-- nothing is known; the mode stays
 abbrev pub cleared : BindingValue → BindingValue
-cleared b = empty_from b.next
+cleared b = empty_in b.mode b.next
 
 -- after a reset, the containers of a level below d are opened, and the nodes that are known then get their ids
 abbrev pub started : Option ℕ → Nodes PageRow → BindingValue → BindingValue
@@ -84,6 +108,7 @@ forgotten s b = record {
   ids = map.remove b.ids s;
   serials = ids_without (map.get b.ids s) b.serials;
   next = b.next;
+  mode = b.mode;
 }
 
 -- none of these nodes is known any more

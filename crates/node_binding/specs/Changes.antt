@@ -1,14 +1,15 @@
 -- A binding that stands for a session with a page, through all that changes them.
-use Rattle.std.specs.Prelude.{◌≡◌, ◌≢◌, ℕ, Bool, true, false, List, Option, IsSome}
+use Rattle.std.specs.Prelude.{◌≡◌, ◌≢◌, ℕ, Bool, true, false, List, Option, None, IsSome}
 use Rattle.node_tree.specs.Nodes.{Branch, alone}
 use Rattle.node_tree.specs.Labels.{Label}
 use Rattle.page_tree.specs.Pages.{PageRow, PageValue, IsValid, find_in, node_at}
 use Rattle.page_tree.specs.Edits.{after, changed_at, relabelled}
 use Rattle.page_tree.specs.declared.edits.TreeEdit.TheVariants.{Attach, Detach}
+use Rattle.shown_pages.specs.declared.modes.Mode.{Mode}
 use Rattle.node_binding.specs.Openings.{is_spent, opened_also}
 use Rattle.node_binding.specs.Sessions.{Session, IsSession, CanOpen, session_of, begun, reset, document_opened, grown, attached, detached}
 use Rattle.node_binding.specs.Sessions.{is_open}
-use Rattle.node_binding.specs.Bindings.{BindingValue, Stands, empty_from, cleared, started, opened_down, with_bound, all_forgotten}
+use Rattle.node_binding.specs.Bindings.{BindingValue, Stands, empty_from, in_mode, cleared, started, opened_down, with_bound, all_forgotten}
 
 -- The session is one with the page, and the binding has its opened set and its ids.
 pub record BindingStandsFor (page : PageValue) (w : Session) (b : BindingValue) : Type 0 where
@@ -23,6 +24,11 @@ BindingBegins = (page : PageValue) → BindingStandsFor page begun (empty_from 1
 abbrev pub Resets : Type 0
 Resets = (page other : PageValue) (w : Session) (b : BindingValue) → BindingStandsFor page w b
     → BindingStandsFor other (reset w) (cleared b)
+
+-- where nothing is known, a binding in another mode stands for the same session, with every page
+abbrev pub ChangesMode : Type 0
+ChangesMode = (mode : Mode) (page other : PageValue) (w : Session) (b : BindingValue) → w.opened ≡ None → BindingStandsFor page w b
+    → BindingStandsFor other w (in_mode mode b)
 
 -- the document is opened, also of another page than the one before
 abbrev pub Starts : Type 0

@@ -5,17 +5,19 @@ ghost use Rattle.node_tree.specs.Numbers.{drawn_before_nodes, drawn_limit};
 ghost use Rattle.node_tree.specs.Nodes.{alone, node_count};
 ghost use Rattle.node_tree.specs.Labels.{holds};
 ghost use Rattle.page_tree.specs.Pages.{find_in, node_at};
+ghost use Rattle.shown_pages.specs.ShownPages.{shown_page};
 ghost use Rattle.node_binding.specs.Openings.{IsDepth, is_spent, levels_of};
-ghost use Rattle.node_binding.specs.Bindings.{empty_from, cleared, started, revealed, opened_down, with_bound, with_opened, forgotten};
-ghost use Rattle.node_binding.specs.Bindings.{all_forgotten};
+ghost use Rattle.node_binding.specs.Bindings.{empty_from, in_mode, KnowsNothing, cleared, started, revealed, opened_down, with_bound};
+ghost use Rattle.node_binding.specs.Bindings.{with_opened, forgotten, all_forgotten};
 
 use crate::levels::{is_reached, less, levels_of};
 use number_map::{NumberMap, NumberSet};
-use page_tree::{Children, Node, Page};
+use page_tree::Page;
+use shown_pages::{Mode, ShownNode, Walk};
 use std::alloc::{AllocError, Global};
 use std::marker::Model;
 
-/// The opened containers, and the pairs of ids and serials of the known nodes.
+/// The opened containers, and the pairs of ids and serials of the known nodes, in what a mode shows of the page.
 ///
 /// A look-up takes one step where the serials and ids follow one another, or nearly, and else time that grows with the
 /// logarithm of the number of known nodes. After want of memory a binding may have a part of what was asked for.
@@ -25,6 +27,7 @@ pub struct Binding {
     ids: NumberMap,
     serials: NumberMap,
     next: u64,
+    mode: Mode,
 }
 
 impl Model for Binding {
@@ -34,11 +37,11 @@ impl Model for Binding {
 
     ghost coded = { coded_bound };
 
-    ghost view = { λ a. record { opened = a.opened; ids = a.ids; serials = a.serials; next = a.next } };
+    ghost view = { λ a. record { opened = a.opened; ids = a.ids; serials = a.serials; next = a.next; mode = a.mode } };
 }
 
 impl Binding {
-    /// Nothing is known, and the first id is 1. Takes no memory.
+    /// Nothing is known, the first id is 1, and the mode is `All`. Takes no memory.
     pub fn new(alloc: Global) -> Binding
         ensures { result ≡ empty_from 1 }
     {
@@ -47,49 +50,73 @@ impl Binding {
             ids: NumberMap::new(alloc),
             serials: NumberMap::new(alloc),
             next: 1,
+            mode: Mode::All,
         }
     }
 
-    /// Resets, and then opens the document by `depth` levels, or all of the page where it is -1. The known nodes get their
-    /// ids in document order.
-    pub fn start(&mut self, page: &Page, depth: i64) -> Result<(), AllocError>
+    /// What the client is shown of the page.
+    pub fn mode(&self) -> Mode
+        ensures { result ≡ self.now.mode }
+    {
+        self.mode
+    }
+
+    /// Another mode, while nothing is known.
+    pub fn set_mode(&mut self, mode: Mode)
+        requires { KnowsNothing self.old }
+        ensures { self.new ≡ in_mode mode self.old }
+    {
+        self.change_mode(mode);
+    }
+
+    fn change_mode(&mut self, mode: Mode)
+        ensures { self.new ≡ in_mode mode self.old }
+    {
+        self.mode = mode;
+    }
+
+    /// Resets, and then opens the document, as the mode shows it, by `depth` levels, or all of the page where it is -1. The known
+    /// nodes get their ids in document order. The mode stays until the next start.
+    pub fn start(&mut self, page: &Page, depth: i64, mode: Mode) -> Result<(), AllocError>
         requires depth { IsDepth depth }
         requires room { self.old.next < drawn_before_nodes }
         ensures { OnOk result
-            (self.new ≡ started (levels_of depth) (alone page.now.tree) self.old) }
+            (self.new ≡ started (levels_of depth) (alone (shown_page mode page.now).tree) (in_mode mode self.old)) }
     {
+        self.change_mode(mode);
         self.begin(page, levels_of(depth))?;
         Ok(())
     }
 
-    /// The same by levels that may be few already, at least 1 of them.
+    /// The same in the mode that it has, and by levels that may be few already, at least 1 of them.
     pub fn begin(&mut self, page: &Page, levels: Option<u64>) -> Result<(), AllocError>
         requires left { is_spent levels ≡ false }
         requires room { self.old.next < drawn_before_nodes }
-        ensures { OnOk result (self.new ≡ started levels (alone page.now.tree) self.old) }
+        ensures { OnOk result (self.new ≡ started levels (alone (shown_page self.old.mode page.now).tree) self.old) }
     {
         page.valid();
+        let root = ShownNode::document(page, self.mode);
         self.reset();
-        let root = page.root();
         let serial = root.serial();
         self.bind(serial)?;
         self.open(serial)?;
-        self.reveal(&root.children(), less(levels))?;
+        let mut below = root.walk();
+        self.reveal(&mut below, less(levels))?;
         Ok(())
     }
 
     /// The nodes become known, and the containers among them and below them are opened to that many levels.
-    fn reveal(&mut self, children: &Children, levels: Option<u64>) -> Result<(), AllocError>
-        requires { self.old.next + node_count children.now < drawn_limit }
-        ensures { OnOk result (self.new ≡ revealed levels children.now self.old) }
+    fn reveal(&mut self, walk: &mut Walk<'_>, levels: Option<u64>) -> Result<(), AllocError>
+        requires { self.old.next + node_count walk.old < drawn_limit }
+        ensures { OnOk result (self.new ≡ revealed levels walk.old self.old) }
     {
-        for i in 0..children.len() {
-            let shown = children.at(i);
+        while let Some(shown) = walk.next() {
             let serial = shown.serial();
             self.bind(serial)?;
             if is_reached(shown.kind(), levels) {
                 self.open(serial)?;
-                self.reveal(&shown.children(), less(levels))?;
+                let mut inside = shown.walk();
+                self.reveal(&mut inside, less(levels))?;
             }
         }
         Ok(())
@@ -98,32 +125,33 @@ impl Binding {
     /// Opens a container that is known and not opened by `levels` levels, or all below it where they are -1. What becomes
     /// known gets its ids in document order.
     pub fn open_down(&mut self, page: &Page, serial: u64, levels: i64) -> Result<(), AllocError>
-        requires live { IsSome (find_in serial page.now.tree) }
-        requires container { IsTrue (holds (node_at serial page.now.tree).row.label.kind) }
+        requires live { IsSome (find_in serial (shown_page self.old.mode page.now).tree) }
+        requires container { IsTrue (holds (node_at serial (shown_page self.old.mode page.now).tree).row.label.kind) }
         requires depth { IsDepth levels }
         requires room { self.old.next < drawn_before_nodes }
         ensures { OnOk result
-            (self.new ≡ opened_down (levels_of levels) (node_at serial page.now.tree) self.old) }
+            (self.new ≡ opened_down (levels_of levels) (node_at serial (shown_page self.old.mode page.now).tree) self.old) }
     {
         page.valid();
-        let node = page.node(serial);
+        let node = ShownNode::at(page, serial, self.mode);
         self.open_tree(&node, levels_of(levels))?;
         Ok(())
     }
 
     /// The same of a node that the caller has found, and by levels that may be counted down already.
-    pub fn open_tree(&mut self, node: &Node, levels: Option<u64>) -> Result<(), AllocError>
+    pub fn open_tree(&mut self, node: &ShownNode<'_>, levels: Option<u64>) -> Result<(), AllocError>
         requires container { IsTrue (holds node.now.row.label.kind) }
         requires room { self.old.next + node_count node.now.children < drawn_limit }
         ensures { OnOk result (self.new ≡ opened_down levels node.now self.old) }
     {
         self.open_reached(node, levels)?;
         let left = less(levels);
-        self.reveal(&node.children(), left)?;
+        let mut below = node.walk();
+        self.reveal(&mut below, left)?;
         Ok(())
     }
 
-    fn open_reached(&mut self, node: &Node, levels: Option<u64>) -> Result<(), AllocError>
+    fn open_reached(&mut self, node: &ShownNode<'_>, levels: Option<u64>) -> Result<(), AllocError>
         ensures { OnOk result (self.new
             ≡ cond (holds node.now.row.label.kind && not (is_spent levels)) (with_opened node.now.row.serial self.old) self.old) }
     {
@@ -134,10 +162,11 @@ impl Binding {
         Ok(())
     }
 
-    /// A node that was attached below an opened one, and is not known yet, becomes known; it is not opened. Comes after the
-    /// attach. Gives the node's id.
+    /// A shown node that was attached below an opened one, and is not known yet, becomes known; it is not opened. Comes after the
+    /// attach, or after the text that shows the node. Gives the node's id.
     pub fn bind_child(&mut self, _page: &Page, serial: u64) -> Result<u64, AllocError>
-        requires { self.old.next < drawn_before_nodes }
+        requires shown { IsSome (find_in serial (shown_page self.old.mode _page.now).tree) }
+        requires room { self.old.next < drawn_before_nodes }
         ensures id { IfOk result (λ id. id ≡ self.old.next) }
         ensures known { OnOk result (self.new ≡ with_bound serial self.old) }
     {
@@ -146,24 +175,32 @@ impl Binding {
         Ok(id)
     }
 
-    /// The node and all below it are not opened and have no ids any more. Comes before the detach, while the page still has
-    /// them; takes no memory.
+    /// The shown node and all that is shown below it are not opened and have no ids any more. Comes before the detach, or before
+    /// the text that hides the node, while the page still has them; takes no memory.
     pub fn forget_subtree(&mut self, page: &Page, serial: u64)
-        requires { IsSome (find_in serial page.now.tree) }
-        ensures { self.new ≡ all_forgotten (alone (node_at serial page.now.tree)) self.old }
+        requires { IsSome (find_in serial (shown_page self.old.mode page.now).tree) }
+        ensures { self.new ≡ all_forgotten (alone (node_at serial (shown_page self.old.mode page.now).tree)) self.old }
     {
-        let node = page.node(serial);
-        self.forget(node.serial());
-        self.forget_all(&node.children());
+        let node = ShownNode::at(page, serial, self.mode);
+        self.forget_tree(&node);
     }
 
-    fn forget_all(&mut self, children: &Children)
-        ensures { self.new ≡ all_forgotten children.now self.old }
+    /// The same of a node that the caller has found.
+    pub fn forget_tree(&mut self, node: &ShownNode<'_>)
+        ensures { self.new ≡ all_forgotten (alone node.now) self.old }
     {
-        for i in 0..children.len() {
-            let child = children.at(i);
+        self.forget(node.serial());
+        let mut kids = node.walk();
+        self.forget_all(&mut kids);
+    }
+
+    fn forget_all(&mut self, walk: &mut Walk<'_>)
+        ensures { self.new ≡ all_forgotten walk.old self.old }
+    {
+        while let Some(child) = walk.next() {
             self.forget(child.serial());
-            self.forget_all(&child.children());
+            let mut below = child.walk();
+            self.forget_all(&mut below);
         }
     }
 

@@ -1,4 +1,5 @@
-ghost use Rattle.node_binding.specs.Changes.{BindingBegins, Resets, Starts, OpensDown, BindsChild, PassesAttach, Forgets, PassesLabel};
+ghost use Rattle.node_binding.specs.Changes.{BindingBegins, Resets, ChangesMode, Starts, OpensDown, BindsChild, PassesAttach, Forgets};
+ghost use Rattle.node_binding.specs.Changes.{PassesLabel};
 ghost use Rattle.node_binding.specs.DealBindings.{OpensDeal, StartsDeal};
 ghost use Rattle.node_binding.specs.DealLaws.{AskDeals, DealIsDeals, Deals, DealtInPieces, RootLow, ShownLow, StartDeals};
 
@@ -6,6 +7,7 @@ ghost use Rattle.node_binding.specs.DealLaws.{AskDeals, DealIsDeals, Deals, Deal
 pub fn binding_law()
     ensures begun { BindingBegins }
     ensures reset { Resets }
+    ensures mode { ChangesMode }
     ensures start { Starts }
     ensures open_down { OpensDown }
     // comes after the attach

@@ -1,4 +1,4 @@
-//! What a session's client knows of the page: which containers are opened, and the pairs of node ids and serials.
+//! What a session's client knows of the page, as a mode shows it: which containers are opened, and the pairs of node ids and serials.
 //!
 //! Promise: a `Binding` stands for a session, which is the opened set, the list of all serials that were pushed, and their
 //! number at the last reset: ids are places in that list, so none is given twice.

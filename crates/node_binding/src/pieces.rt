@@ -8,14 +8,14 @@ ghost use Rattle.node_binding.specs.Pieces.{opening_of, begun, left_below};
 
 use crate::levels::{is_reached, less};
 use node_tree::MOST_TOLD;
-use page_tree::{Children, Node};
+use shown_pages::{ShownNode, Walk};
 use std::alloc::AllocError;
 
 /// A container that is to be opened, and by how many levels; `None` stands for all.
 #[derive(Drop)]
 pub struct Opening<'a> {
     pub levels: Option<u64>,
-    pub node: Node<'a>,
+    pub node: ShownNode<'a>,
 }
 
 /// At most the levels that one message tells.
@@ -36,7 +36,7 @@ fn smaller(d: u64) -> u64
 
 // Where no level is left of the piece before, the container begins one. Gives how many are left below it.
 fn begin<'a>(
-    node: &Node<'a>,
+    node: &ShownNode<'a>,
     left: u64,
     levels: Option<u64>,
     openings: &mut Vec<Opening<'a>>,
@@ -60,7 +60,7 @@ fn begin<'a>(
 /// With `left` 0 these are the openings by which a container is opened of which nothing is.
 #[cycle(deal)]
 pub fn deal_node<'a>(
-    node: &Node<'a>,
+    node: &ShownNode<'a>,
     left: u64,
     levels: Option<u64>,
     openings: &mut Vec<Opening<'a>>,
@@ -73,22 +73,22 @@ pub fn deal_node<'a>(
     }
     let below = begin(node, left, levels, openings)?;
     let rest = less(levels);
-    deal_children(&node.children(), below, rest, openings)?;
+    let mut children = node.walk();
+    deal_children(&mut children, below, rest, openings)?;
     Ok(())
 }
 
 #[cycle(deal)]
 fn deal_children<'a>(
-    children: &Children<'a>,
+    walk: &mut Walk<'a>,
     left: u64,
     levels: Option<u64>,
     openings: &mut Vec<Opening<'a>>,
 ) -> Result<(), AllocError>
     ensures { OnOk result (map opening_of openings.new.items
-        ≡ map opening_of openings.old.items ++ dealt more_told left levels children.now) }
+        ≡ map opening_of openings.old.items ++ dealt more_told left levels walk.old) }
 {
-    for i in 0..children.len() {
-        let node = children.at(i);
+    while let Some(node) = walk.next() {
         deal_node(&node, left, levels, openings)?;
     }
     Ok(())

@@ -1,8 +1,7 @@
 use Rattle.std.proofs.Common.{◌++◌, ◌+◌, ◌*◌, ◌<◌, not, ◌&&◌, refl, sym, ap, subst, ◌∙◌, arith}
-use Rattle.node_tree.specs.Nodes.{Nodes, width, node_count, branch_count}
+use Rattle.node_tree.specs.Nodes.{Nodes, node_count, branch_count}
 use Rattle.node_tree.specs.Labels.{holds}
 use Rattle.page_tree.specs.Pages.{PageRow}
-use Rattle.page_tree.proofs.CursorLemmas.{from-end, child-smaller}
 use Rattle.node_binding.specs.Openings.{less, is_spent}
 use Rattle.dom_objects.specs.Tokens.{data_tokens}
 use Rattle.dom_objects.specs.NodeRows.{told_by}
@@ -31,40 +30,39 @@ write_reached-returns-clause-ok t c =
     (sym c.kind.ensures) ∙ sym c.is_reached.ensures ∙ c.if-not-is_reached.false) c.in_ok-children.ensures.ok
     (c.in_ok-write_below.ensures.ok
     ∙ ap (λ (n : Nodes PageRow). c.children.new.self.tokens
-    ++ data_tokens (nodes_data 0 (shown_to no_ids c.less-left.result n))) c.children-2.ensures
+    ++ data_tokens (nodes_data 0 (shown_to no_ids c.less-left.result n))) c.walk-walk.ensures
     ∙ ap (λ l. c.children.new.self.tokens ++ data_tokens (nodes_data 0 (shown_to no_ids l c.args.node.now.children))) c.less-left.ensures)
 
-pub write_below-loop-i-init : goal.write_below-loop-i-init
-write_below-loop-i-init t c =
+pub write_below-loop-child-init : goal.write_below-loop-child-init
+write_below-loop-child-init t c =
     record {
-      tokens = left_start (shown_to no_ids c.args.levels) 0 c.args.children.now c.args.out.now.tokens
-          c.in_ok-begin_nodes.ensures.ok;
+      tokens = left_start (shown_to no_ids c.args.levels) 0 c.args.walk.now c.args.out.now.tokens c.in_ok-begin_nodes.ensures.ok;
       before = c.in_ok-begin_nodes.ensures.before;
+      few = omega arith;
     }
 
 pub write_below-write_described-requires : goal.write_below-write_described-requires
 write_below-write_described-requires t c =
-    let inside : c.loop-i.i < width c.args.children.now = omega (arith, c.loop-i-test.true, c.len-i-end.ensures) in
-    let small : 3 * branch_count c.at-child.result < 3 * node_count c.args.children.now
-    + 1 = omega (arith, child-smaller c.args.children.now c.loop-i.i c.at-child.result inside c.at-child.ensures) in
-    (subst (λ m. 3 * branch_count c.at-child.result < m) c.decreases small, tt)
+    let small : 3 * branch_count c.in-Some.child < 3 * node_count c.args.walk.now + 1 =
+    omega (arith, ap node_count c.in-Some.ensures, c.loop-child.invariant.few) in
+    (subst (λ m. 3 * branch_count c.in-Some.child < m) c.decreases small, tt)
 
-pub write_below-loop-i-preserved : goal.write_below-loop-i-preserved
-write_below-loop-i-preserved t c =
-    let inside : c.loop-i.i < width c.args.children.now = omega (arith, c.loop-i-test.true, c.len-i-end.ensures) in
-    let x = c.at-child.result in
+pub write_below-loop-child-preserved : goal.write_below-loop-child-preserved
+write_below-loop-child-preserved t c =
+    let x = c.in-Some.child in
     record {
-      tokens = left_turn (shown_to no_ids c.args.levels) 0 c.args.children.now
+      tokens = left_turn (shown_to no_ids c.args.levels) 0
           (record {
             row = row_to no_ids c.args.levels x.row x.children;
             children = kids_to no_ids c.args.levels x;
-          }) c.loop-i.i x c.loop-i.out.tokens
-          c.write_described.new.out.tokens _ inside c.at-child.ensures refl c.in_ok-write_described.ensures.ok c.loop-i.invariant.tokens;
-      before = c.in_ok-write_described.ensures.before ∙ c.loop-i.invariant.before;
+          }) x _ c.next.new.self c.loop-child.out.tokens
+          c.write_described.new.out.tokens _ c.in-Some.ensures refl c.in_ok-write_described.ensures.ok c.loop-child.invariant.tokens;
+      before = c.in_ok-write_described.ensures.before ∙ c.loop-child.invariant.before;
+      few = omega (arith, ap node_count c.in-Some.ensures, c.loop-child.invariant.few);
     }
 
 pub write_below-returns-clause-ok : goal.write_below-returns-clause-ok
 write_below-returns-clause-ok t c =
-    left_end (shown_to no_ids c.args.levels) 0 c.args.children.now c.loop-i.i c.loop-i.out.tokens c.end_nodes.new.self.tokens _ refl
-    (from-end c.args.children.now c.loop-i.i
-    (omega (arith, c.loop-i-test.false, c.len-i-end.ensures))) c.in_ok-end_nodes.ensures.ok c.loop-i.invariant.tokens
+    let last = c.in_default.ensures {u = tt} in
+    left_end (shown_to no_ids c.args.levels) 0 _ c.loop-child.out.tokens c.end_nodes.new.self.tokens _ refl last.0
+    c.in_ok-end_nodes.ensures.ok c.loop-child.invariant.tokens

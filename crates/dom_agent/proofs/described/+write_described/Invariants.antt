@@ -1,4 +1,4 @@
-use Rattle.std.proofs.Common.{◌≡◌, ◌+◌, ◌*◌, ◌++◌}
+use Rattle.std.proofs.Common.{◌≡◌, ◌+◌, ◌*◌, ◌++◌, ◌≤◌}
 use Rattle.node_tree.specs.Nodes.{node_count, branch_count}
 use Rattle.dom_objects.specs.Tokens.{data_tokens}
 use Rattle.dom_agent.specs.Described.{no_ids, shown_to}
@@ -12,11 +12,15 @@ abbrev pub decreases-write_reached : goal.decreases-write_reached
 decreases-write_reached l = 3 * node_count l.node.now.children + 2
 
 abbrev pub decreases-write_below : goal.decreases-write_below
-decreases-write_below l = 3 * node_count l.children.now + 1
+decreases-write_below l = 3 * node_count l.walk.now + 1
 
-abbrev pub invariant-write_below-loop-i : goal.invariant-write_below-loop-i
-invariant-write_below-loop-i l = record {
-  tokens : with_left (shown_to no_ids l.levels) 0 l.children l.out.tokens l.i
-      ≡ l.fn.out.tokens ++ data_tokens (nodes_data 0 (shown_to no_ids l.levels l.children));
+abbrev pub invariant-write_below-loop-child : goal.invariant-write_below-loop-child
+invariant-write_below-loop-child l = record {
+  tokens : with_left (shown_to no_ids l.levels) 0 l.out.tokens l.walk
+      ≡ l.fn.out.tokens ++ data_tokens (nodes_data 0 (shown_to no_ids l.levels l.fn.walk));
   before : l.out.before ≡ l.fn.out.before;
+  few : node_count l.walk ≤ node_count l.fn.walk;
 }
+
+abbrev pub decreases-write_below-loop-child : goal.decreases-write_below-loop-child
+decreases-write_below-loop-child l = node_count l.walk

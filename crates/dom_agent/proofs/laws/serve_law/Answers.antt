@@ -4,6 +4,7 @@ use Rattle.dom_agent.proofs.KeeperLemmas.{stays_bound, same_moves}
 use Rattle.dom_agent.proofs.MoveLemmas.{steps_are_moves, replies_answer}
 use Rattle.dom_agent.proofs.SetsLemmas.{document_opens, request_opens, request_pushes, path_opens, path_pushes, serials_open}
 use Rattle.dom_agent.proofs.SetsLemmas.{first_found_opens, found_open}
+use Rattle.dom_agent.proofs.KeptMode.{command_keeps_mode, push_keeps_mode}
 use Rattle.dom_agent.proofs.laws.serve_law.Goals as goal
 
 pub returns : goal.returns
@@ -11,6 +12,8 @@ returns c = record {
   session = stays_session;
   stands = stays_bound;
   same = same_moves;
+  mode = command_keeps_mode;
+  push_mode = push_keeps_mode;
   few = draws_few;
   moves = steps_are_moves;
   document_opens = document_opens;

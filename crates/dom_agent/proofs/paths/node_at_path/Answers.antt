@@ -6,5 +6,4 @@ use Rattle.dom_agent.proofs.paths.node_at_path.Goals as goal
 pub returns : goal.returns
 returns c =
     c.node_by.ensures
-    ∙ ap (λ text. option_and_then (λ steps. node_by steps c.children.result) (steps_of (parts_of text))) c.as_bytes.ensures.value
-    ∙ ap (λ n. option_and_then (λ steps. node_by steps n) (steps_of (parts_of c.args.path.now))) c.children.ensures
+    ∙ ap (λ text. option_and_then (λ steps. node_by steps c.args.document.now.children) (steps_of (parts_of text))) c.as_bytes.ensures.value

@@ -6,7 +6,7 @@ use Rattle.dom_agent.proofs.serving.tell_children.Goals as goal
 pub returns : goal.returns
 returns c =
     let b = c.args.binding.now in
-    shows_sent c.tell_shows.result b c.unwrap_or-parent.result c.args.node.now c.children.result c.args.out.now.items
+    shows_sent c.tell_shows.result b c.unwrap_or-parent.result c.args.node.now c.walk-walk.result c.args.out.now.items
     c.tell_shows.new.out.items
     (c.unwrap_or-parent.ensures ∙ ap (λ o. unwrap_or o 0) c.id_of.ensures ∙ ap
-    (id_in b) c.serial.ensures) c.children.ensures c.tell_shows.ensures
+    (id_in b) c.serial.ensures) c.walk-walk.ensures c.tell_shows.ensures

@@ -1,7 +1,6 @@
 use Rattle.std.proofs.Common.{◌≡◌, ◌++◌, ◌+◌, ◌*◌, ◌<◌, unwrap_or, refl, sym, ap, subst, ◌∙◌, arith}
-use Rattle.node_tree.specs.Nodes.{Nodes, width, node_count, branch_count}
+use Rattle.node_tree.specs.Nodes.{Nodes, node_count, branch_count}
 use Rattle.page_tree.specs.Pages.{PageRow}
-use Rattle.page_tree.proofs.CursorLemmas.{from-end, child-smaller}
 use Rattle.node_binding.specs.Cuts.{opens, cut}
 use Rattle.node_binding.specs.Bindings.{opened_in, id_in}
 use Rattle.dom_objects.specs.Tokens.{data_tokens}
@@ -34,40 +33,37 @@ write_opened-returns-clause-ok t c =
     c.in_ok-children.ensures.ok
     (subst (λ (n : Nodes PageRow). c.write_children.new.out.tokens
     ≡ c.children.new.self.tokens ++ data_tokens
-    (nodes_data c.args.id (cut (opened_in b) (id_in b) n))) c.children-2.ensures c.in_ok-write_children.ensures.ok)
+    (nodes_data c.args.id (cut (opened_in b) (id_in b) n))) c.walk-walk.ensures c.in_ok-write_children.ensures.ok)
 
-pub write_children-loop-i-init : goal.write_children-loop-i-init
-write_children-loop-i-init t c =
+pub write_children-loop-child-init : goal.write_children-loop-child-init
+write_children-loop-child-init t c =
     let b = c.args.binding.now in
     record {
-      tokens = left_start (cut (opened_in b)
-          (id_in b)) c.args.parent c.args.children.now c.args.out.now.tokens c.in_ok-begin_nodes.ensures.ok;
+      tokens = left_start (cut (opened_in b) (id_in b)) c.args.parent c.args.walk.now c.args.out.now.tokens c.in_ok-begin_nodes.ensures.ok;
       before = c.in_ok-begin_nodes.ensures.before;
+      few = omega arith;
     }
 
 pub write_children-write_shown-requires : goal.write_children-write_shown-requires
 write_children-write_shown-requires t c =
-    let inside : c.loop-i.i < width c.args.children.now = omega (arith, c.loop-i-test.true, c.len-i-end.ensures) in
-    let small : 3 * branch_count c.at-child.result < 3 * node_count c.args.children.now
-    + 1 = omega (arith, child-smaller c.args.children.now c.loop-i.i c.at-child.result inside c.at-child.ensures) in
-    (subst (λ m. 3 * branch_count c.at-child.result < m) c.decreases small, tt)
+    let small : 3 * branch_count c.in-Some.child < 3 * node_count c.args.walk.now + 1 =
+    omega (arith, ap node_count c.in-Some.ensures, c.loop-child.invariant.few) in
+    (subst (λ m. 3 * branch_count c.in-Some.child < m) c.decreases small, tt)
 
-pub write_children-loop-i-preserved : goal.write_children-loop-i-preserved
-write_children-loop-i-preserved t c =
+pub write_children-loop-child-preserved : goal.write_children-loop-child-preserved
+write_children-loop-child-preserved t c =
     let b = c.args.binding.now in
-    let inside : c.loop-i.i < width c.args.children.now = omega (arith, c.loop-i-test.true, c.len-i-end.ensures) in
     record {
-      tokens = left_turn (cut (opened_in b) (id_in b)) c.args.parent c.args.children.now
-          (shown (opened_in b) (id_in b) c.at-child.result) c.loop-i.i c.at-child.result c.loop-i.out.tokens c.write_shown.new.out.tokens _
-          inside c.at-child.ensures refl c.in_ok-write_shown.ensures.ok
-          c.loop-i.invariant.tokens;
-      before = c.in_ok-write_shown.ensures.before ∙ c.loop-i.invariant.before;
+      tokens = left_turn (cut (opened_in b) (id_in b)) c.args.parent (shown (opened_in b) (id_in b) c.in-Some.child) c.in-Some.child _
+          c.next.new.self c.loop-child.out.tokens c.write_shown.new.out.tokens _ c.in-Some.ensures refl c.in_ok-write_shown.ensures.ok
+          c.loop-child.invariant.tokens;
+      before = c.in_ok-write_shown.ensures.before ∙ c.loop-child.invariant.before;
+      few = omega (arith, ap node_count c.in-Some.ensures, c.loop-child.invariant.few);
     }
 
 pub write_children-returns-clause-ok : goal.write_children-returns-clause-ok
 write_children-returns-clause-ok t c =
     let b = c.args.binding.now in
-    left_end (cut (opened_in b) (id_in b)) c.args.parent c.args.children.now c.loop-i.i c.loop-i.out.tokens c.end_nodes.new.self.tokens _
-    refl
-    (from-end c.args.children.now c.loop-i.i
-    (omega (arith, c.loop-i-test.false, c.len-i-end.ensures))) c.in_ok-end_nodes.ensures.ok c.loop-i.invariant.tokens
+    let last = c.in_default.ensures {u = tt} in
+    left_end (cut (opened_in b) (id_in b)) c.args.parent _ c.loop-child.out.tokens c.end_nodes.new.self.tokens _ refl last.0
+    c.in_ok-end_nodes.ensures.ok c.loop-child.invariant.tokens

@@ -11,9 +11,9 @@ use Rattle.dom_agent.proofs.told.tell_shows.Goals as goal
 pub returns : goal.returns
 returns c =
     let d = message_with (message.Children c.args.parent)
-    (nodes_data c.args.parent (cut (opened_in c.args.binding.now) (id_in c.args.binding.now) c.args.children.now)) in
+    (nodes_data c.args.parent (cut (opened_in c.args.binding.now) (id_in c.args.binding.now) c.args.walk.now)) in
     move_written c.write_shows-written.result c.finish.result c.args.out.now.items c.write_shows-written.new.out.before
     c.finish.new.out.items c.new-writer.result.tokens c.write_shows-written.new.out.tokens d
     (change c.args.parent (shows (cut (opened_in c.args.binding.now)
-    (id_in c.args.binding.now) c.args.children.now))) refl c.new-writer.ensures.tokens c.write_shows-written.ensures.ok
+    (id_in c.args.binding.now) c.args.walk.now))) refl c.new-writer.ensures.tokens c.write_shows-written.ensures.ok
     (c.write_shows-written.ensures.before ∙ c.new-writer.ensures.before) (c.finish.ensures.ok d)

@@ -8,4 +8,4 @@ use Rattle.dom_agent.proofs.told.write_shows.Goals as goal
 pub returns-clause-ok : goal.returns-clause-ok
 returns-clause-ok c = message_written c.args.out.now.tokens (message.Children c.args.parent)
     (nodes_data c.args.parent (cut (opened_in c.args.binding.now)
-    (id_in c.args.binding.now) c.args.children.now)) c.in_ok-open.ensures.ok c.in_ok-write_children.ensures.ok c.in_ok-close.ensures.ok
+    (id_in c.args.binding.now) c.args.walk.now)) c.in_ok-open.ensures.ok c.in_ok-write_children.ensures.ok c.in_ok-close.ensures.ok

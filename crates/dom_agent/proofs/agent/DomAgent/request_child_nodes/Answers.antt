@@ -2,6 +2,8 @@ use Rattle.std.proofs.Common.{ℕ, ◌<◌, ◌^◌, Option, sym, ap, subst, ◌
 use Rattle.std.specs.FinMap as map_of
 use Rattle.node_tree.specs.Nodes.{alone}
 use Rattle.page_tree.specs.Pages.{PageValue}
+use Rattle.shown_pages.specs.ShownPages.{shown_page}
+use Rattle.shown_pages.proofs.ShownTrees.{shown-valid}
 use Rattle.node_binding.specs.Bindings.{BindingValue, opened_in}
 use Rattle.dom_agent.specs.Keepers.{binding_keeper}
 use Rattle.dom_agent.specs.Openings.{opening_of}
@@ -11,8 +13,8 @@ use Rattle.dom_agent.proofs.agent.DomAgent.request_child_nodes.Goals as goal
 
 pub open_all-requires-clause-containers : goal.open_all-requires-clause-containers
 open_all-requires-clause-containers c =
-    let page : PageValue = c.args.page.now in
-    request_containers page c.valid.ensures c.self.inside.binding c.args.depth
+    let page : PageValue = shown_page c.args.self.now.mode c.args.page.now in
+    request_containers page (shown-valid c.args.self.now.mode c.args.page.now c.valid.ensures) c.self.inside.binding c.args.depth
     (map_of.get c.args.self.now.serials c.args.node) c.in-Some.found c.levels_asked-levels.result (map opening_of c.deref.result.now)
     (c.in-Some.ensures ∙ ap (λ m. known_node (binding_keeper (alone page.tree)) page.tree m
     (map_of.get c.args.self.now.serials c.args.node)) (sym c.self.view_is))
@@ -23,8 +25,8 @@ open_all-requires-clause-containers c =
 
 pub open_all-requires-clause-room : goal.open_all-requires-clause-room
 open_all-requires-clause-room c =
-    let page : PageValue = c.args.page.now in
-    request_room page c.valid.ensures c.self.inside.binding c.args.depth
+    let page : PageValue = shown_page c.args.self.now.mode c.args.page.now in
+    request_room page (shown-valid c.args.self.now.mode c.args.page.now c.valid.ensures) c.self.inside.binding c.args.depth
     (map_of.get c.args.self.now.serials c.args.node) c.in-Some.found c.levels_asked-levels.result (map opening_of c.deref.result.now)
     (c.in-Some.ensures ∙ ap (λ m. known_node (binding_keeper (alone page.tree)) page.tree m
     (map_of.get c.args.self.now.serials c.args.node)) (sym c.self.view_is))
@@ -36,9 +38,11 @@ open_all-requires-clause-room c =
 
 pub returns-clause-known : goal.returns-clause-known
 returns-clause-known c =
-    let page : PageValue = c.args.page.now in
+    let page : PageValue = shown_page c.args.self.now.mode c.args.page.now in
     let s : Option ℕ = map_of.get c.args.self.now.serials c.args.node in
-    request_known page c.valid.ensures c.self.inside.binding c.args.depth s c.in-Some.found c.levels_asked-levels.result
+    request_known page
+    (shown-valid c.args.self.now.mode c.args.page.now c.valid.ensures) c.self.inside.binding c.args.depth s c.in-Some.found
+    c.levels_asked-levels.result
     (map opening_of c.deref.result.now)
     (c.in-Some.ensures ∙ ap (λ m. known_node (binding_keeper (alone page.tree)) page.tree m s) (sym c.self.view_is))
     c.levels_asked-levels.ensures
@@ -51,9 +55,11 @@ returns-clause-known c =
 
 pub returns-clause-sent : goal.returns-clause-sent
 returns-clause-sent c =
-    let page : PageValue = c.args.page.now in
+    let page : PageValue = shown_page c.args.self.now.mode c.args.page.now in
     let s : Option ℕ = map_of.get c.args.self.now.serials c.args.node in
-    request_sent page c.valid.ensures c.self.inside.binding c.args.depth s c.in-Some.found c.levels_asked-levels.result
+    request_sent page
+    (shown-valid c.args.self.now.mode c.args.page.now c.valid.ensures) c.self.inside.binding c.args.depth s c.in-Some.found
+    c.levels_asked-levels.result
     (map opening_of c.deref.result.now)
     (c.in-Some.ensures ∙ ap (λ m. known_node (binding_keeper (alone page.tree)) page.tree m s) (sym c.self.view_is))
     c.levels_asked-levels.ensures
