@@ -35,7 +35,8 @@ use Rattle.cdp_messages.specs.declared.method.Method.{Method}
 use Rattle.cdp_messages.specs.declared.method.Method.TheVariants as method
 use Rattle.cdp_messages.specs.Methods.{known_method}
 use Rattle.cdp_messages.specs.Refusals.{param_name}
-use Rattle.cdp_messages.specs.Parameters.{text_edit, range_parameter, needed, allowed, depth_fields, children_fields, path_field}
+use Rattle.cdp_messages.specs.Parameters.{enable_fields, text_edit, range_parameter, needed, allowed, depth_fields, children_fields}
+use Rattle.cdp_messages.specs.Parameters.{path_field}
 use Rattle.cdp_messages.specs.Parameters.{serials_field, node_field, query_fields, describe_fields, sheet_field, edits_field, watch_fields}
 use Rattle.cdp_messages.specs.Parameters.{search_fields, results_fields, search_field, reads_with, command_by}
 use Rattle.cdp_messages.specs.Asked.{json_of, of_method, command_for, unless_session, or_bad_request, params_of, command_of, method_in}
@@ -201,7 +202,7 @@ edits-texts ms c is =
 
 -- a command keeps no more edits than its parameters are large
 pub edits-by : (m : Method) (ms : Members) (c : Command) → command_by m ms ≡ Ok c → edits_of c ≤ members_size ms
-edits-by method.DomEnable ms c is = edits-bare DomEnable c ms (omega arith) is
+edits-by method.DomEnable ms c is = edits-none enable_fields (λ x. DomEnable x.0) ms c (λ x. omega arith) is
 edits-by method.DomDisable ms c is = edits-bare DomDisable c ms (omega arith) is
 edits-by method.GetDocument ms c is = edits-none depth_fields (λ x. AskDom (ask.GetDocument x.0 x.1.0)) ms c (λ x. omega arith) is
 edits-by method.RequestChildNodes ms c is =

@@ -5,7 +5,7 @@ use Rattle.std.specs.List.{flat_map}
 use Rattle.serde_json.specs.Data.{Data}
 use Rattle.cdp_json.specs.Kinds.{is_counted, holds_of_some}
 use Rattle.cdp_json.specs.Plain.{HasUtf8}
-use Rattle.node_tree.specs.Nodes.{Nodes, none, node_count, alone}
+use Rattle.node_tree.specs.Nodes.{Branch, Nodes, none, node_count, alone}
 use Rattle.node_tree.specs.Levels.{most_told}
 use Rattle.page_tree.specs.Pages.{PageRow, PageValue, IsValid}
 use Rattle.node_binding.specs.Sessions.{Session, IsSession, is_open, reset, document_opened}
@@ -51,9 +51,14 @@ use Rattle.cdp_messages.specs.Methods.{needs_both}
 use Rattle.cdp_messages.proofs.MethodRows.{styles-need-both}
 use Rattle.back_end.specs.Texts.{HasTreeTexts}
 use Rattle.back_end.proofs.TreeSteps.{AsksFor, tree-edit-answered}
-use Rattle.back_end.specs.States.{State, page_nodes, book_in, sheets_shown, view_of, HoldsNow, HasHistory, IsState}
+use Rattle.shown_pages.specs.declared.modes.Mode.TheVariants.{All}
+use Rattle.shown_pages.specs.ShownPages.{shown_page}
+use Rattle.cdp_messages.specs.declared.command.WhitespaceWord.{WhitespaceWord}
+use Rattle.dom_breakpoints.specs.Watched.{is_watched}
+use Rattle.back_end.specs.States.{State, page_shown, nodes_shown, book_in, sheets_shown, view_of, HoldsNow, HasHistory, IsState}
 use Rattle.back_end.specs.OwnMethods.{load_asked, act_asked}
-use Rattle.back_end.specs.Steps.{Step, with_client, refusing, client_reset, moves_come, Turn, acts, loads, turn_step, ask_needs_on}
+use Rattle.back_end.specs.Steps.{Step, with_client, refusing, mode_asked, client_on, client_off, moves_come, Turn, acts, loads, turn_step}
+use Rattle.back_end.specs.Steps.{ask_needs_on}
 use Rattle.back_end.specs.Steps.{needs_on, needs_css, turns_on, client_served, agent_step, css_step, serial_now, watch_step}
 use Rattle.back_end.specs.Steps.{results_asked, results_step, search_step}
 use Rattle.back_end.specs.Steps.{own_step, sheet_edit_step, served_step, command_step, asked_step}
@@ -76,7 +81,8 @@ use Rattle.back_end.proofs.KeptSteps.{Recalls, recalls-same, recalls-none, steps
 use Rattle.back_end.proofs.PushSteps.{session-is}
 use Rattle.back_end.proofs.WatchSteps.{AddsOne, with-adds, without-adds, watch-well}
 use Rattle.back_end.proofs.StepLemmas.{reset-is}
-use Rattle.back_end.proofs.WellSteps.{Well, HasNumbers, room-numbers, can-tell, can-sheets, told-view, stays-with, more}
+use Rattle.back_end.proofs.WatchedLemmas.{none-set}
+use Rattle.back_end.proofs.WellSteps.{Well, HasNumbers, valid-shown, room-numbers, can-tell, can-sheets, told-view, stays-with, more}
 
 -- ---- what the agent is asked
 
@@ -97,7 +103,7 @@ still-off false k = refl
 -- where DOM is off after an ask that was carried out, nothing is known
 pub off-after : (c : DomAsk) (state : State) → HoldsNow state → (ask_needs_on c && not state.client.dom_on) ≡ false
     → (state.client.dom_on || turns_on c) ≡ false
-    → (state_after state.client.session (session_outcome state.side.page c state.client.session)).opened ≡ None
+    → (state_after state.client.session (session_outcome (page_shown state) state.side.page.tree c state.client.session)).opened ≡ None
 off-after (ask.GetDocument depth pierce) state is h k = turns-off state.client.dom_on k
 off-after (ask.RequestChildNodes id depth pierce) state is h k = refuses-off state.client.dom_on h k
 off-after (ask.PushByPath path) state is h k = refuses-off state.client.dom_on h k
@@ -108,9 +114,9 @@ off-after (ask.GetAttributes id) state is h k = refuses-off state.client.dom_on 
 off-after (ask.DescribeNode id serial depth pierce) state is h k =
     let w : Session = state.client.session in
     ap (λ (z : Session). z.opened)
-    (description-keeps (session_keeper (page_nodes state)) state.side.page.tree depth
-    (known_node (session_keeper (page_nodes state)) state.side.page.tree w
-    (named_serial (session_keeper (page_nodes state)) w id serial)) w)
+    (description-keeps (session_keeper (nodes_shown state)) (page_shown state).tree depth
+    (known_node (session_keeper (nodes_shown state)) (page_shown state).tree w
+    (named_serial (session_keeper (nodes_shown state)) w id serial)) w)
     ∙ is.off (still-off state.client.dom_on k)
 
 -- where an ask that was carried out leaves DOM off, it was off
@@ -129,32 +135,36 @@ goes-unknown page valid c w (served p body) session g h = at w.opened refl where
   at None is = is
   at (Some o) is =
       let root : o page.tree.row.serial
-      ≡ true = root-opened page valid o w.pushed w.since
+      ≡ true = root-opened page valid page.tree o w.pushed w.since
       (subst (λ (z : Session). IsSession (alone page.tree) z) (sym (session-is w (o, is))) session) in
       let still : is_open p.state.opened page.tree.row.serial
       ≡ true = g.0.grows page.tree.row.serial (ap (λ z. is_open z page.tree.row.serial) is ∙ root) in
       let no : false ≡ true = sym (ap (λ z. is_open z page.tree.row.serial) h) ∙ still in
       absurd cc
 
-pub unknown-before : (page : PageValue) (ask : DomAsk) (w : Session) → IsValid page → IsSession (alone page.tree) w
-    → (state_after w (session_outcome page ask w)).opened ≡ None → w.opened ≡ None
-unknown-before page ask w valid session =
-    either_ask (λ c. (state_after w (session_outcome page c w)).opened ≡ None → w.opened ≡ None)
+pub unknown-before : (page : PageValue) (whole : Branch PageRow) (ask : DomAsk) (w : Session) → IsValid page → IsSession (alone page.tree) w
+    → (state_after w (session_outcome page whole ask w)).opened ≡ None → w.opened ≡ None
+unknown-before page whole ask w valid session =
+    either_ask (λ c. (state_after w (session_outcome page whole c w)).opened ≡ None → w.opened ≡ None)
     (λ depth pierce h. (let d : Option ℕ = levels_of (unwrap_or depth (pos 1)) in
     let n : Nodes PageRow = alone page.tree in
     let z : Session = document_opened (capped most_told d) n w in
     shown-not _ (sym (opened_after n page.tree (dealt more_told most_told d n) (above (capped most_told d) n) z.pushed z.since) ∙ h)))
-    (λ c other h. goes-unknown page valid c w (session_outcome page c w) session (asks-go page valid c other w session) h)
+    (λ c other h. goes-unknown page valid c w (session_outcome page whole c w) session (asks-go page valid whole c other w session) h)
     ask
   where
     shown-not : {A : Type 0} (o : ℕ → Bool) → ◌≡◌ {A = Option (ℕ → Bool)} (Some o) None → A
     shown-not o h = absurd cc
 
+-- what an ask comes to
+abbrev outcome_now : DomAsk → State → Outcome Session
+outcome_now ask state = session_outcome (page_shown state) state.side.page.tree ask state.client.session
+
 -- the state after an ask, by what it came to
 pub served-is : (ask : DomAsk) (o : Outcome Session) (state : State) → HoldsNow state
     → ((state.client.dom_on || turns_on ask) ≡ false → (state_after state.client.session o).opened ≡ None)
     → ((state_after state.client.session o).opened ≡ None → state.client.session.opened ≡ None)
-    → IsSession (page_nodes state) (state_after state.client.session o) → HoldsNow (with_client (client_served ask o state.client) state)
+    → IsSession (nodes_shown state) (state_after state.client.session o) → HoldsNow (with_client (client_served ask o state.client) state)
 served-is ask (shows_root b p) state is off unknown session = record {
   page = is.page;
   texts = is.texts;
@@ -162,6 +172,7 @@ served-is ask (shows_root b p) state is off unknown session = record {
   session = session;
   off = off;
   css_off = λ h. is.css_off (was-off state.client.dom_on (turns_on ask) h);
+  all_shown = λ h. is.all_shown (was-off state.client.dom_on (turns_on ask) h);
   watched = is.watched;
   none_watched = λ h. is.none_watched (unknown h);
 }
@@ -172,6 +183,7 @@ served-is ask (served p body) state is off unknown session = record {
   session = session;
   off = off;
   css_off = λ h. is.css_off (was-off state.client.dom_on (turns_on ask) h);
+  all_shown = λ h. is.all_shown (was-off state.client.dom_on (turns_on ask) h);
   watched = is.watched;
   none_watched = λ h. is.none_watched (unknown h);
 }
@@ -182,12 +194,13 @@ served-is ask (refused why) state is off unknown session = record {
   session = is.session;
   off = is.off;
   css_off = is.css_off;
+  all_shown = is.all_shown;
   watched = is.watched;
   none_watched = λ h. is.none_watched (unknown h);
 }
 
 served-view : (ask : DomAsk) (o : Outcome Session) (state : State)
-    → seen_by (state_after state.client.session o) state.side.page (sheets_shown state)
+    → seen_by (state_after state.client.session o) (page_shown state) (sheets_shown state)
     ≡ view_of (with_client (client_served ask o state.client) state)
 served-view ask (shows_root b p) state = refl
 served-view ask (served p body) state = refl
@@ -208,19 +221,21 @@ served-given ask (refused why) state = refl
 pub agent-well : (id : ℕ) (ask : DomAsk) (state : State) → HoldsNow state → HasRoom state → is_counted id ≡ true → has_depth ask ≡ true
     → (ask_needs_on ask && not state.client.dom_on) ≡ false → Well state (agent_step id ask state) 100000 0 0
 agent-well id ask state is room small fits on =
-    let page = state.side.page in
+    let page = page_shown state in
+    let whole = state.side.page.tree in
+    let valid = valid-shown state is in
     let w = state.client.session in
-    let o : Outcome Session = session_outcome page ask w in
+    let o : Outcome Session = session_outcome page whole ask w in
     let low : HasNumbers state = room-numbers state room in
     let can : CanTell page w = can-tell state is low in
     let few : length (state_after w o).pushed
-    ≤ length w.pushed + node_count (page_nodes state) = draws_few page ask w is.page fits is.session in
-    let count : node_count (page_nodes state) ≤ 100000 = count-alone page is.page in
+    ≤ length w.pushed + node_count (nodes_shown state) = draws_few page whole ask w valid fits is.session in
+    let count : node_count (nodes_shown state) ≤ 100000 = count-alone page valid in
     record {
-      now = served-is ask o state is (off-after ask state is on) (unknown-before page ask w is.page is.session)
-          (stays_session page ask w is.page fits is.session);
+      now = served-is ask o state is (off-after ask state is on) (unknown-before page whole ask w valid is.session)
+          (stays_session page whole ask w valid fits is.session);
       course = subst (λ v. Course (moves_of id o) (view_of state) v) (served-view ask o state)
-          (steps_are_moves page ask w id (sheets_shown state) is.page fits is.session can small (can-sheets state is low));
+          (steps_are_moves page whole ask w id (sheets_shown state) valid fits is.session can small (can-sheets state is low));
       few_ids = omega (arith, few, count, served-pushed ask o state);
       few_serials = omega arith;
       few_sheets = omega arith;
@@ -235,35 +250,83 @@ agent-recalls ask (refused why) state history = recalls-same state _ history ref
 
 -- ---- the seat's own commands
 
--- a command that changes nothing but whether DOM is on
-pub enabled-is : (state : State) → HoldsNow state → HoldsNow (with_client (record state.client { dom_on = true }) state)
-enabled-is state is = record {
-  page = is.page;
-  texts = is.texts;
-  sheets = is.sheets;
-  session = is.session;
-  off = λ h. absurd cc;
-  css_off = λ h. absurd cc;
-  watched = is.watched;
-  none_watched = is.none_watched;
-}
+-- where nothing is known, a session is one of any page
+unknown-session : (n m : Nodes PageRow) (w : Session) → w.opened ≡ None → IsSession n w → IsSession m w
+unknown-session n m w empty session =
+    let bare : Session = record { opened = None; pushed = w.pushed; since = w.since } in
+    let same : w ≡ bare = λ i. record { opened = empty i; pushed = w.pushed; since = w.since } in
+    let before : IsSession n bare = subst (IsSession n) same session in
+    subst (IsSession m) (sym same) (record {
+      opened_set = tt;
+      since_then = before.since_then;
+      known_stand = before.known_stand;
+    })
 
-enables-well : (id : ℕ) (state : State) → HoldsNow state → HasRoom state → is_counted id ≡ true
-    → Well state (served_step id DomEnable state) 0 0 0
-enables-well id state is room small =
+-- the client whose DOM is on from now on, by whether it was on
+abbrev on_from : Bool → Option WhitespaceWord → State → State
+on_from was word state =
+    with_client (record state.client { dom_on = true; mode = cond was state.client.mode (mode_asked word) }) state
+
+-- a command that changes nothing but whether DOM is on, and which nodes are shown
+pub enabled-is : (word : Option WhitespaceWord) (state : State) → HoldsNow state
+    → HoldsNow (with_client (client_on word state.client) state)
+enabled-is word state is = at state.client.dom_on refl where
+  at : (b : Bool) → state.client.dom_on ≡ b → HoldsNow (on_from b word state)
+  at true on = record {
+    page = is.page;
+    texts = is.texts;
+    sheets = is.sheets;
+    session = is.session;
+    off = λ h. absurd cc;
+    css_off = λ h. absurd cc;
+    all_shown = λ h. absurd cc;
+    watched = is.watched;
+    none_watched = is.none_watched;
+  }
+  at false off = record {
+    page = is.page;
+    texts = is.texts;
+    sheets = is.sheets;
+    session = unknown-session (nodes_shown state) (nodes_shown (on_from false word state)) state.client.session (is.off off) is.session;
+    off = λ h. absurd cc;
+    css_off = λ h. absurd cc;
+    all_shown = λ h. absurd cc;
+    watched = λ kind s h. none-set kind s (ap (λ w. is_watched kind w s) (sym (is.none_watched (is.off off))) ∙ h);
+    none_watched = is.none_watched;
+  }
+
+-- its client sees what it saw
+enabled-view : (word : Option WhitespaceWord) (state : State) → HoldsNow state
+    → view_of (with_client (client_on word state.client) state) ≡ view_of state
+enabled-view word state is = at state.client.dom_on refl where
+  nothing : (w : Session) (page : PageValue) → w.opened ≡ None
+      → seen_by w page (sheets_shown state) ≡ record { tree = none; sheets = sheets_shown state }
+  nothing w page h = rw h refl
+  at : (b : Bool) → state.client.dom_on ≡ b → view_of (on_from b word state) ≡ view_of state
+  at true on = refl
+  at false off =
+      nothing state.client.session (page_shown (on_from false word state)) (is.off off)
+      ∙ sym (nothing state.client.session (page_shown state) (is.off off))
+
+enables-well : (id : ℕ) (word : Option WhitespaceWord) (state : State) → HoldsNow state → HasRoom state → is_counted id ≡ true
+    → Well state (served_step id (DomEnable word) state) 0 0 0
+enables-well id word state is room small =
+    let after : State = with_client (client_on word state.client) state in
+    let same : view_of after ≡ view_of state = enabled-view word state is in
     let told : CanBeTold (view_of state) = told-view state is (room-numbers state room) in
+    let told_after : CanBeTold (view_of after) = subst CanBeTold (sym same) told in
     record {
-      now = enabled-is state is;
-      course = goes (replied id Nothing) [] (view_of state) (view_of state) (view_of state) told
-          (refl, record { id_fits = small; plain = refl; fits = refl; texts = tt; levels = omega arith }) (ends (view_of state) told);
+      now = enabled-is word state is;
+      course = goes (replied id Nothing) [] (view_of state) (view_of after) (view_of after) told
+          (same, record { id_fits = small; plain = refl; fits = refl; texts = tt; levels = omega arith }) (ends (view_of after) told_after);
       few_ids = omega arith;
       few_serials = omega arith;
       few_sheets = omega arith;
       given = refl;
     }
 
-pub disabled-is : (state : State) → HoldsNow state → HoldsNow (with_client (client_reset false state.client) state)
-disabled-is state is = reset-is state state.side false is.page is.texts is.sheets
+pub disabled-is : (state : State) → HoldsNow state → HoldsNow (with_client (client_off state.client) state)
+disabled-is state is = reset-is state state.side false All is.page is.texts is.sheets (λ h. refl)
 
 and-false : (b : Bool) → (b && false) ≡ false
 and-false true = refl
@@ -272,13 +335,14 @@ and-false false = refl
 disables-well : (id : ℕ) (state : State) → HoldsNow state → HasRoom state → is_counted id ≡ true
     → Well state (served_step id DomDisable state) 0 0 0
 disables-well id state is room small =
-    let after : State = with_client (client_reset false state.client) state in
+    let after : State = with_client (client_off state.client) state in
     let done : HoldsNow after = disabled-is state is in
     let told : CanBeTold (view_of state) = told-view state is (room-numbers state room) in
     let told_after : CanBeTold (view_of after) = told-view after done
     (record { ids = omega (arith, room.ids); serials = omega (arith, room.serials); sheets = omega (arith, room.sheets) }) in
     let unseen : view_of after ≡ record { tree = none; sheets = [] } =
-    ap (λ (b : Bool). seen_by (reset state.client.session) state.side.page (cond b state.side.sheets [])) (and-false state.client.css_on) in
+    ap (λ (b : Bool). seen_by (reset state.client.session) (shown_page All state.side.page) (cond b state.side.sheets []))
+    (and-false state.client.css_on) in
     record {
       now = done;
       course = goes (all_off id) [] (view_of state) (view_of after) (view_of after) told (unseen, small) (ends (view_of after) told_after);
@@ -419,11 +483,12 @@ serves-search id (search.GetSearchResults named from to) state is room small on 
     at (Err why) = serves-refusal id why (AskSearch (search.GetSearchResults named from to)) 0 state is room small
     at (Ok serials) =
         let a : DomAsk = ask.PushBySerials serials in
-        let o : Outcome Session = session_outcome state.side.page a state.client.session in
+        let o : Outcome Session = session_outcome (page_shown state) state.side.page.tree a state.client.session in
         serves-plain {ids = 100000} (AskSearch (search.GetSearchResults named from to)) (omega arith)
         (more (omega arith) (omega arith) (omega arith) (agent-well id a state is.now room small refl on))
         (agent-recalls a o state is.history) (outcome-answers id o)
-        (results-may id serials o (replies_answer state.side.page a state.client.session is.now.page refl is.now.session))
+        (results-may id serials o
+        (replies_answer (page_shown state) state.side.page.tree a state.client.session (valid-shown state is.now) refl is.now.session))
         (outcome-text (text_asked (AskSearch (search.GetSearchResults named from to))) id o)
 serves-search id (search.DiscardSearchResults named) state is room small on =
     let c : Command = AskSearch (search.DiscardSearchResults named) in
@@ -431,10 +496,10 @@ serves-search id (search.DiscardSearchResults named) state is room small on =
 
 serves : (id : ℕ) (c : Command) (state : State) → fits_command c ≡ true → HasServedTexts c → IsState state → HasRoom state
     → is_counted id ≡ true → Serves state (command_step id c state) id c (most_edits c)
-serves id DomEnable state fits texts is room small =
-    command-serves id DomEnable 0 state is room small
-    (λ dom css. serves-plain {ids = 0} DomEnable (omega arith)
-    (more (omega arith) (omega arith) (omega arith) (enables-well id state is.now room small))
+serves id (DomEnable word) state fits texts is room small =
+    command-serves id (DomEnable word) 0 state is room small
+    (λ dom css. serves-plain {ids = 0} (DomEnable word) (omega arith)
+    (more (omega arith) (omega arith) (omega arith) (enables-well id word state is.now room small))
     (recalls-same state _ is.history refl refl (omega arith)) refl ((refl, refl), tt) (tt, tt))
 serves id DomDisable state fits texts is room small =
     command-serves id DomDisable 0 state is room small
@@ -445,11 +510,12 @@ serves id (AskDom ask) state fits texts is room small =
     let c : Command = AskDom ask in
     command-serves id c 0 state is room small (λ dom css. serves-plain {ids = 100000} c (omega arith)
     (more (omega arith) (omega arith) (omega arith) (agent-well id ask state is.now room small (depth-fits ask fits) dom))
-    (agent-recalls ask (session_outcome state.side.page ask state.client.session) state is.history)
-    (outcome-answers id (session_outcome state.side.page ask state.client.session))
-    (outcome-may id ask (session_outcome state.side.page ask state.client.session)
-    (replies_answer state.side.page ask state.client.session is.now.page (depth-fits ask fits) is.now.session))
-    (outcome-text (text_asked c) id (session_outcome state.side.page ask state.client.session)))
+    (agent-recalls ask (outcome_now ask state) state is.history)
+    (outcome-answers id (outcome_now ask state))
+    (outcome-may id ask (outcome_now ask state)
+    (replies_answer (page_shown state) state.side.page.tree ask state.client.session (valid-shown state is.now) (depth-fits ask fits)
+    is.now.session))
+    (outcome-text (text_asked c) id (outcome_now ask state)))
 serves id (EditDom edit) state fits texts is room small =
     let c : Command = EditDom edit in
     command-serves id c 2 state is room small

@@ -32,8 +32,9 @@ use Rattle.back_end.specs.declared.side.PageSide.{PageSide}
 use Rattle.back_end.specs.declared.faults.ActFault.{ActFault}
 use Rattle.back_end.specs.Sheets.{as_book, SheetChange}
 use Rattle.back_end.specs.Steps.{on_medium, idle, answering, with_searches, results_asked, results_step, discard_step}
-use Rattle.back_end.specs.States.{Side, State, book_in, Keeps}
+use Rattle.back_end.specs.States.{page_shown, Side, State, book_in, Keeps}
 use Rattle.back_end.specs.Plans.{Deed, edits, restyles, shows_on, act_fault, act_plan}
+use Rattle.cdp_messages.specs.declared.command.WhitespaceWord.{WhitespaceWord}
 use Rattle.cdp_messages.specs.declared.command.Command.{Command}
 use Rattle.cdp_messages.specs.declared.command.Command.TheVariants.{DomEnable, DomDisable, CssEnable, CssDisable, AskDom, AskCss}
 use Rattle.cdp_messages.specs.declared.command.Command.TheVariants.{SetBreakpoint, RemoveBreakpoint, AskSearch}
@@ -82,7 +83,8 @@ stays-both d d1 s s1 h state id command stays both stands = record {
 }
 
 agent-stays : (id : ℕ) (ask : DomAsk) (state : State) → Stays state (served_step id (AskDom ask) state).state
-agent-stays id ask state = record { marks = at (session_outcome state.side.page ask state.client.session); side = refl } where
+agent-stays id ask state =
+    record { marks = at (session_outcome (page_shown state) state.side.page.tree ask state.client.session); side = refl } where
   at : (o : Outcome Session) → (client_served ask o state.client).marks ≡ state.client.marks
   at (shows_root b p) = refl
   at (served p body) = refl
@@ -103,8 +105,8 @@ unwatches-stay id node word state = watch-stays id (without_watch word) (serial_
 abbrev pub LeavesAlone : Command → Type 0
 LeavesAlone c = (id : ℕ) (state : State) → Stays state (served_step id c state).state
 
-pub enables-alone : LeavesAlone DomEnable
-enables-alone id state = record { marks = refl; side = refl }
+pub enables-alone : (word : Option WhitespaceWord) → LeavesAlone (DomEnable word)
+enables-alone word id state = record { marks = refl; side = refl }
 
 pub css-enables-alone : LeavesAlone CssEnable
 css-enables-alone id state = record { marks = refl; side = refl }

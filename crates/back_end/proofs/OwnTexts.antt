@@ -18,7 +18,8 @@ use Rattle.cdp_json.proofs.ReadTexts.{IfSome, read_utf8}
 use Rattle.page_forms.proofs.NodeTexts.{object_utf8}
 use Rattle.cdp_messages.specs.declared.command.Asked.{Asked}
 use Rattle.cdp_messages.specs.declared.command.Command.{Command}
-use Rattle.cdp_messages.specs.declared.command.Command.TheVariants.{AskDom, EditDom, AskCss, EditCss, SetBreakpoint, RemoveBreakpoint}
+use Rattle.cdp_messages.specs.declared.command.Command.TheVariants.{DomEnable, AskDom, EditDom, AskCss, EditCss, SetBreakpoint}
+use Rattle.cdp_messages.specs.declared.command.Command.TheVariants.{RemoveBreakpoint}
 use Rattle.cdp_messages.specs.declared.command.Command.TheVariants.{AskSearch}
 use Rattle.cdp_messages.specs.declared.dom_ask.DomAsk.TheVariants as ask
 use Rattle.cdp_messages.specs.declared.dom_edit.DomEdit.TheVariants as tree
@@ -119,7 +120,7 @@ rule-gives =
     (needed-any param.Location range_parameter no_lookups Any (gives-all Why)))
 
 by-method : (m : Method) (ms : Members) → MembersHaveUtf8 ms → CommandTexts (command_by m ms)
-by-method method.DomEnable ms u = tt
+by-method method.DomEnable ms u = brings-none _ (λ x. DomEnable x.0) (λ x. tt)
 by-method method.DomDisable ms u = tt
 by-method method.GetDocument ms u = brings-none _ (λ x. AskDom (ask.GetDocument x.0 x.1.0)) (λ x. tt)
 by-method method.RequestChildNodes ms u = brings-none _ (λ x. AskDom (ask.RequestChildNodes x.0 x.1.0 x.1.1.0))

@@ -1,10 +1,12 @@
 -- A pause that a seat tells is the step of the state.
-use Rattle.std.proofs.Common.{◌≡◌, ℕ, ◌+◌, ◌<◌, Bool, true, List, [], ◌∷◌, ◌++◌, Option, Some, None, refl, sym, ◌∙◌, ap, subst, append-nil}
+use Rattle.std.proofs.Common.{◌≡◌, ℕ, ◌+◌, ◌<◌, Bool, true, false, cond, List, [], ◌∷◌, ◌++◌, Option, Some, None, refl, sym, ◌∙◌, ap, subst}
+use Rattle.std.proofs.Common.{append-nil}
 use Rattle.std.proofs.Common.{append_assoc, arith}
 use Rattle.std.specs.Prelude.{is_some}
 use Rattle.std.proofs.lemmas.List.Concat.{flat_map-append}
 use Rattle.node_tree.specs.Nodes.{Nodes, Branch}
 use Rattle.node_tree.specs.Keys.{has}
+use Rattle.node_tree.proofs.KeyLemmas.{has-find}
 use Rattle.page_tree.specs.Pages.{PageRow, row_serial, PageValue}
 use Rattle.page_tree.specs.EditFaults.{CanApply}
 use Rattle.page_tree.specs.declared.edits.TreeEdit.{TreeEdit}
@@ -30,12 +32,13 @@ use Rattle.node_tree.specs.declared.watches.WatchKind.TheVariants.{Subtree, Attr
 use Rattle.dom_breakpoints.specs.declared.pauses.Pause.{Pause}
 use Rattle.dom_breakpoints.specs.Pauses.{pause_of}
 use Rattle.dom_breakpoints.specs.Watched.{Watched, is_watched}
-use Rattle.back_end.specs.States.{State, page_nodes, HoldsNow}
-use Rattle.back_end.specs.Steps.{push_step, id_now, pause_step, edit_step, pause_before, script_step}
+use Rattle.back_end.specs.States.{State, page_nodes, page_shown, nodes_shown, HoldsNow}
+use Rattle.back_end.specs.Steps.{push_step, is_shown_now, id_now, id_told, pause_step, edit_step, pause_before, script_step}
 use Rattle.back_end.specs.declared.desk.Desk.{Desk}
 use Rattle.back_end.specs.declared.side.PageSide.{PageSide}
-use Rattle.back_end.specs.Seats.{DeskStandsFor, CanPush, attribute_pause, removal_pause, subtree_watch_pause, IsPause, by_attribute}
+use Rattle.back_end.specs.Seats.{DeskStandsFor, HasBegun, attribute_pause, removal_pause, subtree_watch_pause, IsPause, by_attribute}
 use Rattle.back_end.specs.Seats.{by_removal, by_subtree}
+use Rattle.back_end.proofs.WellSteps.{valid-shown}
 use Rattle.back_end.proofs.PauseSteps.{edit-pause, watched-begun, push-knows}
 use Rattle.back_end.proofs.PushSteps.{IsBegun, is-begun, session-is, opened_by, push-opened, push-is}
 
@@ -58,37 +61,31 @@ module _ (n : Nodes PageRow) (distinct : AreDistinct n) (document : Branch PageR
 
 -- the id of a known node stays when another one becomes known
 pub push-keeps-id : (serial : ℕ) (state : State) (begun : IsBegun state.client.session) (s : ℕ) → HoldsNow state
-    → 0 < times s (known begun.0 (page_nodes state))
+    → 0 < times s (known begun.0 (nodes_shown state))
     → id_now state s ≡ id_now (push_step serial state).state s
 push-keeps-id serial state begun s is h =
-    let page = state.side.page in
-    let n = page_nodes state in
+    let page = page_shown state in
+    let valid = valid-shown state is in
+    let n = nodes_shown state in
     let w : Session = state.client.session in
     let same : session_of begun.0 w.pushed w.since ≡ w = session-is w begun in
-    let distinct = distinct-alone page is.page in
+    let distinct = distinct-alone page valid in
     subst (λ (z : Session). session_ids z s ≡ session_ids (pushed (session_keeper n) page.tree serial z).state s) same
     (ids-openings n distinct page.tree s (pushing begun.0 serial n) begun.0 w.pushed w.since
     (subst (λ (z : Session). IsSession n z) (sym same) is.session)
-    (pushing-are n distinct begun.0 serial n begun.0 (containers-page page is.page) distinct (roots_in_view begun.0 n) (λ k h. refl)) h)
+    (pushing-are n distinct begun.0 serial n begun.0 (containers-page page valid) distinct (roots_in_view begun.0 n) (λ k h. refl)) h)
 
 -- ---- what a seat can push
 
--- a watched node of the state
+-- where a node is watched
 pub watched-can : (state : State) (kind : WatchKind) (s : ℕ) → HoldsNow state → is_watched kind state.client.watched s ≡ true
-    → CanPush s state
-watched-can state kind s is h = record {
-  begun = ap (λ (o : Option (ℕ → Bool)). is_some o) (watched-begun state kind s is h).1;
-  there = is.watched kind s h;
-}
+    → HasBegun state
+watched-can state kind s is h = ap (λ (o : Option (ℕ → Bool)). is_some o) (watched-begun state kind s is h).1
 
--- after a push any node of the page
-pub after-can : (serial s : ℕ) (state : State) → CanPush serial state → has row_serial s (page_nodes state) ≡ true
-    → CanPush s (push_step serial state).state
-after-can serial s state can there =
-    record {
-      begun = ap (λ (o : Option (ℕ → Bool)). is_some o) (push-opened serial state (is-begun state.client.session can.begun));
-      there = there;
-    }
+-- after a push
+pub after-can : (serial : ℕ) (state : State) → HasBegun state → HasBegun (push_step serial state).state
+after-can serial state can =
+    ap (λ (o : Option (ℕ → Bool)). is_some o) (push-opened serial state (is-begun state.client.session can))
 
 -- ---- what is sent
 
@@ -99,45 +96,58 @@ frames-joined old first new ms ks one two =
     ∙ ap (λ bs. old ++ bs) (sym (flat_map-append (λ (m : Move). framed (move_text m)) ms ks))
 
 -- a pause by a watch of the node itself
-own-sent : (state : State) (node id : ℕ) (data_of : ℕ → PauseData) (old first new : List ℕ) → id ≡ id_now (push_step node state).state node
+own-sent : (state : State) (node id : ℕ) (data_of : ℕ → PauseData) (old first new : List ℕ) → id ≡ id_told (push_step node state).state node
     → first ≡ old ++ frames_of_moves (push_step node state).moves → new ≡ first ++ frames_of_moves (met (data_of id) ∷ [])
-    → new ≡ old ++ frames_of_moves (((push_step node state).moves ++ []) ++ met (data_of (id_now (push_step node state).state node)) ∷ [])
+    → new ≡ old ++ frames_of_moves (((push_step node state).moves ++ []) ++ met (data_of (id_told (push_step node state).state node)) ∷ [])
 own-sent state node id data_of old first new id_is one two =
-    frames-joined old first new ((push_step node state).moves ++ []) (met (data_of (id_now (push_step node state).state node)) ∷ [])
+    frames-joined old first new ((push_step node state).moves ++ []) (met (data_of (id_told (push_step node state).state node)) ∷ [])
     (one ∙ ap (λ ms. old ++ frames_of_moves ms) (sym (append-nil (push_step node state).moves)))
     (two ∙ ap (λ (i : ℕ). first ++ frames_of_moves (met (data_of i) ∷ [])) id_is)
 
-pub attribute-sent : (state : State) (node id : ℕ) (old first new : List ℕ) → id ≡ id_now (push_step node state).state node
+pub attribute-sent : (state : State) (node id : ℕ) (old first new : List ℕ) → id ≡ id_told (push_step node state).state node
     → first ≡ old ++ frames_of_moves (push_step node state).moves → new ≡ first ++ frames_of_moves (met (told_pause.Attribute id) ∷ [])
     → new ≡ old ++ frames_of_moves (pause_step (Some (attribute_pause node)) state).moves
 attribute-sent state node id old first new id_is one two = own-sent state node id told_pause.Attribute old first new id_is one two
 
-pub removal-sent : (state : State) (node id : ℕ) (old first new : List ℕ) → id ≡ id_now (push_step node state).state node
+pub removal-sent : (state : State) (node id : ℕ) (old first new : List ℕ) → id ≡ id_told (push_step node state).state node
     → first ≡ old ++ frames_of_moves (push_step node state).moves → new ≡ first ++ frames_of_moves (met (told_pause.Removed id) ∷ [])
     → new ≡ old ++ frames_of_moves (pause_step (Some (removal_pause node)) state).moves
 removal-sent state node id old first new id_is one two = own-sent state node id told_pause.Removed old first new id_is one two
 
+-- the id that is told of a node that was pushed stays when another one becomes known
+told-stays : (state : State) (node target : ℕ) → HoldsNow state → HasBegun state
+    → let after : State = (push_step node state).state in id_told after node ≡ id_told (push_step target after).state node
+told-stays state node target is can = at (is_shown_now state node) refl where
+  after : State
+  after = (push_step node state).state
+  begun : IsBegun state.client.session
+  begun = is-begun state.client.session can
+  begun_after : IsBegun after.client.session
+  begun_after = (opened_by node state begun.0, push-opened node state begun)
+  at : (b : Bool) → is_shown_now state node ≡ b
+      → cond b (id_now after node) 0 ≡ cond b (id_now (push_step target after).state node) 0
+  at true there =
+      push-keeps-id target after begun_after node (push-is node state is begun)
+      (push-knows node state begun begun_after.0 is (has-find row_serial node (nodes_shown state) ∙ there) (λ k h. h))
+  at false hidden = refl
+
 -- one by a subtree watch
 pub subtree-sent : (state : State) (node target id target_id : ℕ) (insertion : Bool) (old first second new : List ℕ) → HoldsNow state
-    → CanPush node state
-    → id ≡ id_now (push_step node state).state node → target_id ≡ id_now (push_step target (push_step node state).state).state target
+    → HasBegun state
+    → id ≡ id_told (push_step node state).state node → target_id ≡ id_told (push_step target (push_step node state).state).state target
     → first ≡ old ++ frames_of_moves (push_step node state).moves
     → second ≡ first ++ frames_of_moves (push_step target (push_step node state).state).moves
     → new ≡ second ++ frames_of_moves (met (told_pause.Subtree id target_id insertion) ∷ [])
     → new ≡ old ++ frames_of_moves (pause_step (Some (subtree_watch_pause node target insertion)) state).moves
 subtree-sent state node target id target_id insertion old first second new is can id_is target_is one two three =
-    let begun : IsBegun state.client.session = is-begun state.client.session can.begun in
     let after : State = (push_step node state).state in
-    let begun_after : IsBegun after.client.session = (opened_by node state begun.0, push-opened node state begun) in
     let last : State = (push_step target after).state in
-    let stays : id_now after node ≡ id_now last node =
-    push-keeps-id target after begun_after node (push-is node state is begun)
-    (push-knows node state begun begun_after.0 is can.there (λ k h. h)) in
+    let stays : id_told after node ≡ id_told last node = told-stays state node target is can in
     frames-joined old second new ((push_step node state).moves ++ (push_step target after).moves)
-    (met (told_pause.Subtree (id_now last node) (id_now last target) insertion) ∷ [])
+    (met (told_pause.Subtree (id_told last node) (id_told last target) insertion) ∷ [])
     (frames-joined old first second (push_step node state).moves (push_step target after).moves one two)
     (three ∙ ap (λ (i : ℕ). second ++ frames_of_moves (met (told_pause.Subtree i target_id insertion) ∷ [])) (id_is ∙ stays)
-    ∙ ap (λ (i : ℕ). second ++ frames_of_moves (met (told_pause.Subtree (id_now last node) i insertion) ∷ [])) target_is)
+    ∙ ap (λ (i : ℕ). second ++ frames_of_moves (met (told_pause.Subtree (id_told last node) i insertion) ∷ [])) target_is)
 
 -- ---- which pause it is
 

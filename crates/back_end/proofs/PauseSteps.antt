@@ -1,5 +1,6 @@
 -- A pause: its nodes become known, and then it is told; the step is well.
-use Rattle.std.proofs.Common.{◌≡◌, ℕ, ◌+◌, ◌^◌, ◌<◌, ◌≤◌, ◌==◌, Bool, true, false, cond, List, [], ◌∷◌, find, length, Option, Some, None}
+use Rattle.std.proofs.Common.{◌≡◌, ℕ, zero, suc, ◌+◌, ◌^◌, ◌<◌, ◌≤◌, ◌==◌, Bool, true, false, cond, List, [], ◌∷◌, find, length, Option}
+use Rattle.std.proofs.Common.{Some, None}
 use Rattle.std.proofs.Common.{refl, sym, ◌∙◌, ap, subst, arith}
 use Rattle.std.specs.Prelude.{option_map}
 use Rattle.std.proofs.lemmas.Bool.{eq-eqb, eqb-true, not-false}
@@ -20,7 +21,7 @@ use Rattle.node_binding.specs.Sessions.{Session, session_ids, cut_by}
 use Rattle.node_binding.proofs.PairLemmas.{find-there}
 use Rattle.node_binding.proofs.SessionLemmas.{times-known}
 use Rattle.node_binding.proofs.StartLemmas.{distinct-alone}
-use Rattle.client_views.specs.Moves.{met, AreShown, paused_nodes}
+use Rattle.client_views.specs.Moves.{met, AreShown, target_nodes, paused_nodes}
 use Rattle.dom_agent.specs.Requests.{pushing}
 use Rattle.dom_agent.proofs.KnownLemmas.{pushed-known}
 use Rattle.dom_agent.proofs.OpeningsLemmas.{opened_all-grows}
@@ -30,12 +31,12 @@ use Rattle.node_tree.specs.declared.watches.WatchKind.TheVariants.{Subtree, Attr
 use Rattle.dom_breakpoints.specs.declared.pauses.Pause.{Pause}
 use Rattle.dom_breakpoints.specs.Pauses.{own_pause, subtree_pause, pause_of}
 use Rattle.dom_breakpoints.specs.Watched.{Watched, is_watched}
-use Rattle.back_end.specs.States.{State, page_nodes, view_of, HoldsNow}
-use Rattle.back_end.specs.Steps.{Step, push_step, push_steps, pause_data, id_now, met_step, followed_by, pause_step}
+use Rattle.back_end.specs.States.{State, page_shown, nodes_shown, view_of, HoldsNow}
+use Rattle.back_end.specs.Steps.{Step, push_step, push_steps, pause_data, is_shown_now, id_now, id_told, met_step, followed_by, pause_step}
 use Rattle.back_end.specs.Seats.{IsPause, by_attribute, by_removal, by_subtree}
 use Rattle.back_end.proofs.WatchedLemmas.{none-set}
 use Rattle.back_end.proofs.PushSteps.{IsBegun, opened_by, push-opened, push-well}
-use Rattle.back_end.proofs.WellSteps.{Well, HasNumbers, stays, stays-with, then-well, more}
+use Rattle.back_end.proofs.WellSteps.{Well, HasNumbers, valid-shown, stays, stays-with, then-well, more}
 
 -- ---- what an edit pauses by
 
@@ -119,19 +120,27 @@ module _ (o : ℕ → Bool) (i : ℕ → ℕ) (s : ℕ) where
 
 -- a node that was pushed is known where at least as much is opened
 pub push-knows : (serial : ℕ) (state : State) (begun : IsBegun state.client.session) (q : ℕ → Bool) → HoldsNow state
-    → has row_serial serial (page_nodes state) ≡ true
-    → ((k : ℕ) → opened_by serial state begun.0 k ≡ true → q k ≡ true) → 0 < times serial (known q (page_nodes state))
+    → has row_serial serial (nodes_shown state) ≡ true
+    → ((k : ℕ) → opened_by serial state begun.0 k ≡ true → q k ≡ true) → 0 < times serial (known q (nodes_shown state))
 push-knows serial state begun q is there all =
-    pushed-known begun.0 serial q (page_nodes state) begun.0 (containers-page state.side.page is.page)
-    (distinct-alone state.side.page is.page) (λ k h. refl) all there
+    pushed-known begun.0 serial q (nodes_shown state) begun.0 (containers-page (page_shown state) (valid-shown state is))
+    (distinct-alone (page_shown state) (valid-shown state is)) (λ k h. refl) all there
+
+-- a node that is among those shown is found there
+pub there-shown : (state : State) (s : ℕ) → has row_serial s (nodes_shown state) ≡ true → is_shown_now state s ≡ true
+there-shown state s there = sym (has-find row_serial s (nodes_shown state)) ∙ there
+
+-- its own id is told
+pub told-id : (state : State) (s : ℕ) → is_shown_now state s ≡ true → id_told state s ≡ id_now state s
+told-id state s there = ap (λ b. cond b (id_now state s) 0) there
 
 -- and its client sees it
-shown-id : (state : State) (begun : IsBegun state.client.session) (s : ℕ) → 0 < times s (known begun.0 (page_nodes state))
+shown-id : (state : State) (begun : IsBegun state.client.session) (s : ℕ) → 0 < times s (known begun.0 (nodes_shown state))
     → has seen_id (id_now state s) (view_of state).tree ≡ true
 shown-id state begun s h =
     let w : Session = state.client.session in
     ap (λ (o : Option (ℕ → Bool)). has seen_id (session_ids w s)
-    (cut_by o (session_ids w) (page_nodes state))) begun.1 ∙ seen-known begun.0 (session_ids w) s (page_nodes state) h
+    (cut_by o (session_ids w) (nodes_shown state))) begun.1 ∙ seen-known begun.0 (session_ids w) s (nodes_shown state) h
 
 -- ---- the step
 
@@ -151,8 +160,8 @@ low-after ids low well few = record {
 -- by a watch of the node itself
 own-pauses : (state : State) (p : Pause) → p.target ≡ None → HoldsNow state → HasNumbers state
     → length state.client.session.pushed + 200000 < 2 ^ 52 → IsBegun state.client.session
-    → has row_serial p.node (page_nodes state) ≡ true
-    → paused_nodes (pause_data p.kind p (id_now (push_step p.node state).state)) ≡ id_now (push_step p.node state).state p.node ∷ []
+    → has row_serial p.node (nodes_shown state) ≡ true
+    → paused_nodes (pause_data p.kind p (id_told (push_step p.node state).state)) ≡ id_told (push_step p.node state).state p.node ∷ []
     → Pauses state (followed_by (followed_by (push_step p.node state) (push_steps None)) (met_step p))
 own-pauses state p alone_is is low few begun there names =
     let after = (push_step p.node state).state in
@@ -161,21 +170,41 @@ own-pauses state p alone_is is low few begun there names =
     let begun_after : IsBegun after.client.session = (opened_by p.node state begun.0, push-opened p.node state begun) in
     let seen : has seen_id (id_now after p.node) (view_of after).tree
     ≡ true = shown-id after begun_after p.node (push-knows p.node state begun begun_after.0 is there (λ k h. h)) in
-    let shown : AreShown (paused_nodes (pause_data p.kind p (id_now after))) (view_of after).tree = subst
-    (λ ids. AreShown ids (view_of after).tree) (sym names) (seen, tt) in
+    let told_seen : has seen_id (id_told after p.node) (view_of after).tree
+    ≡ true = ap (λ i. has seen_id i (view_of after).tree) (told-id after p.node (there-shown state p.node there)) ∙ seen in
+    let shown : AreShown (paused_nodes (pause_data p.kind p (id_told after))) (view_of after).tree = subst
+    (λ ids. AreShown ids (view_of after).tree) (sym names) (told_seen, tt) in
     record {
       well = more (omega arith) (omega arith) (omega arith)
           (then-well (then-well first (stays after first.now next))
-          (stays-with (met (pause_data p.kind p (id_now after))) after first.now next (refl, shown)));
+          (stays-with (met (pause_data p.kind p (id_told after))) after first.now next (refl, shown)));
       side = refl;
     }
+
+-- the target is seen where it is shown, and else 0 is told, which names no node
+target-seen : (i : ℕ) (n : Nodes Seen) → has seen_id i n ≡ true → AreShown (target_nodes i) n
+target-seen zero n h = tt
+target-seen (suc i) n h = (h, tt)
+
+target-shown : (target : ℕ) (state : State) (begun : IsBegun state.client.session) → HoldsNow state
+    → let last : State = (push_step target state).state in AreShown (target_nodes (id_told last target)) (view_of last).tree
+target-shown target state begun is = at (is_shown_now state target) refl where
+  last : State
+  last = (push_step target state).state
+  begun_last : IsBegun last.client.session
+  begun_last = (opened_by target state begun.0, push-opened target state begun)
+  at : (b : Bool) → is_shown_now state target ≡ b → AreShown (target_nodes (cond b (id_now last target) 0)) (view_of last).tree
+  at true there =
+      target-seen (id_now last target) (view_of last).tree (shown-id last begun_last target
+      (push-knows target state begun begun_last.0 is (has-find row_serial target (nodes_shown state) ∙ there) (λ k h. h)))
+  at false hidden = tt
 
 -- by a subtree watch
 subtree-pauses : (state : State) (s target : ℕ) (insertion : Bool) → HoldsNow state → HasNumbers state
     → length state.client.session.pushed + 200000 < 2 ^ 52 → IsBegun state.client.session
-    → has row_serial s (page_nodes state) ≡ true → has row_serial target (page_nodes state) ≡ true
+    → has row_serial s (nodes_shown state) ≡ true
     → Pauses state (pause_step (Some (record { kind = Subtree; node = s; target = Some target; insertion = insertion })) state)
-subtree-pauses state s target insertion is low few begun there aimed =
+subtree-pauses state s target insertion is low few begun there =
     let after = (push_step s state).state in
     let first : Well state (push_step s state) 100000 0 0 = push-well s state is low begun in
     let next : HasNumbers after = low-after 100000 low first (omega (arith, few)) in
@@ -188,18 +217,20 @@ subtree-pauses state s target insertion is low few begun there aimed =
     let begun_last : IsBegun last.client.session = (opened_by target after begun_after.0, push-opened target after begun_after) in
     let o : ℕ → Bool = begun_after.0 in
     let node_seen = shown-id last begun_last s
-    (push-knows s state begun begun_last.0 is there (λ k h. opened_all-grows o (pushing o target (page_nodes state)) k h)) in
-    let target_seen = shown-id last begun_last target (push-knows target after begun_after begun_last.0 first.now aimed (λ k h. h)) in
+    (push-knows s state begun begun_last.0 is there (λ k h. opened_all-grows o (pushing o target (nodes_shown state)) k h)) in
+    let told_seen : has seen_id (id_told last s) (view_of last).tree
+    ≡ true = ap (λ i. has seen_id i (view_of last).tree) (told-id last s (there-shown state s there)) ∙ node_seen in
+    let aimed = target-shown target after begun_after first.now in
     let p : Pause = record { kind = Subtree; node = s; target = Some target; insertion = insertion } in
     record {
       well = more (omega arith) (omega arith) (omega arith)
-          (then-well both (stays-with (met (pause_data Subtree p (id_now last))) last both.now low_last
-          (refl, (node_seen, (target_seen, tt)))));
+          (then-well both (stays-with (met (pause_data Subtree p (id_told last))) last both.now low_last
+          (refl, (told_seen, aimed))));
       side = refl;
     }
 
 pub pauses : (state : State) (p : Pause) → HoldsNow state → HasNumbers state → length state.client.session.pushed + 200000 < 2 ^ 52
-    → IsPause state.client.watched (page_nodes state) p
+    → IsPause state.client.watched (alone state.side.page.tree) p
     → Pauses state (pause_step (Some p) state)
 pauses state _ is low few (by_attribute s h) =
     own-pauses state (record { kind = Attribute; node = s; target = None; insertion = false }) refl is low few
@@ -208,7 +239,7 @@ pauses state _ is low few (by_removal s h) =
     own-pauses state (record { kind = Removed; node = s; target = None; insertion = false }) refl is low few
     (watched-begun state Removed s is h) (is.watched Removed s h) refl
 pauses state _ is low few (by_subtree s target insertion h aimed) =
-    subtree-pauses state s target insertion is low few (watched-begun state Subtree s is h) (is.watched Subtree s h) aimed
+    subtree-pauses state s target insertion is low few (watched-begun state Subtree s is h) (is.watched Subtree s h)
 
 -- the pause before an edit, if it comes to one
 pub edit-pauses : (state : State) (e : TreeEdit) → HoldsNow state → HasNumbers state → length state.client.session.pushed + 200000 < 2 ^ 52

@@ -20,11 +20,16 @@ use Rattle.dom_agent.specs.Edits.{Edited, OnFault}
 use Rattle.std.specs.Result.{OnOk}
 use Rattle.client_views.specs.Moves.{Move as Told, frames_of_moves, move_text}
 use Rattle.pipe_frames.specs.Frames.{framed}
-use Rattle.dom_agent.specs.EditLaws.{session_edited, binding_edited}
-use Rattle.dom_agent.proofs.EditKeepers.{edit_keeps_bound, same_edit_moves}
+use Rattle.shown_pages.specs.declared.modes.Mode.{Mode}
+use Rattle.shown_pages.specs.ShownPages.{shown_branch, shown_page}
+use Rattle.shown_pages.specs.ShownEdits.{shown_edit}
+use Rattle.dom_agent.specs.EditLaws.{binding_edited}
+use Rattle.dom_agent.specs.ModeEdits.{edited_if, shown_session_edited, shown_binding_edited}
+use Rattle.dom_agent.proofs.ModeLemmas.{shown_edit_keeps_bound, same_shown_moves}
+use Rattle.dom_agent.proofs.KeptMode.{shown_edit_keeps_mode}
 use Rattle.dom_breakpoints.specs.Watched.{Watched}
 use Rattle.back_end.specs.Sheets.{NumberedBook}
-use Rattle.back_end.specs.States.{State, page_nodes, book_in}
+use Rattle.back_end.specs.States.{State, nodes_shown, book_in}
 use Rattle.back_end.specs.Plans.{one_edit, edit_fault, act_plan}
 use Rattle.back_end.specs.Steps.{with_page, watches_left, watched_after, edit_step, script_step, with_crossed, planned_step, act_step}
 use Rattle.back_end.specs.Steps.{lone_step}
@@ -46,14 +51,20 @@ ids-left n next most is h = omega (arith, is, h)
 -- ---- an edit that the page takes
 
 -- the watches of a desk that are left after an edit are the state's
-left-is : (e : TreeEdit) (page : PageValue) (w : Watched) (state : State) → page ≡ state.side.page → w ≡ state.client.watched
-    → watches_left e page.tree w ≡ watched_after e state
-left-is e page w state page_is is = ap (λ (p : PageValue). watches_left e p.tree w) page_is ∙ ap (watches_left e state.side.page.tree) is
+left-is : (e : TreeEdit) (mode : Mode) (page : PageValue) (w : Watched) (state : State) → mode ≡ state.client.mode
+    → page ≡ state.side.page → w ≡ state.client.watched → watches_left mode e page.tree w ≡ watched_after e state
+left-is e mode page w state mode_is page_is is = λ i. watches_left (mode_is i) e (page_is i).tree (is i)
+
+-- what an edit comes to for the agent, by the state's page and mode
+edited-here : {A : Type 0} (d : Desk) (s : PageSide) (state : State) (e : TreeEdit) (f : Edited BindingValue → A) → DeskStandsFor d s state
+    → f (shown_binding_edited d.agent.mode e s.page d.agent) ≡ f (shown_binding_edited state.client.mode e state.side.page d.agent)
+edited-here d s state e f stands = λ i. f (shown_binding_edited (stands.mode_is i) e (stands.page_is i) d.agent)
 
 pub edit-stands : (d d1 : Desk) (s s1 : PageSide) (state : State) (e : TreeEdit) → DeskStandsFor d s state
     → CanApply s.page.next e s.page.tree → EditHasTexts e → d.agent.next < 2 ^ 51 → s.page.next < 2 ^ 51 → s.sheets.next < 2 ^ 51
     → s1.page ≡ after e s.page → s1.sheets ≡ s.sheets → d1.is_on ≡ d.is_on → d1.css ≡ d.css
-    → d1.watches ≡ watches_left e s.page.tree d.watches → d1.searches ≡ d.searches → d1.agent ≡ (binding_edited e s.page d.agent).state
+    → d1.watches ≡ watches_left d.agent.mode e s.page.tree d.watches → d1.searches ≡ d.searches
+    → d1.agent ≡ (shown_binding_edited d.agent.mode e s.page d.agent).state
     → DeskStandsFor d1 s1 (edit_step e state).state
 edit-stands d d1 s s1 state e stands can texts ids serials sheets page_is sheets_is on_is css_is watches_is searches_is agent_is =
     let page = state.side.page in
@@ -69,8 +80,11 @@ edit-stands d d1 s s1 state e stands can texts ids serials sheets page_is sheets
       sheets = omega (arith, last, sheets);
     } in
     let well : Well state (edit_step e state) 1 0 0 = edit-well state e stands.now numbers (omega (arith, next, ids)) can_here texts in
-    let bound = edit_keeps_bound page e w d.agent stands.now.page can_here
+    let mode = state.client.mode in
+    let bound = shown_edit_keeps_bound mode page e w d.agent stands.now.page can_here
     (record { session = stands.now.session; stands = stands.stands }) in
+    let agent_now : d1.agent ≡ (shown_binding_edited mode e page d.agent).state = agent_is
+    ∙ edited-here d s state e (λ x. x.state) stands in
     record {
       now = well.now;
       page_is = page_is ∙ ap (after e) same;
@@ -79,22 +93,25 @@ edit-stands d d1 s s1 state e stands can texts ids serials sheets page_is sheets
       medium_is = ap (λ (b : NumberedBook). b.medium) sheets_is ∙ stands.medium_is;
       on_is = on_is ∙ stands.on_is;
       css_is = css_is ∙ stands.css_is;
-      watches_are = watches_is ∙ left-is e s.page d.watches state same stands.watches_are;
+      mode_is = ap (λ (b : BindingValue). b.mode) agent_now ∙ shown_edit_keeps_mode mode e page d.agent ∙ stands.mode_is;
+      watches_are = watches_is ∙ left-is e d.agent.mode s.page d.watches state stands.mode_is same stands.watches_are;
       searches_are = searches_is ∙ stands.searches_are;
-      stands = subst (λ a. Stands (alone (after e page).tree) (session_edited e page w).state a)
-          (sym (agent_is ∙ ap (λ (p : PageValue). (binding_edited e p d.agent).state) same)) bound.stands;
+      stands = subst (λ a. Stands (alone (shown_page mode (after e page)).tree) (shown_session_edited mode e page w).state a)
+          (sym agent_now)
+          bound.stands;
     }
 
 pub edit-sent : (d : Desk) (s : PageSide) (state : State) (e : TreeEdit) (old new : List ℕ) → DeskStandsFor d s state
     → CanApply s.page.next e s.page.tree
-    → new ≡ old ++ frames_of_moves (binding_edited e s.page d.agent).moves → new ≡ old ++ frames_of_moves (edit_step e state).moves
+    → new ≡ old ++ frames_of_moves (shown_binding_edited d.agent.mode e s.page d.agent).moves
+    → new ≡ old ++ frames_of_moves (edit_step e state).moves
 edit-sent d s state e old new stands can sent =
     let page = state.side.page in
     let same : s.page ≡ page = stands.page_is in
     let can_here : CanApply page.next e page.tree = subst (λ (p : PageValue). CanApply p.next e p.tree) same can in
-    sent ∙ ap (λ (p : PageValue). old ++ frames_of_moves (binding_edited e p d.agent).moves) same
+    sent ∙ edited-here d s state e (λ x. old ++ frames_of_moves x.moves) stands
     ∙ ap (λ ms. old ++ frames_of_moves ms)
-    (same_edit_moves page e state.client.session d.agent stands.now.page can_here
+    (same_shown_moves state.client.mode page e state.client.session d.agent stands.now.page can_here
     (record { session = stands.now.session; stands = stands.stands }))
 
 -- the ids that an edit draws at a desk
@@ -115,9 +132,15 @@ bound-few page (SetText serial value) b = omega arith
 bound-few page (Attach parent before x) b = came-few (opened_in b parent) b x.row.serial _ _
 bound-few page (Detach serial) b = let same = forgotten-next (alone (node_at serial page.tree)) b in omega (arith, same)
 
-pub edit-few : (page : PageValue) (e : TreeEdit) (b b1 : BindingValue) → b1 ≡ (binding_edited e page b).state → b1.next < b.next + 2
-edit-few page e b b1 is = let few = bound-few page e b in let same : b1.next
-    ≡ (binding_edited e page b).state.next = ap (λ (x : BindingValue). x.next) is in omega (arith, few, same)
+bound-if-few : (o : Option TreeEdit) (page : PageValue) (b : BindingValue)
+    → (edited_if (λ f. binding_edited f page) o b).state.next < b.next + 2
+bound-if-few None page b = omega arith
+bound-if-few (Some e) page b = bound-few page e b
+
+pub edit-few : (mode : Mode) (page : PageValue) (e : TreeEdit) (b b1 : BindingValue) → b1 ≡ (shown_binding_edited mode e page b).state
+    → b1.next < b.next + 2
+edit-few mode page e b b1 is = let few = bound-if-few (shown_edit mode e page.tree) (shown_page mode page) b in let same : b1.next
+    ≡ (shown_binding_edited mode e page b).state.next = ap (λ (x : BindingValue). x.next) is in omega (arith, few, same)
 
 -- ---- plans
 
@@ -137,9 +160,10 @@ drawn-stands d s s1 state page stands is sheets_is valid same = record {
   medium_is = ap (λ (b : NumberedBook). b.medium) sheets_is ∙ stands.medium_is;
   on_is = stands.on_is;
   css_is = stands.css_is;
+  mode_is = stands.mode_is;
   watches_are = stands.watches_are;
   searches_are = stands.searches_are;
-  stands = subst (λ tree. Stands (alone tree) state.client.session d.agent) (sym same) stands.stands;
+  stands = subst (λ tree. Stands (alone (shown_branch state.client.mode tree)) state.client.session d.agent) (sym same) stands.stands;
 }
 
 -- one edit
@@ -345,7 +369,8 @@ stayed-stands d d1 s s1 state on_is css_is watches_is searches_is agent_is page_
   medium_is = ap (λ (b : NumberedBook). b.medium) sheets_is ∙ stands.medium_is;
   on_is = on_is ∙ stands.on_is;
   css_is = css_is ∙ stands.css_is;
+  mode_is = ap (λ (b : BindingValue). b.mode) agent_is ∙ stands.mode_is;
   watches_are = watches_is ∙ stands.watches_are;
   searches_are = searches_is ∙ stands.searches_are;
-  stands = subst (λ a. Stands (page_nodes state) state.client.session a) (sym agent_is) stands.stands;
+  stands = subst (λ a. Stands (nodes_shown state) state.client.session a) (sym agent_is) stands.stands;
 }

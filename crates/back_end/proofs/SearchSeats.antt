@@ -25,10 +25,13 @@ use Rattle.dom_agent.specs.Requests.{state_after, answer}
 use Rattle.dom_search.specs.declared.searches.SearchFault.{SearchFault}
 use Rattle.dom_search.specs.Found.{found_in}
 use Rattle.dom_search.specs.Searches.{Kept as Searched, next_search, with_search, without_search, slice_of}
+use Rattle.page_tree.specs.Pages.{find_in}
+use Rattle.shown_pages.specs.declared.modes.Mode.{Mode}
+use Rattle.shown_pages.specs.ShownPages.{shown_page}
 use Rattle.back_end.specs.declared.desk.Desk.{Desk}
 use Rattle.back_end.specs.declared.side.PageSide.{PageSide}
-use Rattle.back_end.specs.States.{State, page_nodes}
-use Rattle.back_end.specs.Steps.{Step, refusing, idle, answering, with_searches, perform_step, results_in, or_why, results_asked}
+use Rattle.back_end.specs.States.{State, page_shown, nodes_shown}
+use Rattle.back_end.specs.Steps.{Step, found_now, refusing, idle, answering, with_searches, perform_step, results_in, or_why, results_asked}
 use Rattle.back_end.specs.Steps.{results_step, discard_step, agent_step, search_step, needs_on, needs_css, command_step}
 use Rattle.back_end.specs.Seats.{DeskStandsFor}
 use Rattle.back_end.proofs.SearchSteps.{searched-is}
@@ -47,9 +50,10 @@ searched-stands d d1 s state searches stands on_is css_is watches_is searches_is
   medium_is = stands.medium_is;
   on_is = on_is ∙ stands.on_is;
   css_is = css_is ∙ stands.css_is;
+  mode_is = ap (λ (b : BindingValue). b.mode) agent_is ∙ stands.mode_is;
   watches_are = watches_is ∙ stands.watches_are;
   searches_are = searches_is;
-  stands = subst (λ a. Stands (page_nodes state) state.client.session a) (sym agent_is) stands.stands;
+  stands = subst (λ a. Stands (nodes_shown state) state.client.session a) (sym agent_is) stands.stands;
 }
 
 -- a reply alone
@@ -59,22 +63,31 @@ reply-sent id body old new sent = sent ∙ ap (λ bs. old ++ bs) (sym (append-ni
 
 -- ---- `DOM.performSearch`
 
+-- those of the nodes that were found which are shown, in the agent's mode
+pub shown-found : (mode here : Mode) (page : PageValue) (query all : List ℕ) → here ≡ mode → all ≡ found_in page.tree query
+    → filter (λ k. is_some (find_in k (shown_page here page).tree)) all
+    ≡ filter (λ k. is_some (find_in k (shown_page mode page).tree)) (found_in page.tree query)
+shown-found mode here page query all mode_is is =
+    λ i. filter (λ k. is_some (find_in k (shown_page (mode_is i) page).tree)) (is i)
+
 module _ (d : Desk) (s : PageSide) (state : State) (id : ℕ) (query : List ℕ) (page : PageValue) (serials : List ℕ)
-    (stands : DeskStandsFor d s state) (page_is : page ≡ s.page) (found : serials ≡ found_in page.tree query) where
-  found-is : serials ≡ found_in state.side.page.tree query
-  found-is = found ∙ ap (λ (p : PageValue). found_in p.tree query) (page_is ∙ stands.page_is)
+    (stands : DeskStandsFor d s state) (page_is : page ≡ s.page)
+    (found : serials ≡ filter (λ k. is_some (find_in k (shown_page d.agent.mode page).tree)) (found_in page.tree query)) where
+  found-is : serials ≡ found_now query state
+  found-is = found ∙ (λ i. filter (λ k. is_some (find_in k (shown_page (stands.mode_is i) ((page_is ∙ stands.page_is) i)).tree))
+      (found_in ((page_is ∙ stands.page_is) i).tree query))
 
   pub performed-stands : (d1 : Desk) → d1.is_on ≡ d.is_on → d1.css ≡ d.css → d1.watches ≡ d.watches
       → d1.searches ≡ with_search serials d.searches → d1.agent ≡ d.agent → DeskStandsFor d1 s (perform_step id query state).state
   performed-stands d1 on_is css_is watches_is searches_is agent_is =
-      searched-stands d d1 s state (with_search (found_in state.side.page.tree query) state.client.searches) stands on_is css_is watches_is
+      searched-stands d d1 s state (with_search (found_now query state) state.client.searches) stands on_is css_is watches_is
       (searches_is ∙ (λ i. with_search (found-is i) (stands.searches_are i))) agent_is
 
   pub performed-sent : (search count : ℕ) (old new : List ℕ) → search ≡ next_search d.searches → count ≡ length serials
       → new ≡ old ++ framed (reply_text id (Search search count)) → new ≡ old ++ frames_of_moves (perform_step id query state).moves
   performed-sent search count old new search_is count_is sent =
       let number : search ≡ next_search state.client.searches = search_is ∙ ap next_search stands.searches_are in
-      let many : count ≡ length (found_in state.side.page.tree query) = count_is ∙ ap (λ (l : List ℕ). length l) found-is in
+      let many : count ≡ length (found_now query state) = count_is ∙ ap (λ (l : List ℕ). length l) found-is in
       reply-sent id (Search search count) old new sent
       ∙ (λ i. old ++ frames_of_moves (replied id (Search (number i) (many i)) ∷ []))
 
@@ -132,13 +145,15 @@ module _ (d : Desk) (s : PageSide) (state : State) (id : ℕ) (stands : DeskStan
       push-is = on-is id (AskDom push) state met refl
 
       pub listed-stands : (d1 : Desk) → d1.is_on ≡ d.is_on → d1.css ≡ d.css → d1.watches ≡ d.watches → d1.searches ≡ d.searches
-          → d1.agent ≡ state_after d.agent (binding_outcome page push d.agent) → DeskStandsFor d1 s (agent_step id push state).state
+          → d1.agent ≡ state_after d.agent (binding_outcome (shown_page d.agent.mode page) page.tree push d.agent)
+          → DeskStandsFor d1 s (agent_step id push state).state
       listed-stands d1 on_is css_is watches_is searches_is agent_is =
           subst (λ (done : Step). DeskStandsFor d1 s done.state) push-is
-          (asked-stands d d1 s s state id push page refl was stands refl refl page_is (on_is ∙ stays-on d.is_on) css_is watches_is searches_is
+          (asked-stands d d1 s s state id push page refl was stands refl refl page_is (on_is ∙ stays-on d.is_on)
+          css_is watches_is searches_is
           agent_is)
 
-      pub listed-sent : (old new : List ℕ) → new ≡ old ++ answer id (binding_outcome page push d.agent)
+      pub listed-sent : (old new : List ℕ) → new ≡ old ++ answer id (binding_outcome (shown_page d.agent.mode page) page.tree push d.agent)
           → new ≡ old ++ frames_of_moves (agent_step id push state).moves
       listed-sent old new sent =
           asked-sent d s state id push page old new refl was stands page_is sent

@@ -1,7 +1,8 @@
 -- The steps of searches: each is valid, and is a list of moves.
-use Rattle.std.proofs.Common.{◌≡◌, ℕ, ◌+◌, ◌<◌, ◌≤◌, ◌^◌, Bool, true, false, cond, List, [], length, Option, Some, None, refl, arith}
-use Rattle.std.proofs.Common.{lt-ltb}
-use Rattle.std.specs.Prelude.{is_some}
+use Rattle.std.proofs.Common.{◌≡◌, ℕ, ◌+◌, ◌<◌, ◌≤◌, ◌^◌, Bool, true, false, cond, List, [], ◌∷◌, length, Option, Some, None, refl, arith}
+use Rattle.std.proofs.Common.{◌++◌, drop, get_or, lt-ltb, sym, ◌∙◌, ap}
+use Rattle.std.proofs.lemmas.List.{drop_more, append_assoc}
+use Rattle.std.specs.Prelude.{filter, is_some}
 use Rattle.std.specs.FinMap as table
 use Rattle.cdp_json.specs.Kinds.{is_counted}
 use Rattle.cdp_json.proofs.Options.{both}
@@ -17,7 +18,7 @@ use Rattle.dom_search.specs.Found.{found_in}
 use Rattle.dom_search.specs.Searches.{Kept as Searched, next_search, with_search, without_search}
 use Rattle.dom_search.proofs.FoundCounts.{found-count}
 use Rattle.back_end.specs.States.{State, page_nodes, view_of, HoldsNow, IsState}
-use Rattle.back_end.specs.Steps.{refusing, idle, replying, answering, with_searches, perform_step, discard_step}
+use Rattle.back_end.specs.Steps.{is_shown_now, found_now, refusing, idle, replying, answering, with_searches, perform_step, discard_step}
 use Rattle.back_end.specs.Laws.{HasRoom, MayAnswer}
 use Rattle.back_end.proofs.AnsweredSteps.{Answered, refusal-answered}
 use Rattle.back_end.proofs.KeptSteps.{Recalls, recalls-same}
@@ -32,9 +33,31 @@ searched-is searches state is = record {
   session = is.session;
   off = is.off;
   css_off = is.css_off;
+  all_shown = is.all_shown;
   watched = is.watched;
   none_watched = is.none_watched;
 }
+
+-- what passes a test is no longer
+filter-step : (b : Bool) (x : ℕ) (ys : List ℕ) (n : ℕ) → length ys ≤ n → length (cond b (x ∷ ys) ys) ≤ n + 1
+filter-step true x ys n h = omega (arith, h)
+filter-step false x ys n h = omega (arith, h)
+
+filter-short : (p : ℕ → Bool) (xs : List ℕ) → length (filter p xs) ≤ length xs
+filter-short p [] = omega arith
+filter-short p (x ∷ xs) = let step = filter-step (p x) x (filter p xs) (length xs) (filter-short p xs) in omega (arith, step)
+
+one-kept : (b : Bool) (x : ℕ) (front rest : List ℕ) → (front ++ cond b (x ∷ []) []) ++ rest ≡ front ++ cond b (x ∷ rest) rest
+one-kept true x front rest = append_assoc front (x ∷ []) rest
+one-kept false x front rest = append_assoc front [] rest
+
+-- the element at a place, where it passes, and then those behind it that pass
+pub kept-turn : (p : ℕ → Bool) (xs : List ℕ) (i x : ℕ) (before after : List ℕ) → i < length xs → x ≡ get_or xs i x
+    → after ≡ before ++ cond (p x) (x ∷ []) []
+    → after ++ filter p (drop (i + 1) xs) ≡ before ++ filter p (drop i xs)
+kept-turn p xs i x before after inside is e =
+    ap (λ (l : List ℕ). l ++ filter p (drop (i + 1) xs)) e ∙ one-kept (p x) x before (filter p (drop (i + 1) xs))
+    ∙ sym (ap (λ (l : List ℕ). before ++ filter p l) (drop_more xs i x inside ∙ ap (λ (y : ℕ). y ∷ drop (i + 1) xs) (sym is)))
 
 -- the number of the next search can be told
 number-fits : (n : ℕ) → n + 1 < 2 ^ 50 → is_search (n + 1) ≡ true
@@ -71,9 +94,11 @@ module _ (method : List ℕ) (sheet : Option ℕ) (id : ℕ) (state : State) (is
   pub perform-answered : (query : List ℕ) → ((search count : ℕ) → MayAnswer method (replied id (Search search count)))
       → Answered method sheet id 0 state (perform_step id query state)
   perform-answered query can =
-      let found = found_in state.side.page.tree query in
+      let found = found_now query state in
       let searches = state.client.searches in
-      let few : length found ≤ node_count (page_nodes state) = found-count state.side.page.tree query in
+      let all_found = found-count state.side.page.tree query in
+      let some = filter-short (is_shown_now state) (found_in state.side.page.tree query) in
+      let few : length found ≤ node_count (page_nodes state) = omega (arith, all_found, some) in
       let all : node_count (page_nodes state) ≤ 100000 = count-alone state.side.page is.now.page in
       let fits : search_result_kind.fits (length found, (next_search searches, tt)) ≡ true =
       both (lt-ltb (length found) (2 ^ 53) (omega (arith, few, all))) (both (number-fits searches.given room.searches) refl) in

@@ -11,7 +11,7 @@ use Rattle.css_objects.specs.Sheets.{sheet_in}
 use Rattle.node_tree.specs.Nodes.{Branch, alone}
 use Rattle.node_tree.specs.Labels.{is_element}
 use Rattle.node_tree.proofs.KeyLemmas.{found_key}
-use Rattle.page_tree.specs.Pages.{PageRow, row_serial, PageValue, find_in, loaded}
+use Rattle.page_tree.specs.Pages.{PageRow, row_serial, PageValue, IsValid, find_in, loaded}
 use Rattle.node_binding.specs.Bindings.{BindingValue, Stands, cleared}
 use Rattle.node_binding.specs.Sessions.{Session, serial_at, reset}
 use Rattle.node_binding.proofs.StandsLemmas.{Stands-reset}
@@ -43,7 +43,10 @@ use Rattle.back_end.specs.declared.faults.ActFault.TheVariants.{Sheet}
 use Rattle.style_edits.specs.declared.faults.SheetFault.TheVariants.{TooBig}
 use Rattle.back_end.specs.Sheets.{origin_in_book, entry_of_sheet, as_book, numbered_sheets, SheetChange, leaves, comes, NumberedBook}
 use Rattle.media_rules.specs.declared.medium.Medium.{Medium}
-use Rattle.back_end.specs.States.{State, page_nodes, book_in, styled_in}
+use Rattle.shown_pages.specs.declared.modes.Mode.{Mode}
+use Rattle.shown_pages.specs.ShownPages.{shown_page}
+use Rattle.shown_pages.specs.ShownLaws.{FoundShown, shown_if}
+use Rattle.back_end.specs.States.{State, page_shown, nodes_shown, book_in, styled_in}
 use Rattle.back_end.specs.Plans.{Deed, restyles, size_fault, drop_fault, replace_fault, dropping, replacing}
 use Rattle.dom_breakpoints.specs.Watched.{unwatched}
 use Rattle.dom_search.specs.Searches.{forgotten}
@@ -131,9 +134,10 @@ css-enabled-stands d d1 s state id stands was on_is css_is watches_is searches_i
       medium_is = stands.medium_is;
       on_is = on_is ∙ stands.on_is;
       css_is = css_is;
+      mode_is = ap (λ (b : BindingValue). b.mode) agent_is ∙ stands.mode_is;
       watches_are = watches_is ∙ stands.watches_are;
       searches_are = searches_is ∙ stands.searches_are;
-      stands = subst (λ a. Stands (page_nodes state) state.client.session a) (sym agent_is) stands.stands;
+      stands = subst (λ a. Stands (nodes_shown state) state.client.session a) (sym agent_is) stands.stands;
     })
 
 pub css-enabled-sent : (d : Desk) (s : PageSide) (state : State) (id : ℕ) (book : List SheetEntry) (old middle new : List ℕ)
@@ -167,9 +171,10 @@ css-disabled-stands d d1 s state id stands was css_was on_is css_is watches_is s
       medium_is = stands.medium_is;
       on_is = on_is ∙ stands.on_is;
       css_is = css_is;
+      mode_is = ap (λ (b : BindingValue). b.mode) agent_is ∙ stands.mode_is;
       watches_are = watches_is ∙ stands.watches_are;
       searches_are = searches_is ∙ stands.searches_are;
-      stands = subst (λ a. Stands (page_nodes state) state.client.session a) (sym agent_is) stands.stands;
+      stands = subst (λ a. Stands (nodes_shown state) state.client.session a) (sym agent_is) stands.stands;
     })
 
 pub css-disabled-sent : (d : Desk) (s : PageSide) (state : State) (id : ℕ) (old middle new : List ℕ) → DeskStandsFor d s state
@@ -254,19 +259,28 @@ plain-sent d s state id ask page book medium old new stands is page_is book_is m
     names (inl h) = subst NamesNone (sym h.1) tt
     names (inr h) = subst NamesNone (sym h.1) tt
 
+-- a node that is found in the shown page is found in the page
+pub found-stands : (mode : Mode) (page : PageValue) (serial : ℕ) (x : Branch PageRow) → IsValid page → FoundShown
+    → find_in serial (shown_page mode page).tree ≡ Some x → IsSome (find_in serial page.tree)
+found-stands mode page serial x valid found is = at (find_in serial page.tree) (sym (found mode page serial valid) ∙ is) where
+  at : (o : Option (Branch PageRow)) → option_and_then (shown_if mode) o ≡ Some x → IsSome o
+  at None e = absurd cc
+  at (Some b) e = refl
+
 -- the node that is named
 pub element-is : (d : Desk) (s : PageSide) (state : State) (page : PageValue) (named : ℕ) (r : Result ℕ Why) → DeskStandsFor d s state
     → page ≡ s.page
-    → r ≡ element_serial (known_node (binding_keeper (alone page.tree)) page.tree d.agent (finite.get d.agent.serials named))
+    → let shown : PageValue = shown_page d.agent.mode page in
+    r ≡ element_serial (known_node (binding_keeper (alone shown.tree)) shown.tree d.agent (finite.get d.agent.serials named))
     → element_named named state ≡ r
 element-is d s state page named r stands page_is is =
     let w = state.client.session in
     let b = d.agent in
     sym (is ∙ ap (λ (p : PageValue). element_serial (known_node (binding_keeper (alone p.tree)) p.tree b (finite.get b.serials named)))
-    (page_is ∙ stands.page_is)
-    ∙ ap (λ (o : Option ℕ). element_serial (known_node (binding_keeper (page_nodes state)) state.side.page.tree b o))
+    (ap (λ m. shown_page m page) stands.mode_is ∙ ap (shown_page state.client.mode) (page_is ∙ stands.page_is))
+    ∙ ap (λ (o : Option ℕ). element_serial (known_node (binding_keeper (nodes_shown state)) (page_shown state).tree b o))
     (stands.stands.serials_are named)
-    ∙ ap element_serial (same-node state.side.page w b (serial_at w (page_nodes state) named)))
+    ∙ ap element_serial (same-node (page_shown state) w b (serial_at w (nodes_shown state) named)))
 
 pub node-asked : (d : Desk) (s : PageSide) (state : State) (id named serial : ℕ) (page : PageValue) (book : List SheetEntry)
     (medium : Medium) (old new : List ℕ) → DeskStandsFor d s state
@@ -314,6 +328,7 @@ came-stands d s s1 state origin text stands utf8 fits page_is sheets_is =
       medium_is = ap (λ (b : NumberedBook). b.medium) sheets_is ∙ stands.medium_is;
       on_is = stands.on_is;
       css_is = stands.css_is;
+      mode_is = stands.mode_is;
       watches_are = stands.watches_are;
       searches_are = stands.searches_are;
       stands = stands.stands;
@@ -366,6 +381,7 @@ left-stands d s s1 state number stands there page_is sheets_is = at (entry_of nu
         medium_is = ap (λ (b : NumberedBook). b.medium) sheets_is ∙ stands.medium_is;
         on_is = stands.on_is;
         css_is = stands.css_is;
+        mode_is = stands.mode_is;
         watches_are = stands.watches_are;
         searches_are = stands.searches_are;
         stands = stands.stands;
@@ -595,11 +611,12 @@ load-stands d d1 s s1 state page stands can texts page_is sheets_are next_is med
   next_is = next_is ∙ ap (λ n. n + length page.sheets) stands.next_is;
   medium_is = medium_is;
   on_is = on_is ∙ stands.on_is;
+  mode_is = ap (λ (b : BindingValue). b.mode) agent_is ∙ stands.mode_is;
   css_is = css_is ∙ stands.css_is ∙ both-on state.client.css_on state.client.dom_on stands.now.css_off;
   watches_are = watches_is;
   searches_are = searches_is ∙ ap forgotten stands.searches_are;
-  stands = subst (λ a. Stands (page_nodes (load_step page state).state) (reset state.client.session) a) (sym agent_is)
-      (Stands-reset (page_nodes state) (page_nodes (load_step page state).state) state.client.session d.agent stands.stands);
+  stands = subst (λ a. Stands (nodes_shown (load_step page state).state) (reset state.client.session) a) (sym agent_is)
+      (Stands-reset (nodes_shown state) (nodes_shown (load_step page state).state) state.client.session d.agent stands.stands);
 }
   where
     both-on : (c on : Bool) → (on ≡ false → c ≡ false) → c ≡ (c && on)

@@ -16,7 +16,8 @@ use Rattle.dom_agent.specs.Laws.{CanTellSheets, session_view as seen_by}
 use Rattle.dom_agent.proofs.StepLemmas.{course-join}
 use Rattle.page_forms.specs.Sheets.{max_sheet_bytes}
 use Rattle.back_end.specs.Sheets.{SheetChange, leaves, comes, AreSheetsBelow}
-use Rattle.back_end.specs.States.{State, view_of, HoldsNow}
+use Rattle.shown_pages.specs.ShownPages.{shown_page}
+use Rattle.back_end.specs.States.{State, page_shown, view_of, HoldsNow}
 use Rattle.back_end.specs.Steps.{with_client, side_changed, sheet_move, sheet_step, sheet_steps, moves_gone, moves_come, css_on_step}
 use Rattle.back_end.specs.Steps.{css_off_step}
 use Rattle.back_end.proofs.SheetLemmas.{own-test, can-tell-sheets, below-front, below-tail, below-none, texts-of-back, FitsBeside}
@@ -94,6 +95,7 @@ change-is (leaves n) state is can = record {
   session = is.session;
   off = is.off;
   css_off = is.css_off;
+  all_shown = is.all_shown;
   watched = is.watched;
   none_watched = is.none_watched;
 }
@@ -104,6 +106,7 @@ change-is (comes origin text) state is can = record {
   session = is.session;
   off = is.off;
   css_off = is.css_off;
+  all_shown = is.all_shown;
   watched = is.watched;
   none_watched = is.none_watched;
 }
@@ -136,14 +139,16 @@ change-well c state is low room can =
     (below-none state.side.next_sheet state.side.sheets is.sheets) in
     let same = page-kept c state in
     let course : Course (cond state.client.css_on (sheet_move c state.side ∷ []) []) (view_of state)
-    (seen_by state.client.session state.side.page (cond state.client.css_on (side_changed c state.side).sheets [])) =
-    change-course state.client.session state.side.page state.side.sheets (side_changed c state.side).sheets
+    (seen_by state.client.session (page_shown state) (cond state.client.css_on (side_changed c state.side).sheets [])) =
+    change-course state.client.session (page_shown state) state.side.sheets (side_changed c state.side).sheets
     (sheet_move c state.side) state.client.css_on
     (λ sheets k. told-with state sheets is low k) old_can new_can nothing (λ tree. change-moves c state tree can) in
     record {
       now = change-is c state is can;
       course = subst (λ (page : PageValue). Course (cond state.client.css_on (sheet_move c state.side ∷ []) []) (view_of state)
-          (seen_by state.client.session page (cond state.client.css_on (side_changed c state.side).sheets []))) (sym same) course;
+          (seen_by state.client.session (shown_page state.client.mode page)
+          (cond state.client.css_on (side_changed c state.side).sheets [])))
+          (sym same) course;
       few_ids = omega arith;
       few_serials = omega (arith, ap (λ (page : PageValue). page.next) same);
       few_sheets = few;
@@ -215,6 +220,7 @@ css-on-is state is on = record {
   session = is.session;
   off = is.off;
   css_off = λ h. absurd (no (sym on ∙ h));
+  all_shown = is.all_shown;
   watched = is.watched;
   none_watched = is.none_watched;
 }
@@ -243,7 +249,7 @@ pub css-on-well : (id : ℕ) (state : State) → HoldsNow state → HasNumbers s
     → Well state (css_on_step id state) 0 0 0
 css-on-well id state is low on small = record {
   now = css-on-is state is on;
-  course = on-course state.client.session state.side.page state.side.sheets state.side.next_sheet id state.client.css_on
+  course = on-course state.client.session (page_shown state) state.side.sheets state.side.next_sheet id state.client.css_on
       (λ ss k. told-with state ss is low k) (omega (arith, low.sheets)) is.sheets small;
   few_ids = omega arith;
   few_serials = omega arith;
@@ -259,6 +265,7 @@ css-off-is state is = record {
   session = is.session;
   off = is.off;
   css_off = λ h. refl;
+  all_shown = is.all_shown;
   watched = is.watched;
   none_watched = is.none_watched;
 }

@@ -25,6 +25,7 @@ use Rattle.back_end.specs.declared.desk.Desk.{Desk}
 use Rattle.back_end.specs.declared.side.PageSide.{PageSide}
 use Rattle.back_end.specs.OwnMethods.{sheet_why}
 use Rattle.back_end.specs.Sheets.{AreBelow}
+use Rattle.shown_pages.specs.ShownPages.{shown_page}
 use Rattle.back_end.specs.States.{Client, State, book_in}
 use Rattle.cdp_messages.specs.declared.command.Command.TheVariants.{EditCss}
 use Rattle.back_end.specs.Steps.{Step, refusing, keeping, splice_steps, restyled_step, sheet_edit_step, command_step}
@@ -143,8 +144,11 @@ restyled-both d h h1 s s1 state id x backs both room texts on css edited page_is
       medium_is = medium_is ∙ stands.medium_is ∙ sym after.medium;
       on_is = stands.on_is ∙ ap (λ (c : Client). c.dom_on) (sym after.client);
       css_is = stands.css_is ∙ ap (λ (c : Client). c.css_on) (sym after.client);
-      stands = subst (λ (p : PageValue). Stands (alone p.tree) (splice_steps ss state).state.client.session d.agent) (sym after.page)
-          (subst (λ (c : Client). Stands (alone state.side.page.tree) c.session d.agent) (sym after.client) stands.stands);
+      mode_is = stands.mode_is ∙ ap (λ (c : Client). c.mode) (sym after.client);
+      stands = subst (λ (p : PageValue). Stands (alone (shown_page (splice_steps ss state).state.client.mode p).tree)
+          (splice_steps ss state).state.client.session d.agent) (sym after.page)
+          (subst (λ (c : Client). Stands (alone (shown_page c.mode state.side.page).tree) c.session d.agent)
+          (sym after.client) stands.stands);
       watches_are = stands.watches_are ∙ ap (λ (c : Client). c.watched) (sym after.client);
       searches_are = stands.searches_are ∙ ap (λ (c : Client). c.searches) (sym after.client);
     } in

@@ -37,7 +37,7 @@ use Rattle.undo_marks.specs.SavedEdits.{saved_sheet, saved_of, sheets_after, pag
 use Rattle.undo_marks.specs.declared.inverse_lists.Inverse.{Inverse}
 use Rattle.undo_marks.specs.declared.inverse_lists.Inverse.TheVariants.{Sheet}
 use Rattle.undo_marks.proofs.SheetLemmas.{after-saved, taken-saved}
-use Rattle.back_end.specs.States.{Client, State, book_in, HoldsNow, saved_now, TakesWell, IsState}
+use Rattle.back_end.specs.States.{page_shown, Client, State, book_in, HoldsNow, saved_now, TakesWell, IsState}
 use Rattle.back_end.specs.Steps.{Step, splice_step, splice_steps, keeping, restyled_step, sheet_edit_step}
 use Rattle.back_end.specs.Laws.{HasRoom, most_splices}
 use Rattle.back_end.proofs.SheetLemmas.{same-test, own-test, can-tell-sheets, below-none, book-stored, entry-stands}
@@ -176,6 +176,7 @@ splice-is s state is t = record {
   session = is.session;
   off = is.off;
   css_off = is.css_off;
+  all_shown = is.all_shown;
   watched = is.watched;
   none_watched = is.none_watched;
 }
@@ -196,7 +197,7 @@ splice-well s state is low t =
     let nothing = can-tell-sheets next [] (omega (arith, low.sheets)) (below-none next state.side.sheets is.sheets) in
     record {
       now = splice-is s state is t;
-      course = change-course state.client.session state.side.page state.side.sheets (splice_step s state).state.side.sheets
+      course = change-course state.client.session (page_shown state) state.side.sheets (splice_step s state).state.side.sheets
           (rewritten s.sheet text) state.client.css_on
           (λ sheets k. told-with state sheets is low k) old new nothing (λ tree. (refl, p.shows));
       few_ids = omega arith;

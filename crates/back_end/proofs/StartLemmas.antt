@@ -1,12 +1,12 @@
 -- The state of a page that was just loaded is valid, and a new seat stands for it.
-use Rattle.std.proofs.Common.{◌≡◌, false, true, refl, sym, subst, arith}
+use Rattle.std.proofs.Common.{◌≡◌, false, true, refl, sym, ap, subst, arith}
 use Rattle.page_forms.specs.Pages.{LoadedPage, CanLoadPage}
 use Rattle.page_forms.specs.Texts.{PageHasTexts}
-use Rattle.node_binding.specs.Bindings.{Stands}
+use Rattle.node_binding.specs.Bindings.{BindingValue, Stands}
 use Rattle.node_binding.specs.Sessions.{begun}
 use Rattle.node_binding.proofs.SessionLemmas.{IsSession-begun}
 use Rattle.node_binding.proofs.StandsLemmas.{Stands-begun}
-use Rattle.back_end.specs.States.{page_nodes, loaded_state, new_client, HoldsNow}
+use Rattle.back_end.specs.States.{nodes_shown, loaded_state, new_client, HoldsNow}
 use Rattle.back_end.specs.Starts.{StartIsState, NewSeatsStand, SheetNumbersDiffer}
 use Rattle.back_end.proofs.SheetLemmas.{ascend-distinct}
 use Rattle.back_end.proofs.StepLemmas.{loaded-is}
@@ -14,14 +14,15 @@ use Rattle.back_end.proofs.WatchedLemmas.{none-set}
 
 holds-first : (page : LoadedPage) → CanLoadPage page → PageHasTexts page → HoldsNow (loaded_state page)
 holds-first page can texts =
-    let is = loaded-is 1 1 page new_client (omega arith) (omega arith) can texts in
+    let is = loaded-is 1 1 page new_client (omega arith) (omega arith) (λ off. refl) can texts in
     record {
       page = is.page;
       texts = is.texts;
       sheets = is.sheets;
-      session = IsSession-begun (page_nodes (loaded_state page));
+      session = IsSession-begun (nodes_shown (loaded_state page));
       off = λ off. refl;
       css_off = λ off. refl;
+      all_shown = λ off. refl;
       watched = λ kind serial here. none-set kind serial here;
       none_watched = λ none. refl;
     }
@@ -46,10 +47,11 @@ stands-first seat side page can texts new =
         medium_is = new.medium_is;
         on_is = new.off;
         css_is = new.css;
+        mode_is = ap (λ (b : BindingValue). b.mode) new.agent_is;
         watches_are = new.watches_are;
         searches_are = new.searches_are;
-        stands = subst (λ b. Stands (page_nodes (loaded_state page)) begun b) (sym new.agent_is)
-            (Stands-begun (page_nodes (loaded_state page)));
+        stands = subst (λ b. Stands (nodes_shown (loaded_state page)) begun b) (sym new.agent_is)
+            (Stands-begun (nodes_shown (loaded_state page)));
       };
       kept = record { edits = new.history_is; history = is.history };
     }

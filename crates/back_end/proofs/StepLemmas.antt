@@ -39,9 +39,15 @@ use Rattle.client_views.specs.Views.{ShownSheet, sheets_without}
 use Rattle.client_views.specs.Moves.{CanBeTold, Course, ends}
 use Rattle.css_agent.specs.Asks.{sheet_named}
 use Rattle.dom_agent.specs.Laws.{CanTell, CanTellSheets, RowsHaveUtf8, session_view as seen_by}
+use Rattle.shown_pages.specs.declared.modes.Mode.{Mode}
+use Rattle.shown_pages.specs.declared.modes.Mode.TheVariants.{All}
+use Rattle.shown_pages.specs.declared.sights.TextSight.{TextSight}
+use Rattle.shown_pages.specs.declared.sights.TextSight.TheVariants.{Unseen, Comes, Goes, Stays}
+use Rattle.shown_pages.specs.ShownPages.{shown_branch, shown_page}
+use Rattle.shown_pages.specs.ShownEdits.{sight_at, shown_edit}
 use Rattle.dom_agent.specs.EditLaws.{session_edited}
-use Rattle.dom_agent.proofs.EditMoves.{edits_are_moves}
-use Rattle.dom_agent.proofs.EditLemmas.{edit_keeps_session, edit_draws_one}
+use Rattle.dom_agent.specs.ModeEdits.{edited_if, shown_session_edited}
+use Rattle.dom_agent.proofs.ModeLemmas.{shown_edit_keeps_session, shown_edits_are_moves, shown_edit_draws_one, shown_can_be_told}
 use Rattle.dom_breakpoints.specs.Pauses.{pause_of}
 use Rattle.dom_breakpoints.specs.Watched.{unwatched, is_within, outside, without_subtree}
 use Rattle.undo_marks.specs.Marks.{crossed_over}
@@ -50,19 +56,21 @@ use Rattle.back_end.specs.declared.faults.ActFault.TheVariants.{Sheet}
 use Rattle.back_end.specs.Sheets.{as_book, AreSheetsBelow}
 use Rattle.media_rules.specs.declared.medium.Medium.{Medium}
 use Rattle.back_end.specs.Steps.{idle, on_medium}
-use Rattle.back_end.specs.States.{Side, Client, State, book_in, sheets_shown, view_of, loaded_side, AreAmong, HoldsNow, HasHistory, IsState}
+use Rattle.back_end.specs.States.{Side, Client, State, page_shown, book_in, sheets_shown, view_of, loaded_side, AreAmong, HoldsNow}
+use Rattle.back_end.specs.States.{HasHistory, IsState}
 use Rattle.back_end.specs.Plans.{Plan, Deed, edits, restyles, shows_on, edit_fault, size_fault, drop_fault, replace_fault, dropping}
 use Rattle.back_end.specs.Plans.{replacing}
 use Rattle.back_end.specs.Plans.{act_fault, act_plan}
-use Rattle.back_end.specs.Steps.{Step, with_page, watched_after, edit_step, pause_step, script_step, script_steps, with_crossed, crossing}
+use Rattle.back_end.specs.Steps.{Step, with_page, watches_of_text, watched_after, edit_step, pause_step, script_step, script_steps}
+use Rattle.back_end.specs.Steps.{with_crossed, crossing}
 use Rattle.back_end.specs.Steps.{deed_step, sheet_steps, planned_step, act_step, client_reset, load_step, Turn, acts, loads, turn_step}
 use Rattle.back_end.specs.Texts.{PageHasTexts, ActHasTexts, EditHasTexts}
 use Rattle.back_end.specs.Laws.{HasRoom, StepsWell, KeepsAtMost, IsTurn}
 use Rattle.back_end.proofs.TextLemmas.{node_at-texts, after-texts, numbered-texts, branch-texts}
 use Rattle.back_end.proofs.SheetLemmas.{ascend-order, sheets-loaded, sheets-few, book-without, named-is, fits-beside}
 use Rattle.back_end.proofs.SheetSteps.{CanChangeAll, changes-well, load-course}
-use Rattle.back_end.proofs.PushSteps.{not-begun, begun-edited}
-use Rattle.back_end.proofs.WatchedLemmas.{none-set, among-after}
+use Rattle.back_end.proofs.PushSteps.{not-begun, begun-shown}
+use Rattle.back_end.proofs.WatchedLemmas.{none-set, among-shown}
 use Rattle.back_end.proofs.PauseSteps.{Pauses, edit-pauses}
 use Rattle.back_end.proofs.WellSteps.{Well, HasNumbers, room-numbers, can-sheets, can-tell, told-view, told-with, now-marked, stays}
 use Rattle.back_end.proofs.WellSteps.{then-well, more}
@@ -92,18 +100,30 @@ no-serials root tree =
 none-left : (root : ℕ) (tree : Branch PageRow) → without_subtree root tree unwatched ≡ unwatched
 none-left root tree = λ i. record { subtree = no-serials root tree i; attribute = no-serials root tree i; removed = no-serials root tree i }
 
+-- the same of an edit of the page as it is shown
+shown-off : (o : Option TreeEdit) (page : PageValue) (w : Session) → w.opened ≡ None
+    → (edited_if (λ f. session_edited f page) o w).state.opened ≡ None
+shown-off None page w h = h
+shown-off (Some e) page w h = edited-off e page w h
+
 -- where nothing is opened after an edit, nothing was
-none-before : (e : TreeEdit) (page : PageValue) (w : Session) → (session_edited e page w).state.opened ≡ None → w.opened ≡ None
-none-before e page w h = at w.opened refl where
+none-before : (mode : Mode) (e : TreeEdit) (page : PageValue) (w : Session) → (shown_session_edited mode e page w).state.opened ≡ None
+    → w.opened ≡ None
+none-before mode e page w h = at w.opened refl where
   at : (o : Option (ℕ → Bool)) → w.opened ≡ o → w.opened ≡ None
   at None is = is
-  at (Some o) is = not-begun (session_edited e page w).state (begun-edited e page w (o, is)) h
+  at (Some o) is = not-begun (shown_session_edited mode e page w).state (begun-shown mode e page w (o, is)) h
 
 -- no watch is set after an edit, where none was
 unwatched-after : (e : TreeEdit) (state : State) → state.client.watched ≡ unwatched → watched_after e state ≡ unwatched
 unwatched-after (edit.SetAttr serial name value) state h = h
 unwatched-after (edit.DropAttr serial name) state h = h
-unwatched-after (edit.SetText serial value) state h = h
+unwatched-after (edit.SetText serial value) state h = at (sight_at state.client.mode serial value state.side.page.tree) where
+  at : (t : TextSight) → watches_of_text t serial state.side.page.tree state.client.watched ≡ unwatched
+  at Unseen = h
+  at Comes = h
+  at Goes = ap (without_subtree serial state.side.page.tree) h ∙ none-left serial state.side.page.tree
+  at Stays = h
 unwatched-after (edit.Attach parent before x) state h = h
 unwatched-after (edit.Detach serial) state h = ap (without_subtree serial state.side.page.tree) h ∙ none-left serial state.side.page.tree
 
@@ -111,37 +131,42 @@ unwatched-after (edit.Detach serial) state h = ap (without_subtree serial state.
 pub edit-is : (state : State) (e : TreeEdit) → HoldsNow state → CanApply state.side.page.next e state.side.page.tree → EditHasTexts e
     → HoldsNow (edit_step e state).state
 edit-is state e is can texts =
+    let mode = state.client.mode in
     let page = state.side.page in
     let w = state.client.session in
     record {
       page = valid-after page e is.page can;
       texts = after-texts e page.tree texts is.texts;
       sheets = is.sheets;
-      session = edit_keeps_session page e w is.page can is.session;
-      off = λ h. edited-off e page w (is.off h);
+      session = shown_edit_keeps_session mode page e w is.page can is.session;
+      off = λ h. shown-off (shown_edit mode e page.tree) (shown_page mode page) w (is.off h);
       css_off = is.css_off;
-      watched = among-after e state is.page can is.watched;
-      none_watched = λ h. unwatched-after e state (is.none_watched (none-before e page w h));
+      all_shown = is.all_shown;
+      watched = among-shown e state is.page can is.watched;
+      none_watched = λ h. unwatched-after e state (is.none_watched (none-before mode e page w h));
     }
 
 pub edit-well : (state : State) (e : TreeEdit) → HoldsNow state → HasNumbers state → suc (length state.client.session.pushed) < 2 ^ 52
     → CanApply state.side.page.next e state.side.page.tree → EditHasTexts e → Well state (edit_step e state) 1 0 0
 edit-well state e is low ids can texts =
+    let mode = state.client.mode in
     let page = state.side.page in
     let w = state.client.session in
+    let z = (shown_session_edited mode e page w).state in
     let next : (after e page).next ≡ page.next = next-stays page e can in
-    let few : length (session_edited e page w).state.pushed ≤ length w.pushed + 1 = edit_draws_one page e w in
+    let few : length z.pushed ≤ length w.pushed + 1 = shown_edit_draws_one mode page e w in
     let done : HoldsNow (edit_step e state).state = edit-is state e is can texts in
     let count : node_count (alone (after e page).tree) ≤ 100000 = count-alone (after e page) done.page in
-    let later : CanTell (after e page)
-    (session_edited e page w).state = record {
+    let later : CanTell (after e page) z = record {
       serials = omega (arith, next, low.serials);
       ids = omega (arith, few, count, ids);
       texts = done.texts;
     } in
+    let later_shown : CanTell (shown_page mode (after e page)) z = shown_can_be_told mode (after e page) z later in
     record {
       now = done;
-      course = edits_are_moves page e w (sheets_shown state) is.page can is.session (can-tell state is low) later (can-sheets state is low);
+      course = shown_edits_are_moves mode page e w (sheets_shown state) is.page can is.session (can-tell state is low) later_shown
+          (can-sheets state is low);
       few_ids = few;
       few_serials = omega (arith, next);
       few_sheets = omega arith;
@@ -317,16 +342,18 @@ with-page-is state page is valid same = record {
   page = valid;
   texts = subst (λ tree. RowsHaveUtf8 (alone tree)) (sym same) is.texts;
   sheets = is.sheets;
-  session = subst (λ tree. IsSession (alone tree) state.client.session) (sym same) is.session;
+  session = subst (λ tree. IsSession (alone (shown_branch state.client.mode tree)) state.client.session) (sym same) is.session;
   off = is.off;
   css_off = is.css_off;
-  watched = subst (λ tree. AreAmong state.client.watched (alone tree)) (sym same) is.watched;
+  all_shown = is.all_shown;
+  watched = subst (λ tree. AreAmong state.client.watched (alone (shown_branch state.client.mode tree))) (sym same) is.watched;
   none_watched = is.none_watched;
 }
 
 -- the client sees the same where only the next serial is another
 pub same-view : (state : State) (page : PageValue) → page.tree ≡ state.side.page.tree → view_of (with_page page state) ≡ view_of state
-same-view state page same = ap (λ tree. seen_by state.client.session (record { tree = tree; next = 0 }) (sheets_shown state)) same
+same-view state page same =
+    ap (λ tree. seen_by state.client.session (record { tree = shown_branch state.client.mode tree; next = 0 }) (sheets_shown state)) same
 
 -- and where it is not the client's
 pub crossed-is : (state : State) → HoldsNow state → HoldsNow (with_crossed state)
@@ -374,6 +401,7 @@ medium-is state medium is = record {
   session = is.session;
   off = is.off;
   css_off = is.css_off;
+  all_shown = is.all_shown;
   watched = is.watched;
   none_watched = is.none_watched;
 }
@@ -411,17 +439,18 @@ and-false : (b : Bool) → (b && false) ≡ false
 and-false true = refl
 and-false false = refl
 
--- the client of a page that went
-pub reset-is : (state : State) (side : Side) (on : Bool) → IsValid side.page → RowsHaveUtf8 (alone side.page.tree)
-    → AreSheetsBelow side.next_sheet side.sheets
-    → HoldsNow (record { side = side; client = client_reset on state.client })
-reset-is state side on valid texts sheets = record {
+-- the client of a page that went, in some mode
+pub reset-is : (state : State) (side : Side) (on : Bool) (mode : Mode) → IsValid side.page → RowsHaveUtf8 (alone side.page.tree)
+    → AreSheetsBelow side.next_sheet side.sheets → (on ≡ false → mode ≡ All)
+    → HoldsNow (record { side = side; client = record (client_reset on state.client) { mode = mode } })
+reset-is state side on mode valid texts sheets all = record {
   page = valid;
   texts = texts;
   sheets = sheets;
-  session = IsSession-reset (alone side.page.tree) state.client.session;
+  session = IsSession-reset (alone (shown_page mode side.page).tree) state.client.session;
   off = λ h. refl;
   css_off = λ h. ap (λ b. state.client.css_on && b) h ∙ and-false state.client.css_on;
+  all_shown = all;
   watched = λ kind serial h. none-set kind serial h;
   none_watched = λ h. refl;
 }
@@ -448,19 +477,20 @@ page-least page valid =
 next-least : (state : State) → HoldsNow state → 1 ≤ state.side.page.next
 next-least state is = page-least state.side.page is.page
 
-pub loaded-is : (serial number : ℕ) (page : LoadedPage) (client : Client) → 1 ≤ serial → 1 ≤ number → CanLoadPage page → PageHasTexts page
+pub loaded-is : (serial number : ℕ) (page : LoadedPage) (client : Client) → 1 ≤ serial → 1 ≤ number
+    → (client.dom_on ≡ false → client.mode ≡ All) → CanLoadPage page → PageHasTexts page
     → HoldsNow (record { side = loaded_side serial number page; client = client_reset client.dom_on client })
-loaded-is serial number page client least some can texts =
-    reset-is (record { side = loaded_side serial number page; client = client }) (loaded_side serial number page) client.dom_on
+loaded-is serial number page client least some all can texts =
+    reset-is (record { side = loaded_side serial number page; client = client }) (loaded_side serial number page) client.dom_on client.mode
     (loaded_valid serial page.nodes least can.nodes)
     ((IsUtf8-nil, IsUtf8-nil, tt), numbered-texts (serial + 1) page.nodes texts.nodes, tt)
-    (sheets-loaded number page.sheets some can.sheets texts.sheets)
+    (sheets-loaded number page.sheets some can.sheets texts.sheets) all
 
 pub load-is : (state : State) (page : LoadedPage) → HoldsNow state → CanLoadPage page → PageHasTexts page
     → HoldsNow (load_step page state).state
 load-is state page is can texts =
     loaded-is state.side.page.next state.side.next_sheet page state.client (next-least state is)
-    (ascend-order 1 state.side.next_sheet state.side.sheets is.sheets.numbers) can texts
+    (ascend-order 1 state.side.next_sheet state.side.sheets is.sheets.numbers) is.all_shown can texts
 
 load-well : (state : State) (page : LoadedPage) → HoldsNow state → HasRoom state → CanLoadPage page → PageHasTexts page
     → Well state (load_step page state) 0 100001 1000
@@ -471,8 +501,8 @@ load-well state page is room can texts =
     let low = room-numbers state room in
     record {
       now = done;
-      course = load-course state.client.session state.client.session state.side.page
-          (load_step page state).state.side.page state.side.sheets (load_step page state).state.side.sheets
+      course = load-course state.client.session state.client.session (page_shown state)
+          (page_shown (load_step page state).state) state.side.sheets (load_step page state).state.side.sheets
           state.side.next_sheet (load_step page state).state.side.next_sheet state.client.dom_on state.client.css_on
           (λ sheets k. told-with state sheets is low k) nothing-told (omega (arith, low.sheets))
           (omega (arith, room.sheets, few)) is.sheets done.sheets is.off is.css_off;

@@ -32,14 +32,14 @@ use Rattle.back_end.specs.declared.node_edits.TreeWish.{TreeWish}
 use Rattle.back_end.specs.declared.node_edits.TreeWish.TheVariants.{One, MoveNode, CopyNode}
 use Rattle.back_end.specs.declared.desk.Desk.{Desk}
 use Rattle.back_end.specs.declared.side.PageSide.{PageSide}
-use Rattle.back_end.specs.States.{State, page_nodes, HoldsNow}
+use Rattle.back_end.specs.States.{State, HoldsNow}
 use Rattle.back_end.specs.OwnMethods.{edit_why}
 use Rattle.back_end.specs.Plans.{node_edit_fault, node_edit_plan, node_put}
 use Rattle.cdp_messages.specs.declared.command.Command.TheVariants.{EditDom}
 use Rattle.back_end.specs.Steps.{Step, refusing, idle, with_page, edit_step, push_step, serial_now, lowered, edit_named, keeping, plan_step}
 use Rattle.back_end.specs.Steps.{planned_by_client, put_answer, unless_fault, node_edit_step, command_step}
 use Rattle.dom_agent.specs.Laws.{RowsHaveUtf8}
-use Rattle.back_end.specs.Seats.{CanPushAny, DeskStandsFor, BothStandFor}
+use Rattle.back_end.specs.Seats.{HasBegun, DeskStandsFor, BothStandFor}
 use Rattle.back_end.proofs.TextLemmas.{branch-texts, form-texts}
 use Rattle.back_end.proofs.PushSteps.{is-begun, begun-is, begun-known}
 use Rattle.back_end.proofs.TreeSteps.{begun-after, named-known}
@@ -161,54 +161,12 @@ first-both : (a b : Bool) → (a && b) ≡ true → a ≡ true
 first-both true b e = refl
 first-both false b e = absurd cc
 
--- a tree that was attached is in the page
-attached-there : (next parent before : ℕ) (x tree : Branch PageRow) → CanApply next (Attach parent before x) tree
-    → has row_serial x.row.serial (alone (after_tree (Attach parent before x) tree)) ≡ true
-attached-there next parent before x tree can =
-    let s = x.row.serial in
-    let tests = clear (edit_faults (Attach parent before x) tree) can.fits in
-    let live : is_live parent tree ≡ true = first-both (is_live parent tree) (is_live_or_0 before tree) (not-true _ tests.0) in
-    let e = changed parent (with_child before x) tree live in
-    let m = alone (after_tree (Attach parent before x) tree) in
-    let count : tally row_serial s m + tally_in row_serial s (node_at parent tree)
-    ≡ tally row_serial s (alone tree) + tally_in row_serial s (with_child before x (node_at parent tree)) = tally-at row_serial s e.1 in
-    let put = tally-inserted {w = x} s (inserted-before before x (node_at parent tree).children) in
-    let own : 0 < tally row_serial s (alone x) = tally_row row_serial s x.row x.children none refl in
-    has-there row_serial s m (omega (arith, count, put, own))
-
-pub put-there : (state : State) (e : TreeWish) → HoldsNow state → node_edit_fault e state.side.page ≡ None → (serial : ℕ)
-    → node_put e state.side.page ≡ Some serial
-    → has row_serial serial (page_nodes (plan_step (node_edit_plan e state.side.page) state).state) ≡ true
-put-there state (One e) is fits serial put = let no : ◌≡◌ {A = Option ℕ} None (Some serial) = put in absurd cc
-put-there state (MoveNode moved parent before) is fits serial put =
-    let page = state.side.page in
-    let same : moved ≡ serial = cc in
-    let x = node_at moved page.tree in
-    let own : x.row.serial ≡ serial = serial-live moved page.tree (move_live moved parent before page.tree fits).0 ∙ same in
-    let last = (after (Detach moved) page).tree in
-    subst (λ (k : ℕ). has row_serial k (alone (after_tree (Attach parent (moved_before moved parent before page.tree) x) last)) ≡ true) own
-    (attached-there (after (Detach moved) page).next parent (moved_before moved parent before page.tree) x last
-    (move-leads page moved parent before is.page fits).1.0)
-put-there state (CopyNode copied parent before) is fits serial put =
-    let page = state.side.page in
-    let same : page.next ≡ serial = cc in
-    let form = form_at copied page.tree in
-    let x = numbered_branch page.next form in
-    subst (λ (k : ℕ). has row_serial k (alone (after_tree (Attach parent before x) page.tree)) ≡ true) same
-    (attached-there (drawn form page).next parent before x page.tree (copy-leads page copied parent before is.page fits).taken.0)
-
--- it can become known
-pub can-push : (state : State) (e : TreeWish) (put : Option ℕ) → HoldsNow state → is_some state.client.session.opened ≡ true
-    → node_edit_fault e state.side.page ≡ None → node_put e state.side.page ≡ put
-    → CanPushAny put (plan_step (node_edit_plan e state.side.page) state).state
-can-push state e None is begun fits h = tt
-can-push state e (Some serial) is begun fits h =
+-- after a plan something is opened, where it was before
+pub can-push : (state : State) (e : TreeWish) → HasBegun state → HasBegun (plan_step (node_edit_plan e state.side.page) state).state
+can-push state e begun =
     let plan = node_edit_plan e state.side.page in
-    record {
-      begun = begun-is (plan_step plan state).state.client.session
-          (begun-after plan.edits (with_page plan.page state) (is-begun state.client.session begun));
-      there = put-there state e is fits serial h;
-    }
+    begun-is (plan_step plan state).state.client.session
+    (begun-after plan.edits (with_page plan.page state) (is-begun state.client.session begun))
 
 -- ---- the answer
 

@@ -1,4 +1,5 @@
 -- A client's edit of the tree: its step is well, and answers its command once.
+use Rattle.std.proofs.Common.{cond}
 use Rattle.std.proofs.Common.{◌≡◌, ℕ, ◌+◌, ◌^◌, ◌<◌, ◌≤◌, Bool, true, false, not, nat_le, List, [], ◌∷◌, length, map, Option, Some, None}
 use Rattle.std.proofs.Common.{Result, Ok, Err, refl, sym, ◌∙◌, ap, subst, arith, lt-ltb}
 use Rattle.std.specs.Prelude.{⊤}
@@ -34,18 +35,19 @@ use Rattle.undo_marks.specs.Saved.{Saved}
 use Rattle.undo_marks.specs.SavedEdits.{saved_of, page_after}
 use Rattle.undo_marks.specs.declared.inverse_lists.Inverse.{Inverse}
 use Rattle.undo_marks.specs.declared.inverse_lists.Inverse.TheVariants.{Tree}
-use Rattle.back_end.specs.States.{State, page_nodes, book_in, view_of, HoldsNow, saved_now, TakesWell, IsState}
+use Rattle.back_end.specs.States.{State, nodes_shown, book_in, view_of, HoldsNow, saved_now, TakesWell, IsState}
 use Rattle.back_end.specs.Plans.{Plan, node_edit_fault, node_edit_plan, node_put}
-use Rattle.back_end.specs.Steps.{Step, with_page, edit_step, edit_steps, push_step, followed_by, id_now, serial_now, of_node, put_node}
+use Rattle.back_end.specs.Steps.{Step, with_page, edit_step, edit_steps, push_step, followed_by, is_shown_now, id_told, serial_now, of_node}
+use Rattle.back_end.specs.Steps.{put_node}
 use Rattle.back_end.specs.Steps.{before_by, lowered, edit_named, put_answer, plan_step, planned_by_client, unless_fault, node_edit_step}
 use Rattle.back_end.specs.Steps.{tree_edit_step}
 use Rattle.back_end.specs.Texts.{EditHasTexts, HasTreeTexts, IsPlainEdit}
 use Rattle.back_end.specs.Laws.{HasRoom, MayAnswer}
 use Rattle.back_end.proofs.TextLemmas.{after-texts, node_at-texts, branch-texts, form-texts}
 use Rattle.back_end.proofs.WellSteps.{Well, HasNumbers, stays, stays-with, then-well, more, well-marked, well-answered}
-use Rattle.back_end.proofs.PushSteps.{IsBegun, begun-known, begun-edited, push-well}
+use Rattle.back_end.proofs.PushSteps.{IsBegun, begun-known, begun-shown, push-well}
 use Rattle.back_end.proofs.StepLemmas.{edit-well, EditsHaveTexts, Planned, planned-edit, drawn-valid, with-page-is, same-view}
-use Rattle.back_end.proofs.TurnAnswers.{AreEvents, openings-events, events-append, edit-events}
+use Rattle.back_end.proofs.TurnAnswers.{AreEvents, openings-events, events-append, shown-edit-events}
 use Rattle.back_end.proofs.GroupCounts.{trees-in-length}
 use Rattle.back_end.proofs.KeptSteps.{Recalls, recalls-edited, recalls-more, recalls-on, steps-well}
 use Rattle.back_end.proofs.AnsweredSteps.{Answered, reply-answered, refusal-answered}
@@ -72,13 +74,14 @@ all-well (e ∷ es) state is low ids can texts =
 
 pub begun-after : (es : List TreeEdit) (state : State) → IsBegun state.client.session → IsBegun (edit_steps es state).state.client.session
 begun-after [] state begun = begun
-begun-after (e ∷ es) state begun = begun-after es (edit_step e state).state (begun-edited e state.side.page state.client.session begun)
+begun-after (e ∷ es) state begun = begun-after es (edit_step e state).state
+    (begun-shown state.client.mode e state.side.page state.client.session begun)
 
 all-events : (es : List TreeEdit) (state : State) → AreEvents (edit_steps es state).moves
 all-events [] state = tt
 all-events (e ∷ es) state =
     events-append (edit_step e state).moves (edit_steps es (edit_step e state).state).moves
-    (edit-events e state.side.page state.client.session) (all-events es (edit_step e state).state)
+    (shown-edit-events state.client.mode e state.side.page state.client.session) (all-events es (edit_step e state).state)
 
 -- ---- what an edit is
 
@@ -313,6 +316,11 @@ numbers-after room most well = record {
   sheets = omega (arith, room.sheets, well.few_sheets);
 }
 
+-- an id that is told is none that was not given
+told-below : (shown : Bool) (id n : ℕ) → id ≤ n → cond shown id 0 ≤ n
+told-below true id n h = h
+told-below false id n h = omega arith
+
 answer-well : (id : ℕ) (put : Option ℕ) (before : State) (done : Step) → HasRoom before → IsBegun done.state.client.session
     → is_counted id ≡ true → Well before done 2 100000 0
     → Well before (put_answer id put done) 100002 100000 0
@@ -324,16 +332,16 @@ answer-well id (Some serial) before done room begun small well =
     let shown : Well before (followed_by done (push_step serial)) 100002 100000 0 = then-well well pushed in
     let low : HasNumbers (push_step serial done.state).state = numbers-after room (omega arith) shown in
     let w : Session = (push_step serial done.state).state.client.session in
-    let below : session_ids w serial
-    ≤ length w.pushed = ids-below (page_nodes (push_step serial done.state).state) w serial shown.now.session in
+    let told = id_told (push_step serial done.state).state serial in
+    let below : told ≤ length w.pushed = told-below (is_shown_now (push_step serial done.state).state serial) (session_ids w serial)
+    (length w.pushed) (ids-below (nodes_shown (push_step serial done.state).state) w serial shown.now.session) in
     more (omega arith) (omega arith) (omega arith)
-    (then-well shown (stays-with (replied id (NodeId (session_ids w serial))) (push_step serial done.state).state shown.now low (
+    (then-well shown (stays-with (replied id (NodeId told)) (push_step serial done.state).state shown.now low (
       refl,
       record {
         id_fits = small;
         plain = refl;
-        fits = and_from (is_small (session_ids w serial)) true
-            (lt-ltb (session_ids w serial) (2 ^ 53) (omega (arith, below, low.ids))) refl;
+        fits = and_from (is_small told) true (lt-ltb told (2 ^ 53) (omega (arith, below, low.ids))) refl;
         texts = tt;
         levels = omega arith;
       },
@@ -367,7 +375,7 @@ answer-answered method sheet id None before done can are well recalls =
 answer-answered method sheet id (Some serial) before done can are well recalls =
     let shown : Step = followed_by done (push_step serial) in
     let events : AreEvents shown.moves = events-append done.moves (push_step serial done.state).moves are (openings-events _) in
-    reply-answered method sheet id 2 (NodeId (id_now shown.state serial)) before shown (can (id_now shown.state serial)) events
+    reply-answered method sheet id 2 (NodeId (id_told shown.state serial)) before shown (can (id_told shown.state serial)) events
     (steps-well {ids = 100002} (omega arith) (omega arith) (more (omega arith) (omega arith) (omega arith) well) recalls) recalls.few_edits
 
 unless-answered : (method : List ℕ) (sheet : Option ℕ) (id : ℕ) (fault : Option EditFault) (e : TreeWish) (state : State)

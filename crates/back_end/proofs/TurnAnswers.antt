@@ -14,12 +14,16 @@ use Rattle.client_views.specs.Moves.{failed}
 use Rattle.dom_agent.specs.Keepers.{session_keeper}
 use Rattle.dom_agent.specs.Requests.{Showing, pushed, opening_moves}
 use Rattle.dom_agent.specs.Edits.{Edited}
+use Rattle.shown_pages.specs.declared.modes.Mode.{Mode}
+use Rattle.shown_pages.specs.ShownPages.{shown_page}
+use Rattle.shown_pages.specs.ShownEdits.{shown_edit}
 use Rattle.dom_agent.specs.EditLaws.{session_edited}
+use Rattle.dom_agent.specs.ModeEdits.{edited_if, shown_session_edited}
 use Rattle.dom_breakpoints.specs.declared.pauses.Pause.{Pause}
 use Rattle.dom_breakpoints.specs.Pauses.{pause_of}
 use Rattle.back_end.specs.declared.faults.ActFault.{ActFault}
 use Rattle.back_end.specs.Sheets.{SheetChange, leaves, comes}
-use Rattle.back_end.specs.States.{Side, State, page_nodes, book_in}
+use Rattle.back_end.specs.States.{Side, State, page_shown, nodes_shown, book_in}
 use Rattle.back_end.specs.Plans.{Deed, edits, restyles, shows_on, act_fault, act_plan}
 use Rattle.back_end.specs.Steps.{edit_step, push_step, push_steps, met_step, followed_by, pause_step, script_step, script_steps, with_page}
 use Rattle.back_end.specs.Steps.{sheet_move, sheet_step, sheet_steps, moves_gone, moves_come, deed_step, planned_step, act_step, load_step}
@@ -120,7 +124,7 @@ gone-events : (b d : Bool) (m k : Move) → IsEvent m → IsEvent k → AreEvent
 gone-events true d m k h j = (h, tt)
 gone-events false d m k h j = one-event d (k ∷ []) (j, tt)
 
-pub edit-events : (e : TreeEdit) (page : PageValue) (w : Session) → AreEvents (session_edited e page w).moves
+edit-events : (e : TreeEdit) (page : PageValue) (w : Session) → AreEvents (session_edited e page w).moves
 edit-events (SetAttr serial name value) page w = one-event (knows w (alone page.tree) serial) _ (tt, tt)
 edit-events (DropAttr serial name) page w = one-event (knows w (alone page.tree) serial) _ (tt, tt)
 edit-events (SetText serial value) page w = one-event (knows w (alone page.tree) serial) _ (tt, tt)
@@ -128,6 +132,13 @@ edit-events (Attach parent before x) page w = came-events (is_open w.opened pare
 edit-events (Detach serial) page w =
     let parent = parent_at serial page.tree in
     gone-events (is_open w.opened parent) (knows w (alone page.tree) parent) _ _ tt tt
+
+edit-if-events : (o : Option TreeEdit) (page : PageValue) (w : Session) → AreEvents (edited_if (λ f. session_edited f page) o w).moves
+edit-if-events None page w = tt
+edit-if-events (Some e) page w = edit-events e page w
+
+pub shown-edit-events : (mode : Mode) (e : TreeEdit) (page : PageValue) (w : Session) → AreEvents (shown_session_edited mode e page w).moves
+shown-edit-events mode e page w = edit-if-events (shown_edit mode e page.tree) (shown_page mode page) w
 
 -- ---- pauses, and a script's edits
 
@@ -137,7 +148,7 @@ openings-events (x ∷ xs) = (tt, openings-events xs)
 
 push-events : (serial : ℕ) (state : State) → AreEvents (push_step serial state).moves
 push-events serial state = openings-events
-    (pushed (session_keeper (page_nodes state)) state.side.page.tree serial state.client.session).shown
+    (pushed (session_keeper (nodes_shown state)) (page_shown state).tree serial state.client.session).shown
 
 pushes-events : (serial : Option ℕ) (state : State) → AreEvents (push_steps serial state).moves
 pushes-events None state = tt
@@ -157,7 +168,7 @@ script-events e state =
     let pause : Option Pause = pause_of state.client.watched state.side.page.tree e in
     let paused = pause_step pause state in
     events-append paused.moves (edit_step e paused.state).moves (pause-events pause state)
-    (edit-events e paused.state.side.page paused.state.client.session)
+    (shown-edit-events paused.state.client.mode e paused.state.side.page paused.state.client.session)
 
 scripts-events : (es : List TreeEdit) (state : State) → AreEvents (script_steps es state).moves
 scripts-events [] state = tt

@@ -273,6 +273,7 @@ put-stands d s s1 state x stands t page_is sheets_is =
       medium_is = ap (λ (b : NumberedBook). b.medium) sheets_is ∙ stands.medium_is;
       on_is = stands.on_is;
       css_is = stands.css_is;
+      mode_is = stands.mode_is;
       watches_are = stands.watches_are;
       searches_are = stands.searches_are;
       stands = stands.stands;

@@ -31,7 +31,7 @@ use Rattle.back_end.specs.Laws.{HasRoom, MayAnswer, UndoRestores}
 use Rattle.back_end.proofs.WellSteps.{Well, HasNumbers, room-numbers, stays, then-well, more, well-marked, well-answered}
 use Rattle.back_end.proofs.StepLemmas.{edit-is, edit-well}
 use Rattle.back_end.proofs.SpliceSteps.{splice-is, splice-well, splice-events, splice-saved}
-use Rattle.back_end.proofs.TurnAnswers.{AreEvents, events-append, edit-events}
+use Rattle.back_end.proofs.TurnAnswers.{AreEvents, events-append, shown-edit-events}
 use Rattle.back_end.proofs.HistoryLemmas.{kept_in, history-kept, Undoes, Redoes, undo-hands, redo-hands, undo-hands-none, redo-hands-none}
 use Rattle.back_end.proofs.GroupCounts.{trees_in, trees-in-length, SameCounts, undone-counts, redone-counts, FewEdits, undo-few, redo-few}
 use Rattle.back_end.proofs.GroupCounts.{no-past, no-future}
@@ -183,7 +183,7 @@ kept-well (e ∷ es) state is low ids all =
     (taken-rest e es state is all)))
 
 one-events : (e : Inverse) (state : State) → AreEvents (kept_step e state).moves
-one-events (Tree e) state = edit-events e state.side.page state.client.session
+one-events (Tree e) state = shown-edit-events state.client.mode e state.side.page state.client.session
 one-events (Sheet s) state = splice-events s state
 
 pub kept-events : (es : List Inverse) (state : State) → AreEvents (kept_steps es state).moves

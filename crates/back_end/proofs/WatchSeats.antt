@@ -5,7 +5,7 @@ use Rattle.node_binding.specs.Bindings.{Stands}
 use Rattle.cdp_messages.specs.declared.command.Why.TheVariants.{UnknownNode}
 use Rattle.client_views.specs.Moves.{frames_of_moves}
 use Rattle.dom_breakpoints.specs.Watched.{Watched}
-use Rattle.back_end.specs.States.{State, page_nodes}
+use Rattle.back_end.specs.States.{State, nodes_shown}
 use Rattle.cdp_messages.specs.declared.command.Command.{Command}
 use Rattle.back_end.specs.Steps.{Step, refusing, serial_now, watch_step, served_step, command_step, needs_css}
 use Rattle.back_end.specs.declared.desk.Desk.{Desk}
@@ -50,7 +50,8 @@ module _ (d : Desk) (s : PageSide) (state : State) (id : ℕ) (command : Command
         medium_is = stands.medium_is;
         on_is = on_is ∙ stands.on_is;
         css_is = css_is ∙ stands.css_is;
+        mode_is = ap (λ (b : BindingValue). b.mode) agent_is ∙ stands.mode_is;
         watches_are = watches_is ∙ ap (change serial) stands.watches_are;
         searches_are = searches_is ∙ stands.searches_are;
-        stands = subst (λ a. Stands (page_nodes state) state.client.session a) (sym agent_is) stands.stands;
+        stands = subst (λ a. Stands (nodes_shown state) state.client.session a) (sym agent_is) stands.stands;
       })

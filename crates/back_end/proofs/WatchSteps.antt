@@ -19,7 +19,7 @@ use Rattle.client_views.specs.Moves.{replied, CanBeTold, ends, goes}
 use Rattle.node_tree.specs.declared.watches.WatchKind.{WatchKind}
 use Rattle.node_tree.specs.declared.watches.WatchKind.TheVariants.{Subtree, Attribute, Removed}
 use Rattle.dom_breakpoints.specs.Watched.{Serials, Watched, is_watched, with_watch, without_watch}
-use Rattle.back_end.specs.States.{State, page_nodes, view_of, HoldsNow}
+use Rattle.back_end.specs.States.{State, nodes_shown, view_of, HoldsNow}
 use Rattle.back_end.specs.Steps.{with_client, serial_now, watch_step}
 use Rattle.back_end.proofs.PushSteps.{not-begun, begun-known}
 use Rattle.back_end.proofs.WellSteps.{Well, HasNumbers, told-view}
@@ -68,16 +68,16 @@ without-adds Removed Removed node s w h = inr (removed w.removed node s h)
 
 -- ---- known nodes
 
--- a known node is one of the page
-there-by : (o : Option (ℕ → Bool)) (n : Nodes PageRow) (p : ℕ → Bool) (s : ℕ) → 0 < times s (known_by o n) → has row_serial s n ≡ true
-there-by None n p s h = absurd (omega (arith, h))
-there-by (Some o) n p s h = has-there row_serial s n (omega (arith, h, known-tally o s n))
+-- a known node is one of those that are shown
+pub there-by : (o : Option (ℕ → Bool)) (n : Nodes PageRow) (s : ℕ) → 0 < times s (known_by o n) → has row_serial s n ≡ true
+there-by None n s h = absurd (omega (arith, h))
+there-by (Some o) n s h = has-there row_serial s n (omega (arith, h, known-tally o s n))
 
-pub known-there : (state : State) (id serial : ℕ) → serial_now state id ≡ Some serial → has row_serial serial (page_nodes state) ≡ true
+pub known-there : (state : State) (id serial : ℕ) → serial_now state id ≡ Some serial → has row_serial serial (nodes_shown state) ≡ true
 known-there state id serial h =
     let w : Session = state.client.session in
     let p = λ (s : ℕ). session_ids w s == id in
-    there-by w.opened (page_nodes state) p serial (find-there p (known_by w.opened (page_nodes state)) serial h).0
+    there-by w.opened (nodes_shown state) serial (find-there p (known_by w.opened (nodes_shown state)) serial h).0
 
 -- ---- the step
 
@@ -95,8 +95,9 @@ watches-are change state id serial adds h is = record {
   session = is.session;
   off = is.off;
   css_off = is.css_off;
+  all_shown = is.all_shown;
   watched = λ kind s e.
-      ⊎_elim (λ same. subst (λ (k : ℕ). has row_serial k (page_nodes state) ≡ true) (sym same) (known-there state id serial h))
+      ⊎_elim (λ same. subst (λ (k : ℕ). has row_serial k (nodes_shown state) ≡ true) (sym same) (known-there state id serial h))
       (λ was. is.watched kind s was)
       (adds kind serial s state.client.watched e);
   none_watched = λ e. not-begun state.client.session (begun-known state.client.session state id serial h) e;

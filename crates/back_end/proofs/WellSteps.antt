@@ -15,7 +15,10 @@ use Rattle.undo_marks.specs.Marks.{Marks}
 use Rattle.undo_marks.specs.Changes.{HistoryEntry as Entry}
 use Rattle.undo_marks.specs.Saved.{Saved}
 use Rattle.undo_marks.specs.declared.inverse_lists.Inverse.{Inverse}
-use Rattle.back_end.specs.States.{State, page_nodes, sheets_shown, view_of, HoldsNow}
+use Rattle.page_tree.specs.Pages.{IsValid}
+use Rattle.shown_pages.proofs.ShownTrees.{shown-valid}
+use Rattle.dom_agent.proofs.ModeLemmas.{shown_can_be_told}
+use Rattle.back_end.specs.States.{State, page_nodes, page_shown, sheets_shown, view_of, HoldsNow}
 use Rattle.back_end.specs.Steps.{Step, with_marks, answering}
 use Rattle.back_end.specs.Laws.{HasRoom}
 use Rattle.back_end.proofs.SheetLemmas.{can-tell-sheets, below-none}
@@ -53,16 +56,22 @@ shown-below state is = at state.client.css_on where
 pub can-sheets : (state : State) → HoldsNow state → HasNumbers state → CanTellSheets (sheets_shown state)
 can-sheets state is low = can-tell-sheets state.side.next_sheet (sheets_shown state) (omega (arith, low.sheets)) (shown-below state is)
 
-pub can-tell : (state : State) → HoldsNow state → HasNumbers state → CanTell state.side.page state.client.session
+-- the page as it is shown is a valid one
+pub valid-shown : (state : State) → HoldsNow state → IsValid (page_shown state)
+valid-shown state is = shown-valid state.client.mode state.side.page is.page
+
+pub can-tell : (state : State) → HoldsNow state → HasNumbers state → CanTell (page_shown state) state.client.session
 can-tell state is low =
     let few : node_count (page_nodes state) ≤ 100000 = count-alone state.side.page is.page in
-    record { serials = omega (arith, low.serials); ids = omega (arith, low.ids, few); texts = is.texts }
+    shown_can_be_told state.client.mode state.side.page state.client.session
+    (record { serials = omega (arith, low.serials); ids = omega (arith, low.ids, few); texts = is.texts })
 
--- the page with any sheets
+-- the page as it is shown, with any sheets
 pub told-with : (state : State) (sheets : List ShownSheet) → HoldsNow state → HasNumbers state → CanTellSheets sheets
-    → CanBeTold (seen_by state.client.session state.side.page sheets)
+    → CanBeTold (seen_by state.client.session (page_shown state) sheets)
 told-with state sheets is low can =
-    can_say state.side.page state.client.session sheets is.page (can-tell state is low) can state.client.session is.session (omega arith)
+    can_say (page_shown state) state.client.session sheets (valid-shown state is) (can-tell state is low) can state.client.session
+    is.session (omega arith)
 
 pub told-view : (state : State) → HoldsNow state → HasNumbers state → CanBeTold (view_of state)
 told-view state is low = told-with state (sheets_shown state) is low (can-sheets state is low)
@@ -125,6 +134,7 @@ now-marked marks state is = record {
   session = is.session;
   off = is.off;
   css_off = is.css_off;
+  all_shown = is.all_shown;
   watched = is.watched;
   none_watched = is.none_watched;
 }

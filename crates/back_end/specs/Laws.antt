@@ -71,7 +71,7 @@ most_splices (style.SetMediaText sheet range text) = 1
 
 -- how many edits a command comes to at most
 abbrev pub most_edits : Command → ℕ
-most_edits DomEnable = 0
+most_edits (DomEnable word) = 0
 most_edits DomDisable = 0
 most_edits (AskDom ask) = 0
 most_edits (EditDom edit) = 2

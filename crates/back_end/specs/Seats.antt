@@ -1,10 +1,10 @@
 -- A seat with its side that stands for a state.
-use Rattle.std.specs.Prelude.{◌≡◌, ℕ, ◌+◌, ◌<◌, Bool, true, false, [], Option, Some, None, is_some, ⊤}
+use Rattle.std.specs.Prelude.{◌≡◌, ℕ, ◌+◌, ◌<◌, Bool, true, false, cond, [], Option, Some, None, is_some}
 use Rattle.node_tree.specs.Numbers.{drawn_before_step, kept_before_step}
 use Rattle.node_tree.specs.Nodes.{Nodes, none}
 use Rattle.node_tree.specs.Keys.{has}
 use Rattle.page_tree.specs.Pages.{PageRow, row_serial}
-use Rattle.node_binding.specs.Bindings.{Stands}
+use Rattle.node_binding.specs.Bindings.{BindingValue, Stands, in_mode}
 use Rattle.node_tree.specs.declared.watches.WatchKind.TheVariants.{Subtree, Attribute, Removed}
 use Rattle.dom_breakpoints.specs.declared.pauses.Pause.{Pause}
 use Rattle.dom_breakpoints.specs.Watched.{Watched, is_watched}
@@ -13,14 +13,16 @@ use Rattle.page_forms.specs.Pages.{LoadedPage, loaded_page}
 use Rattle.page_forms.specs.Mediums.{usual_medium}
 use Rattle.undo_marks.specs.Marks.{Marks, entry_count}
 use Rattle.undo_marks.specs.declared.inverse_lists.Inverse.{Inverse}
-use Rattle.back_end.specs.States.{State, HoldsNow, Keeps, page_nodes, book_in}
+use Rattle.back_end.specs.States.{State, HoldsNow, Keeps, nodes_shown, book_in}
 use Rattle.dom_search.specs.Searches.{next_search}
+use Rattle.cdp_messages.specs.declared.command.WhitespaceWord.{WhitespaceWord}
+use Rattle.back_end.specs.Steps.{mode_asked}
 use Rattle.back_end.specs.declared.desk.Desk.{Desk}
 use Rattle.back_end.specs.declared.seat.Seat.{Seat}
 use Rattle.back_end.specs.declared.side.PageSide.{PageSide}
 
--- The page and its sheets are the state's, and each domain is on where it is on in the state; the binding has the session, and the
--- watches and what was found are the state's. Of the history nothing is said.
+-- The page and its sheets are the state's, and each domain is on where it is on in the state; the agent shows the nodes that the mode
+-- of the state shows, and its binding has the session; the watches and what was found are the state's. Of the history nothing is said.
 pub record DeskStandsFor (desk : Desk) (side : PageSide) (state : State) : Type 0 where
   pub now : HoldsNow state
   pub page_is : side.page ≡ state.side.page
@@ -29,7 +31,8 @@ pub record DeskStandsFor (desk : Desk) (side : PageSide) (state : State) : Type 
   pub medium_is : side.sheets.medium ≡ state.side.medium
   pub on_is : desk.is_on ≡ state.client.dom_on
   pub css_is : desk.css ≡ state.client.css_on
-  pub stands : Stands (page_nodes state) state.client.session desk.agent
+  pub mode_is : desk.agent.mode ≡ state.client.mode
+  pub stands : Stands (nodes_shown state) state.client.session desk.agent
   pub watches_are : desk.watches ≡ state.client.watched
   pub searches_are : desk.searches ≡ state.client.searches
 
@@ -62,17 +65,17 @@ pub record HasRoomLeft (seat : Seat) (side : PageSide) : Type 0 where
   pub numbers : HasNumbersLeft seat.desk side
   pub edits : edits_in seat.history < kept_before_step
 
+-- ---- which nodes are shown
+
+-- the agent of a client whose DOM comes on: where it was off, it is in the mode that is asked for
+abbrev pub enabled_agent : Bool → Option WhitespaceWord → BindingValue → BindingValue
+enabled_agent was word b = cond was b (in_mode (mode_asked word) b)
+
 -- ---- nodes that become known
 
--- A node can become known: something is opened, and the node is one of the page.
-pub record CanPush (serial : ℕ) (state : State) : Type 0 where
-  pub begun : is_some state.client.session.opened ≡ true
-  pub there : has row_serial serial (page_nodes state) ≡ true
-
--- the node that is named can become known, where there is one
-abbrev pub CanPushAny : Option ℕ → State → Type 0
-CanPushAny None state = ⊤
-CanPushAny (Some serial) state = CanPush serial state
+-- something is opened, so that nodes can become known
+abbrev pub HasBegun : State → Type 0
+HasBegun state = is_some state.client.session.opened ≡ true
 
 -- the pauses by each kind of watch
 abbrev pub attribute_pause : ℕ → Pause

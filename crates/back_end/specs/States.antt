@@ -3,6 +3,9 @@ use Rattle.std.specs.Prelude.{◌≡◌, ℕ, ◌+◌, Bool, true, false, cond, 
 use Rattle.node_tree.specs.Nodes.{Nodes, alone}
 use Rattle.node_tree.specs.Keys.{has}
 use Rattle.page_tree.specs.Pages.{PageRow, row_serial, PageValue, IsValid, loaded}
+use Rattle.shown_pages.specs.declared.modes.Mode.{Mode}
+use Rattle.shown_pages.specs.declared.modes.Mode.TheVariants.{All}
+use Rattle.shown_pages.specs.ShownPages.{shown_page}
 use Rattle.node_binding.specs.Sessions.{Session, IsSession, begun}
 use Rattle.client_views.specs.Views.{ShownSheet, View}
 use Rattle.node_tree.specs.declared.watches.WatchKind.{WatchKind}
@@ -31,11 +34,12 @@ pub record Side : Type 0 where
   pub next_sheet : ℕ
   pub medium : Medium
 
--- What one client has of the page: which domains are on, what is opened and the ids, the watched nodes, the history of its edits, by
--- the pages before and after each, and what its searches found.
+-- What one client has of the page: which domains are on, which nodes it is shown, what is opened and the ids, the watched nodes, the
+-- history of its edits, by the pages before and after each, and what its searches found.
 pub record Client : Type 0 where
   pub dom_on : Bool
   pub css_on : Bool
+  pub mode : Mode
   pub session : Session
   pub watched : Watched
   pub marks : Marks (Entry Saved Inverse)
@@ -50,6 +54,14 @@ pub record State : Type 0 where
 abbrev pub page_nodes : State → Nodes PageRow
 page_nodes state = alone state.side.page.tree
 
+-- the page as its client is shown it
+abbrev pub page_shown : State → PageValue
+page_shown state = shown_page state.client.mode state.side.page
+
+-- the nodes that the client is shown, the document first
+abbrev pub nodes_shown : State → Nodes PageRow
+nodes_shown state = alone (page_shown state).tree
+
 -- the page's sheets as a book
 abbrev pub book_in : State → List SheetEntry
 book_in state = as_book state.side.sheets
@@ -62,13 +74,21 @@ styled_in state = styled_page state.side.page.tree (book_in state) state.side.me
 abbrev pub sheets_shown : State → List ShownSheet
 sheets_shown state = cond state.client.css_on state.side.sheets []
 
--- what the client sees: the page cut to the opened nodes, with their ids; and the sheets
+-- what the client sees: the page as it is shown, cut to the opened nodes, with their ids; and the sheets
 abbrev pub view_of : State → View
-view_of state = seen_by state.client.session state.side.page (sheets_shown state)
+view_of state = seen_by state.client.session (page_shown state) (sheets_shown state)
 
--- a client that has asked for nothing yet
+-- a client that has asked for nothing yet; it is shown all nodes
 abbrev pub new_client : Client
-new_client = record { dom_on = false; css_on = false; session = begun; watched = unwatched; marks = no_marks; searches = no_searches }
+new_client = record {
+  dom_on = false;
+  css_on = false;
+  mode = All;
+  session = begun;
+  watched = unwatched;
+  marks = no_marks;
+  searches = no_searches;
+}
 
 -- a page that is loaded, whose serials and numbers of sheets go on from these
 abbrev pub loaded_side : ℕ → ℕ → LoadedPage → Side
@@ -90,16 +110,17 @@ abbrev pub AreAmong : Watched → Nodes PageRow → Type 0
 AreAmong w n = (kind : WatchKind) (serial : ℕ) → is_watched kind w serial ≡ true → has row_serial serial n ≡ true
 
 -- What holds of a state at each moment, in the midst of a command too: the page is valid and its texts are UTF-8, and so are its
--- sheets; the session is one of this page; while DOM is off, CSS is off and nothing is known; each watched node is one of the page,
--- and where nothing is known none is watched.
+-- sheets; the session is one of the page as it is shown; while DOM is off, CSS is off, nothing is known and all nodes are shown; each
+-- watched node is one that is shown, and where nothing is known none is watched.
 pub record HoldsNow (state : State) : Type 0 where
   pub page : IsValid state.side.page
   pub texts : RowsHaveUtf8 (page_nodes state)
   pub sheets : AreSheetsBelow state.side.next_sheet state.side.sheets
-  pub session : IsSession (page_nodes state) state.client.session
+  pub session : IsSession (nodes_shown state) state.client.session
   pub off : state.client.dom_on ≡ false → state.client.session.opened ≡ None
   pub css_off : state.client.dom_on ≡ false → state.client.css_on ≡ false
-  pub watched : AreAmong state.client.watched (page_nodes state)
+  pub all_shown : state.client.dom_on ≡ false → state.client.mode ≡ All
+  pub watched : AreAmong state.client.watched (nodes_shown state)
   pub none_watched : state.client.session.opened ≡ None → state.client.watched ≡ unwatched
 
 -- ---- the history of a client's edits

@@ -1,13 +1,13 @@
 -- The steps of a state: on each frame that comes up, and those that a script makes itself. A step gives the state after it, and
 -- the moves by which the client's view comes to what it is then.
 use Rattle.std.specs.Prelude.{ℕ, ◌+◌, Bool, true, false, not, ◌&&◌, ◌||◌, cond, List, [], ◌∷◌, ◌++◌, map, reverse, Option, Some, None}
-use Rattle.std.specs.Prelude.{length, is_some}
+use Rattle.std.specs.Prelude.{length, filter, is_some}
 use Rattle.std.specs.FinMap as table
 use Rattle.std.specs.Prelude.{unwrap_or, option_map, Result, Ok, Err}
 use Rattle.std.specs.Char.{to_ascii_lowercase}
 use Rattle.node_tree.specs.Nodes.{Branch}
 use Rattle.node_tree.specs.Labels.{is_element}
-use Rattle.page_tree.specs.Pages.{PageRow, PageValue}
+use Rattle.page_tree.specs.Pages.{PageRow, PageValue, find_in}
 use Rattle.page_tree.specs.Edits.{after}
 use Rattle.page_tree.specs.EditFaults.{first_fault}
 use Rattle.page_tree.specs.declared.edit_faults.EditFault.{EditFault}
@@ -15,7 +15,14 @@ use Rattle.page_tree.specs.declared.edits.TreeEdit.{TreeEdit}
 use Rattle.page_tree.specs.declared.edits.TreeEdit.TheVariants.{SetAttr, DropAttr, SetText, Attach, Detach}
 use Rattle.page_forms.specs.declared.acts.Act.{Act}
 use Rattle.page_forms.specs.Pages.{LoadedPage}
+use Rattle.shown_pages.specs.declared.modes.Mode.{Mode}
+use Rattle.shown_pages.specs.declared.modes.Mode.TheVariants.{All, NoBlank}
+use Rattle.shown_pages.specs.declared.sights.TextSight.{TextSight}
+use Rattle.shown_pages.specs.declared.sights.TextSight.TheVariants.{Unseen, Comes, Goes, Stays}
+use Rattle.shown_pages.specs.ShownEdits.{sight_at}
 use Rattle.node_binding.specs.Sessions.{Session, is_open, session_ids, serial_at, reset}
+use Rattle.cdp_messages.specs.declared.command.WhitespaceWord.{WhitespaceWord}
+use Rattle.cdp_messages.specs.declared.command.WhitespaceWord.TheVariants.{Hidden, Shown}
 use Rattle.cdp_messages.specs.declared.command.Why.{Why}
 use Rattle.cdp_messages.specs.declared.command.Why.TheVariants.{DomOff, CssOff, UnknownNode, NotElement, NoSheet, Crossed, NotPushed}
 use Rattle.cdp_messages.specs.declared.command.Why.TheVariants.{NoSearch, BadSearchRange}
@@ -50,7 +57,7 @@ use Rattle.style_edits.specs.Splices.{after_splice}
 use Rattle.dom_agent.specs.Keepers.{session_keeper}
 use Rattle.dom_agent.specs.Requests.{pushed, opening_moves, Outcome, shows_root, served, refused, known_node, moves_of}
 use Rattle.dom_agent.specs.Edits.{Edited}
-use Rattle.dom_agent.specs.EditLaws.{session_edited}
+use Rattle.dom_agent.specs.ModeEdits.{shown_session_edited}
 use Rattle.dom_agent.specs.Laws.{session_outcome}
 use Rattle.node_tree.specs.declared.watches.WatchKind.{WatchKind}
 use Rattle.node_tree.specs.declared.watches.WatchKind.TheVariants as watch
@@ -70,7 +77,7 @@ use Rattle.back_end.specs.declared.node_edits.TreeWish.{TreeWish}
 use Rattle.back_end.specs.declared.node_edits.TreeWish.TheVariants.{One, MoveNode, CopyNode}
 use Rattle.back_end.specs.Sheets.{shown_sheet, SheetChange, leaves, comes}
 use Rattle.media_rules.specs.declared.medium.Medium.{Medium}
-use Rattle.back_end.specs.States.{Side, Client, State, page_nodes, book_in, styled_in, new_client, loaded_side, saved_now}
+use Rattle.back_end.specs.States.{Side, Client, State, page_shown, nodes_shown, book_in, styled_in, new_client, loaded_side, saved_now}
 use Rattle.back_end.specs.Plans.{Plan, node_edit_fault, node_edit_plan, node_put, Deed, edits, restyles, shows_on, one_edit, edit_fault}
 use Rattle.back_end.specs.Plans.{act_fault, act_plan}
 use Rattle.back_end.specs.OwnMethods.{edit_why, sheet_why, load_asked, act_judged, act_asked}
@@ -110,11 +117,16 @@ answering id done = replying id Nothing done
 
 -- ---- what becomes known
 
--- a node and all above it become known: each ancestor that is not opened yet is opened, from the top down
+-- a node and all above it become known: each ancestor that is not opened yet is opened, from the top down; nothing becomes known where
+-- the node is hidden
 abbrev pub push_step : ℕ → State → Step
 push_step serial state =
-    let p = pushed (session_keeper (page_nodes state)) state.side.page.tree serial state.client.session in
+    let p = pushed (session_keeper (nodes_shown state)) (page_shown state).tree serial state.client.session in
     record { state = with_client (record state.client { session = p.state }) state; moves = opening_moves p.shown }
+
+-- the client is shown a node of that serial
+abbrev pub is_shown_now : State → ℕ → Bool
+is_shown_now state serial = is_some (find_in serial (page_shown state).tree)
 
 -- the node with that serial and all above it become known, where there is one
 abbrev pub push_steps : Option ℕ → State → Step
@@ -125,27 +137,38 @@ push_steps (Some serial) state = push_step serial state
 abbrev pub id_now : State → ℕ → ℕ
 id_now state serial = session_ids state.client.session serial
 
+-- the id that is told of a node: that of a known one; 0 where it is hidden
+abbrev pub id_told : State → ℕ → ℕ
+id_told state serial = cond (is_shown_now state serial) (id_now state serial) 0
+
 -- the serial of the known node with that id
 abbrev pub serial_now : State → ℕ → Option ℕ
-serial_now state id = serial_at state.client.session (page_nodes state) id
+serial_now state id = serial_at state.client.session (nodes_shown state) id
 
 -- ---- edits of the page
 
--- the watches that are left after an edit of that tree: those of a tree that goes are dropped
-abbrev pub watches_left : TreeEdit → Branch PageRow → Watched → Watched
-watches_left (SetAttr node name value) tree w = w
-watches_left (DropAttr node name) tree w = w
-watches_left (SetText node value) tree w = w
-watches_left (Attach parent before attached) tree w = w
-watches_left (Detach node) tree w = without_subtree node tree w
+-- the watches that are left after the setting of a text, by how it is seen: those of a text that hides itself are dropped
+abbrev pub watches_of_text : TextSight → ℕ → Branch PageRow → Watched → Watched
+watches_of_text Unseen node tree w = w
+watches_of_text Comes node tree w = w
+watches_of_text Goes node tree w = without_subtree node tree w
+watches_of_text Stays node tree w = w
+
+-- the watches that are left after an edit of that tree: those of a tree that goes are dropped, and those of a text that hides itself
+abbrev pub watches_left : Mode → TreeEdit → Branch PageRow → Watched → Watched
+watches_left mode (SetAttr node name value) tree w = w
+watches_left mode (DropAttr node name) tree w = w
+watches_left mode (SetText node value) tree w = watches_of_text (sight_at mode node value tree) node tree w
+watches_left mode (Attach parent before attached) tree w = w
+watches_left mode (Detach node) tree w = without_subtree node tree w
 
 -- the watches of the state's client that are left after an edit of the page
 abbrev pub watched_after : TreeEdit → State → Watched
-watched_after e state = watches_left e state.side.page.tree state.client.watched
+watched_after e state = watches_left state.client.mode e state.side.page.tree state.client.watched
 
 -- what an edit comes to for the state's session
 abbrev pub edited_by : TreeEdit → State → Edited Session
-edited_by e state = session_edited e state.side.page state.client.session
+edited_by e state = shown_session_edited state.client.mode e state.side.page state.client.session
 
 -- the state with another page
 abbrev pub with_page : PageValue → State → State
@@ -175,15 +198,15 @@ pause_data watch.Subtree p ids = told_pause.Subtree (ids p.node) (ids (unwrap_or
 pause_data watch.Attribute p ids = told_pause.Attribute (ids p.node)
 pause_data watch.Removed p ids = told_pause.Removed (ids p.node)
 
--- a pause is told, whose nodes are known
+-- a pause is told, whose nodes are known; 0 is told of a target that is hidden
 abbrev pub met_step : Pause → State → Step
-met_step p state = record { state = state; moves = met (pause_data p.kind p (id_now state)) ∷ [] }
+met_step p state = record { state = state; moves = met (pause_data p.kind p (id_told state)) ∷ [] }
 
 -- the step by another one, and then by this one
 abbrev pub followed_by : Step → (State → Step) → Step
 followed_by first later = telling_first first.moves (later first.state)
 
--- a pause: the watched node becomes known, then the target, and then it is told
+-- a pause: the watched node becomes known, then the target where it is shown, and then it is told
 abbrev pub pause_step : Option Pause → State → Step
 pause_step None state = idle state
 pause_step (Some p) state = followed_by (followed_by (push_step p.node state) (push_steps p.target)) (met_step p)
@@ -333,11 +356,13 @@ act_step act state = planned_step (act_fault act state.side.page (book_in state)
 abbrev pub lone_step : TreeEdit → State → Step
 lone_step e state = planned_step (edit_fault (first_fault e state.side.page.tree)) (one_edit e state.side.page) state
 
--- the client of a page that goes: nothing is known, the ids are dead, no node is watched, and no edit and nothing found is kept
+-- the client of a page that goes: nothing is known, the ids are dead, no node is watched, and no edit and nothing found is kept; it
+-- is shown what it was shown
 abbrev pub client_reset : Bool → Client → Client
 client_reset on client = record new_client {
   dom_on = on;
   css_on = client.css_on && on;
+  mode = client.mode;
   session = reset client.session;
   searches = forgotten client.searches;
 }
@@ -402,10 +427,10 @@ client_served ask (shows_root b p) client = record client { dom_on = client.dom_
 client_served ask (served p body) client = record client { dom_on = client.dom_on || turns_on ask; session = p.state }
 client_served ask (refused why) client = client
 
--- the step on what the DOM agent is asked
+-- the step on what the DOM agent is asked; an ask that turns DOM on finds that all nodes are shown, as they are while it is off
 abbrev pub agent_step : ℕ → DomAsk → State → Step
 agent_step id ask state =
-    let outcome = session_outcome state.side.page ask state.client.session in
+    let outcome = session_outcome (page_shown state) state.side.page.tree ask state.client.session in
     record { state = with_client (client_served ask outcome state.client) state; moves = moves_of id outcome }
 
 -- ---- the commands of the domain CSS
@@ -419,8 +444,8 @@ element_serial (Some b) = cond (is_element b.row.label.kind) (Ok b.row.serial) (
 abbrev pub element_named : ℕ → State → Result ℕ Why
 element_named node state =
     let w = state.client.session in
-    let n = page_nodes state in
-    element_serial (known_node (session_keeper n) state.side.page.tree w (serial_at w n node))
+    let n = nodes_shown state in
+    element_serial (known_node (session_keeper n) (page_shown state).tree w (serial_at w n node))
 
 -- the move that answers an ask of the node that was named, or the refusal
 abbrev pub node_answer : ℕ → CssAsk → Result ℕ Why → State → Move
@@ -504,7 +529,7 @@ abbrev pub put_answer : ℕ → Option ℕ → Step → Step
 put_answer id None done = answering id done
 put_answer id (Some node) done =
     let shown = followed_by done (push_step node) in
-    replying id (NodeId (id_now shown.state node)) shown
+    replying id (NodeId (id_told shown.state node)) shown
 
 -- the edits of a plan, the page first being the plan's
 abbrev pub plan_step : Plan → State → Step
@@ -555,10 +580,14 @@ watch_step id change (Some node) state =
 abbrev pub with_searches : Searched → State → State
 with_searches searches state = with_client (record state.client { searches = searches }) state
 
+-- what a query finds in the page, of the nodes that the client is shown
+abbrev pub found_now : List ℕ → State → List ℕ
+found_now query state = filter (is_shown_now state) (found_in state.side.page.tree query)
+
 -- what a query finds is kept; it is answered by the number of the search, and how many nodes were found
 abbrev pub perform_step : ℕ → List ℕ → State → Step
 perform_step id query state =
-    let found = found_in state.side.page.tree query in
+    let found = found_now query state in
     let searches = state.client.searches in
     replying id (Search (next_search searches) (length found)) (idle (with_searches (with_search found searches) state))
 
@@ -614,15 +643,31 @@ own_step turn_of id (Err why) state = refusing (Some id) why state
 abbrev pub judged_step : ℕ → Act → State → Step
 judged_step id act state = own_step acts id (act_judged state.side.page (book_in state) act) state
 
+-- ---- which nodes are shown
+
+-- the mode that a client asks for; an absent word counts as `all`
+abbrev pub mode_asked : Option WhitespaceWord → Mode
+mode_asked None = All
+mode_asked (Some Shown) = All
+mode_asked (Some Hidden) = NoBlank
+
+-- the client whose DOM is on from now on: where it was off, the mode is the one asked for
+abbrev pub client_on : Option WhitespaceWord → Client → Client
+client_on word client = record client { dom_on = true; mode = cond client.dom_on client.mode (mode_asked word) }
+
+-- the client whose DOM is off from now on: all nodes are shown
+abbrev pub client_off : Client → Client
+client_off client = record (client_reset false client) { mode = All }
+
 -- ---- a command
 
 -- the step on a command, where the domains are on that it needs
 abbrev pub served_step : ℕ → Command → State → Step
-served_step id DomEnable state = record {
-  state = with_client (record state.client { dom_on = true }) state;
+served_step id (DomEnable word) state = record {
+  state = with_client (client_on word state.client) state;
   moves = replied id Nothing ∷ [];
 }
-served_step id DomDisable state = record { state = with_client (client_reset false state.client) state; moves = all_off id ∷ [] }
+served_step id DomDisable state = record { state = with_client (client_off state.client) state; moves = all_off id ∷ [] }
 served_step id (AskDom ask) state = agent_step id ask state
 served_step id (EditDom edit) state = tree_edit_step id edit state
 served_step id (AskSearch ask) state = search_step id ask state

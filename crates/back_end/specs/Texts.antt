@@ -45,7 +45,7 @@ HasTreeTexts (dom.CopyTo node target before) = ⊤
 
 -- the texts that a command brings into the page are
 abbrev pub HasServedTexts : Command → Type 0
-HasServedTexts DomEnable = ⊤
+HasServedTexts (DomEnable word) = ⊤
 HasServedTexts DomDisable = ⊤
 HasServedTexts (AskDom ask) = ⊤
 HasServedTexts (EditDom edit) = HasTreeTexts edit

@@ -1,6 +1,6 @@
 ghost use Rattle.std.specs.Prelude.{◌≡◌, ◌<◌, ◌++◌, ◌&&◌, ◌||◌, not, false, true, Some, None, OnOk};
 ghost use Rattle.node_tree.specs.Numbers.{kept_before_step};
-ghost use Rattle.node_binding.specs.Bindings.{empty_from};
+ghost use Rattle.node_binding.specs.Bindings.{empty_from, KnowsNothing};
 ghost use Rattle.dom_breakpoints.specs.Watched.{unwatched};
 ghost use Rattle.dom_search.specs.Searches.{no_searches};
 ghost use Rattle.cdp_messages.specs.DomAsks.{fits_ask};
@@ -9,18 +9,20 @@ ghost use Rattle.client_views.specs.Moves.{frames_of_moves};
 ghost use Rattle.back_end.specs.States.{State};
 ghost use Rattle.back_end.specs.Texts.{HasServedTexts};
 ghost use Rattle.cdp_messages.specs.declared.command.Command.TheVariants as commands;
-ghost use Rattle.back_end.specs.Steps.{ask_needs_on, command_step, frame_step, missing, refusing, served_step};
+ghost use Rattle.back_end.specs.Steps.{ask_needs_on, command_step, frame_step, missing, mode_asked, refusing, served_step};
 ghost use Rattle.back_end.specs.Steps as steps;
-ghost use Rattle.back_end.specs.Seats.{BothStandFor, DeskStandsFor, HasNumbersLeft, edits_in};
+ghost use Rattle.back_end.specs.Seats.{BothStandFor, DeskStandsFor, HasNumbersLeft, edits_in, enabled_agent};
 
 use crate::side::PageSide;
 use cdp_messages::{
-    Command, DomAsk, ReadErr, Refused, ReplyBody, Why, read_command, write_refused, write_reply,
+    Command, DomAsk, ReadErr, Refused, ReplyBody, WhitespaceWord, Why, read_command, write_refused,
+    write_reply,
 };
 use css_agent::CssAgent;
 use dom_agent::DomAgent;
 use dom_breakpoints::Watches;
 use dom_search::Searches;
+use shown_pages::Mode;
 use std::alloc::{AllocError, Global};
 use undo_marks::History;
 
@@ -34,6 +36,26 @@ pub(crate) struct Desk {
     pub(crate) agent: DomAgent,
     pub(crate) watches: Watches,
     pub(crate) searches: Searches,
+}
+
+/// The mode that a client asks for; an absent word counts as `all`.
+fn mode_asked(word: Option<WhitespaceWord>) -> Mode
+    ensures { result ≡ mode_asked word }
+{
+    match word {
+        Some(WhitespaceWord::Hidden) => Mode::NoBlank,
+        Some(WhitespaceWord::Shown) | None => Mode::All,
+    }
+}
+
+/// The client is shown what it asks for, where its DOM was off.
+fn show_as_asked(agent: &mut DomAgent, was_on: bool, word: Option<WhitespaceWord>)
+    requires { was_on ≡ false → KnowsNothing agent.old }
+    ensures { agent.new ≡ enabled_agent was_on word agent.old }
+{
+    if !was_on {
+        agent.set_mode(mode_asked(word));
+    }
 }
 
 impl Desk {
@@ -142,7 +164,9 @@ impl Desk {
             → OnOk result (out.new.items ≡ out.old.items ++ frames_of_moves (command_step id command state).moves) }
     {
         match command {
-            Command::DomEnable => self.enable(side, id, out),
+            Command::DomEnable { include_whitespace } => {
+                self.enable(side, id, include_whitespace, out)
+            }
             Command::DomDisable => self.disable(history, side, id, out),
             Command::AskDom(ask) => self.ask_agent(side, id, &ask, out),
             Command::EditDom(edit) => self.answer_tree_edit(history, side, id, edit, out),
@@ -172,21 +196,30 @@ impl Desk {
         write_refused(self.alloc, &refused, out)
     }
 
-    /// `DOM.enable`
-    fn enable(&mut self, side: &mut PageSide, id: u64, out: &mut Vec<u8>) -> Result<(), AllocError>
+    /// `DOM.enable`: where DOM is off, the client is shown what it asks for from now on.
+    fn enable(
+        &mut self,
+        side: &mut PageSide,
+        id: u64,
+        word: Option<WhitespaceWord>,
+        out: &mut Vec<u8>,
+    ) -> Result<(), AllocError>
+        requires standing { ∥ ((state : State) × DeskStandsFor self.old side.old state) ∥₁ }
         ensures stands { (state : State) → DeskStandsFor self.old side.old state
-            → OnOk result (DeskStandsFor self.new side.new (served_step id commands.DomEnable state).state) }
+            → OnOk result (DeskStandsFor self.new side.new (served_step id (commands.DomEnable word) state).state) }
         ensures sent { (state : State)
-            → OnOk result (out.new.items ≡ out.old.items ++ frames_of_moves (served_step id commands.DomEnable state).moves) }
+            → OnOk result (out.new.items ≡ out.old.items
+            ++ frames_of_moves (served_step id (commands.DomEnable word) state).moves) }
     {
         // The clauses alone speak of the page.
         let _ = side;
         write_reply(self.alloc, id, &ReplyBody::Nothing, out)?;
+        show_as_asked(&mut self.agent, self.is_on, word);
         self.is_on = true;
         Ok(())
     }
 
-    /// `DOM.disable`
+    /// `DOM.disable`: the client is shown all nodes from now on.
     fn disable(
         &mut self,
         history: &mut History,
@@ -204,6 +237,7 @@ impl Desk {
         self.css.switch(false, side.book(), out)?;
         self.is_on = false;
         self.agent.reset();
+        self.agent.set_mode(Mode::All);
         self.watches.clear();
         self.searches.clear();
         history.clear();

@@ -5,9 +5,9 @@ ghost use Rattle.page_tree.specs.EditFaults.{CanApply};
 ghost use Rattle.page_tree.specs.Edits.{after, back_tree};
 ghost use Rattle.client_views.specs.Moves.{met, frames_of_moves};
 ghost use Rattle.back_end.specs.States.{State, page_nodes};
-ghost use Rattle.back_end.specs.Steps.{id_now, pause_before, pause_step, push_step, script_step};
+ghost use Rattle.back_end.specs.Steps.{pause_before, pause_step, push_step, script_step};
 ghost use Rattle.back_end.specs.Texts.{EditHasTexts};
-ghost use Rattle.back_end.specs.Seats.{CanPush, IsPause, attribute_pause, removal_pause, subtree_watch_pause, DeskStandsFor};
+ghost use Rattle.back_end.specs.Seats.{HasBegun, IsPause, attribute_pause, removal_pause, subtree_watch_pause, DeskStandsFor};
 
 use crate::desk::Desk;
 use crate::side::PageSide;
@@ -33,9 +33,9 @@ impl Desk {
     ) -> Result<(), AllocError>
         requires ids { self.old.agent.next < drawn_before_edit }
         ensures few { OnOk result (self.new.agent.next ≤ self.old.agent.next + drawn_by_pause) }
-        ensures stands { (state : State) → DeskStandsFor self.old side.now state → CanPush node state
+        ensures stands { (state : State) → DeskStandsFor self.old side.now state → HasBegun state
             → OnOk result (DeskStandsFor self.new side.now (pause_step (Some (attribute_pause node)) state).state) }
-        ensures sent { (state : State) → DeskStandsFor self.old side.now state → CanPush node state
+        ensures sent { (state : State) → DeskStandsFor self.old side.now state → HasBegun state
             → OnOk result (out.new.items ≡ out.old.items ++ frames_of_moves (pause_step (Some (attribute_pause node)) state).moves) }
     {
         let node = self.push(side, node, out)?;
@@ -51,16 +51,16 @@ impl Desk {
     ) -> Result<(), AllocError>
         requires ids { self.old.agent.next < drawn_before_edit }
         ensures few { OnOk result (self.new.agent.next ≤ self.old.agent.next + drawn_by_pause) }
-        ensures stands { (state : State) → DeskStandsFor self.old side.now state → CanPush node state
+        ensures stands { (state : State) → DeskStandsFor self.old side.now state → HasBegun state
             → OnOk result (DeskStandsFor self.new side.now (pause_step (Some (removal_pause node)) state).state) }
-        ensures sent { (state : State) → DeskStandsFor self.old side.now state → CanPush node state
+        ensures sent { (state : State) → DeskStandsFor self.old side.now state → HasBegun state
             → OnOk result (out.new.items ≡ out.old.items ++ frames_of_moves (pause_step (Some (removal_pause node)) state).moves) }
     {
         let node = self.push(side, node, out)?;
         self.tell_paused(PauseData::Removed { node }, out)
     }
 
-    /// Tells a pause by a subtree watch; the node becomes known first, and then the target.
+    /// Tells a pause by a subtree watch; the node becomes known first, and then the target where it is shown.
     fn tell_subtree(
         &mut self,
         side: &PageSide,
@@ -71,9 +71,9 @@ impl Desk {
     ) -> Result<(), AllocError>
         requires ids { self.old.agent.next < drawn_before_edit }
         ensures few { OnOk result (self.new.agent.next ≤ self.old.agent.next + drawn_by_pause) }
-        ensures stands { (state : State) → DeskStandsFor self.old side.now state → CanPush node state → CanPush target state
+        ensures stands { (state : State) → DeskStandsFor self.old side.now state → HasBegun state
             → OnOk result (DeskStandsFor self.new side.now (pause_step (Some (subtree_watch_pause node target insertion)) state).state) }
-        ensures sent { (state : State) → DeskStandsFor self.old side.now state → CanPush node state → CanPush target state
+        ensures sent { (state : State) → DeskStandsFor self.old side.now state → HasBegun state
             → OnOk result (out.new.items ≡ out.old.items
             ++ frames_of_moves (pause_step (Some (subtree_watch_pause node target insertion)) state).moves) }
     {

@@ -1,5 +1,6 @@
 // What a script does to the page under the client's eyes.
-ghost use Rattle.std.specs.Prelude.{◌≡◌, ◌<◌, ◌+◌, ◌∷◌, ◌++◌, [], cond, OnOk, IfOk};
+ghost use Rattle.std.specs.Prelude.{◌≡◌, ◌<◌, ◌+◌, ◌∷◌, ◌++◌, [], cond, IsSome, OnOk, IfOk};
+ghost use Rattle.page_tree.specs.Pages.{find_in};
 ghost use Rattle.node_tree.specs.Numbers.{drawn_before_edit};
 ghost use Rattle.page_tree.specs.EditFaults.{CanApply, CanInsert, IsReady, first_fault, insert_fault, move_fault};
 ghost use Rattle.page_tree.specs.Edits.{after, back_tree};
@@ -8,7 +9,7 @@ ghost use Rattle.page_forms.specs.Pages.{loaded_page, CanLoadPage};
 ghost use Rattle.client_views.specs.Moves.{clear, frames_of_moves};
 ghost use Rattle.back_end.specs.States.{State};
 ghost use Rattle.back_end.specs.Plans.{edit_fault, act_fault};
-ghost use Rattle.back_end.specs.Steps.{act_step, edit_step, load_step, lone_step, watches_left};
+ghost use Rattle.back_end.specs.Steps.{act_step, edit_step, load_step, lone_step, watches_left, watches_of_text};
 ghost use Rattle.back_end.specs.Texts.{PageHasTexts, FormHasTexts, ActHasTexts, EditHasTexts};
 ghost use Rattle.back_end.specs.Seats.{DeskStandsFor, HasNumbersLeft};
 
@@ -19,19 +20,32 @@ use cdp_messages::{Event, write_event};
 use dom_breakpoints::Watches;
 use page_forms::{Act, PageForm};
 use page_tree::{EditErr, NodeForm, Page, TreeEdit};
+use shown_pages::{Mode, TextSight, text_sight};
 use std::alloc::AllocError;
 
-/// Forgets the watches in a tree that an edit takes out, by the page before it.
-fn forget_gone(watches: &mut Watches, page: &Page, edit: &TreeEdit)
+/// Forgets the watches on a text that hides itself.
+fn forget_hidden(watches: &mut Watches, page: &Page, node: u64, sight: TextSight)
+    requires { IsSome (find_in node page.now.tree) }
+    ensures { watches.new ≡ watches_of_text sight node page.now.tree watches.old }
+{
+    match sight {
+        TextSight::Goes => watches.forget_subtree(page, node),
+        TextSight::Unseen | TextSight::Comes | TextSight::Stays => {}
+    }
+}
+
+/// Forgets the watches in a tree that an edit takes out, and on a text that it hides, by the page before it.
+fn forget_gone(watches: &mut Watches, page: &Page, edit: &TreeEdit, mode: Mode)
     requires { CanApply page.now.next edit.now page.now.tree }
-    ensures { watches.new ≡ watches_left edit.now page.now.tree watches.old }
+    ensures { watches.new ≡ watches_left mode edit.now page.now.tree watches.old }
 {
     match edit {
         TreeEdit::Detach { node } => watches.forget_subtree(page, *node),
-        TreeEdit::SetAttr { .. }
-        | TreeEdit::DropAttr { .. }
-        | TreeEdit::SetText { .. }
-        | TreeEdit::Attach { .. } => {}
+        TreeEdit::SetText { node, value } => {
+            let sight = text_sight(page, *node, value.as_str(), mode);
+            forget_hidden(watches, page, *node, sight);
+        }
+        TreeEdit::SetAttr { .. } | TreeEdit::DropAttr { .. } | TreeEdit::Attach { .. } => {}
     }
 }
 
@@ -56,7 +70,8 @@ impl Desk {
         ensures sent { (state : State) → DeskStandsFor self.old side.old state
             → OnOk result (out.new.items ≡ out.old.items ++ frames_of_moves (edit_step edit state).moves) }
     {
-        forget_gone(&mut self.watches, &side.page, &edit);
+        let mode = self.agent.mode();
+        forget_gone(&mut self.watches, &side.page, &edit, mode);
         match self.agent.edit(&mut side.page, edit, out) {
             Ok(back) => Ok(back),
             Err(EditErr::Fault(_)) => unreachable!(),

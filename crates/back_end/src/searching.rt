@@ -1,5 +1,7 @@
 // What a client asks of searches.
-ghost use Rattle.std.specs.Prelude.{◌≡◌, ◌++◌, OnOk, true};
+ghost use Rattle.std.specs.Prelude.{◌≡◌, [], ◌∷◌, ◌++◌, cond, filter, is_some, IfOk, OnOk, true};
+ghost use Rattle.page_tree.specs.Pages.{find_in};
+ghost use Rattle.shown_pages.specs.ShownPages.{shown_page};
 ghost use Rattle.client_views.specs.Moves.{frames_of_moves};
 ghost use Rattle.cdp_messages.specs.declared.command.Command.TheVariants as commands;
 ghost use Rattle.cdp_messages.specs.SearchIds.{search_in};
@@ -11,7 +13,9 @@ use crate::desk::Desk;
 use crate::side::PageSide;
 use cdp_messages::{ReplyBody, SearchAsk, Why, search_in, write_reply};
 use dom_search::{SearchFault, found};
-use std::alloc::AllocError;
+use page_tree::Page;
+use shown_pages::{Mode, ShownNode};
+use std::alloc::{AllocError, Global};
 
 /// Why nothing of a search is given, as a client is told it.
 fn search_why(fault: SearchFault) -> Why
@@ -21,6 +25,34 @@ fn search_why(fault: SearchFault) -> Why
         SearchFault::NoSearch => Why::NoSearch,
         SearchFault::SearchRange => Why::BadSearchRange,
     }
+}
+
+/// Adds the serial of a node that is shown.
+fn push_if(is_shown: bool, serial: u64, shown: &mut Vec<u64>) -> Result<(), AllocError>
+    ensures { OnOk result (shown.new.items ≡ shown.old.items ++ cond is_shown (serial ∷ []) []) }
+{
+    if is_shown {
+        shown.push(serial)?;
+    }
+    Ok(())
+}
+
+/// The serials of those nodes that the mode shows, in their order.
+fn shown_among(
+    alloc: Global,
+    page: &Page,
+    serials: &[u64],
+    mode: Mode,
+) -> Result<Vec<u64>, AllocError>
+    ensures { IfOk result (λ v. v.items
+        ≡ filter (λ s. is_some (find_in s (shown_page mode page.now).tree)) serials.now) }
+{
+    let mut shown = Vec::new(alloc);
+    for serial in serials {
+        let is_shown = ShownNode::find(page, *serial, mode).is_some();
+        push_if(is_shown, *serial, &mut shown)?;
+    }
+    Ok(shown)
 }
 
 impl Desk {
@@ -38,7 +70,9 @@ impl Desk {
         ensures sent { (state : State) → DeskStandsFor self.old side.now state
             → OnOk result (out.new.items ≡ out.old.items ++ frames_of_moves (perform_step id query.now state).moves) }
     {
-        let serials = found(self.alloc, side.page(), query)?;
+        let page = side.page();
+        let all = found(self.alloc, page, query)?;
+        let serials = shown_among(self.alloc, page, all.as_slice(), self.agent.mode())?;
         let count = serials.len() as u64;
         let search = self.searches.keep(serials)?;
         write_reply(self.alloc, id, &ReplyBody::Search { search, count }, out)

@@ -3,6 +3,7 @@ ghost use Rattle.std.specs.Prelude.{◌≡◌, ◌++◌, IfOk, IsSome, OnOk, tru
 ghost use Rattle.std.specs.FinMap as map;
 ghost use Rattle.node_tree.specs.Nodes.{alone};
 ghost use Rattle.page_tree.specs.Pages.{find_in};
+ghost use Rattle.shown_pages.specs.ShownPages.{shown_page};
 ghost use Rattle.client_views.specs.Moves.{frames_of_moves};
 ghost use Rattle.cdp_messages.specs.declared.css_ask.CssAsk.TheVariants.{GetMatchedStyles};
 ghost use Rattle.dom_agent.specs.Keepers.{binding_keeper};
@@ -15,8 +16,8 @@ ghost use Rattle.back_end.specs.Seats.{DeskStandsFor};
 use crate::desk::Desk;
 use crate::side::PageSide;
 use cdp_messages::{CssAsk, ReplyBody, Why, write_reply};
-use node_binding::find_in;
 use page_tree::Page;
+use shown_pages::{ShownNode, shown_law};
 use std::alloc::AllocError;
 
 impl Desk {
@@ -55,16 +56,20 @@ impl Desk {
         self.css.switch(false, side.book(), out)
     }
 
-    /// The serial of the known node that has the id, where it is an element.
+    /// The serial of the known node that has the id, where it is an element. A known node is one that is shown.
     fn element_named(&self, page: &Page, node: u64) -> Result<u64, Why>
         ensures value { result ≡ element_serial
-            (known_node (binding_keeper (alone page.now.tree)) page.now.tree self.now.agent (map.get self.now.agent.serials node)) }
+            (known_node (binding_keeper (alone (shown_page self.now.agent.mode page.now).tree))
+            (shown_page self.now.agent.mode page.now).tree
+            self.now.agent (map.get self.now.agent.serials node)) }
         ensures there { IfOk result (λ serial. IsSome (find_in serial page.now.tree)) }
     {
         let Some(serial) = self.agent.serial_of(node) else {
             return Err(Why::UnknownNode);
         };
-        let Some(found) = find_in(page, serial) else {
+        page.valid();
+        shown_law();
+        let Some(found) = ShownNode::find(page, serial, self.agent.mode()) else {
             return Err(Why::UnknownNode);
         };
         if !found.kind().is_element() {

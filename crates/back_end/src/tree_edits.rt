@@ -14,7 +14,7 @@ ghost use Rattle.back_end.specs.Plans.{node_edit_fault, node_edit_plan, node_put
 ghost use Rattle.cdp_messages.specs.declared.command.Command.TheVariants as commands;
 ghost use Rattle.back_end.specs.Texts.{EditHasTexts, HasTreeTexts, IsPlainEdit};
 ghost use Rattle.back_end.specs.Steps.{command_step, edit_step, idle, node_edit_step, plan_step, put_answer};
-ghost use Rattle.back_end.specs.Seats.{BothStandFor, CanPushAny, DeskStandsFor, HasNumbersLeft, edits_in};
+ghost use Rattle.back_end.specs.Seats.{BothStandFor, DeskStandsFor, HasBegun, HasNumbersLeft, edits_in};
 
 use crate::desk::Desk;
 use crate::node_edits::{TreeWish, lowered};
@@ -170,7 +170,7 @@ impl Desk {
         }
     }
 
-    /// Replies with the id of the node that was put, which becomes known, or with the empty result.
+    /// Replies with the id of the node that was put, which becomes known where it is shown, or with the empty result.
     fn answer_put(
         &mut self,
         side: &PageSide,
@@ -179,9 +179,9 @@ impl Desk {
         out: &mut Vec<u8>,
     ) -> Result<(), AllocError>
         requires ids { self.old.agent.next < drawn_before_call }
-        ensures stands { (state : State) → DeskStandsFor self.old side.now state → CanPushAny put state
+        ensures stands { (state : State) → DeskStandsFor self.old side.now state → HasBegun state
             → OnOk result (DeskStandsFor self.new side.now (put_answer id put (idle state)).state) }
-        ensures sent { (state : State) → DeskStandsFor self.old side.now state → CanPushAny put state
+        ensures sent { (state : State) → DeskStandsFor self.old side.now state → HasBegun state
             → OnOk result (out.new.items ≡ out.old.items ++ frames_of_moves (put_answer id put (idle state)).moves) }
     {
         match put {

@@ -9,12 +9,12 @@ use Rattle.serde_json.specs.Find.{of_integer, as_i64, as_str, as_number, get_mem
 use Rattle.serde_json.proofs.Views.{get_member-put_other}
 use Rattle.cdp_json.specs.Plain.{is_plain}
 use Rattle.cdp_json.specs.Fields.{field_from, field_if}
-use Rattle.cdp_json.specs.Kinds.{Kind, as_whole, is_counted, holds_of_some, if_holds, is_depth, as_depth, whole, text, flag}
+use Rattle.cdp_json.specs.Kinds.{Kind, named, as_whole, is_counted, holds_of_some, if_holds, is_depth, as_depth, whole, text, flag}
 use Rattle.cdp_json.specs.Lawful.{LawfulKind}
 use Rattle.cdp_json.specs.Lookups.{then_ok, optional, Lookups, no_lookups}
 use Rattle.cdp_json.specs.Faithful.{FaithfulKind, FaithfulLookups}
 use Rattle.cdp_json.proofs.KindLaws.{named_is, whole_lawful, text_lawful, flag_lawful, anything_lawful, list_faithful, through_faithful}
-use Rattle.cdp_json.proofs.KindLaws.{faithful}
+use Rattle.cdp_json.proofs.KindLaws.{faithful, choice_lawful}
 use Rattle.cdp_json.proofs.LookupLaws.{then_ok_some, same_ok, other_name, no_lookups_faithful, look_for_faithful, may_look_for_faithful}
 use Rattle.cdp_json.proofs.LookupLaws.{object_with_faithful}
 use Rattle.cdp_json.proofs.RowLaws.{ends_lawful, and_need_lawful, and_may_lawful, object_lawful}
@@ -43,7 +43,7 @@ use Rattle.cdp_messages.specs.Parameters.{edit_from, text_edit, allowed, one_the
 use Rattle.cdp_messages.specs.Parameters.{serials_field, node_field, query_fields, describe_fields, attribute_fields, name_fields}
 use Rattle.cdp_messages.specs.Parameters.{value_fields, move_fields, sheet_field, edits_field, set_selector_fields, sheet_text_fields}
 use Rattle.cdp_messages.specs.Parameters.{add_rule_fields, set_media_fields, search_fields, results_fields, search_field, watch_fields}
-use Rattle.cdp_messages.specs.Parameters.{reads_with, command_by, Form, form, parameters_form}
+use Rattle.cdp_messages.specs.Parameters.{enable_fields, reads_with, command_by, Form, form, parameters_form}
 use Rattle.cdp_messages.specs.Asked.{refusal, of_method, command_for, params_of, unless_session, command_of, method_in, command_in, with_id}
 use Rattle.cdp_messages.specs.Asked.{asked_in, asked_value, asked_by, json_of, method_of, method_name, parameters, fits_command}
 use Rattle.cdp_messages.specs.Asked.{command_value, request}
@@ -55,6 +55,9 @@ use Rattle.cdp_messages.specs.declared.command.ReadErr.{ReadErr}
 use Rattle.cdp_json.proofs.Options.{both, both_parts, and_then_some}
 use Rattle.cdp_messages.proofs.Messages.{json_of-compact_text}
 use Rattle.cdp_messages.proofs.NewsLaws.{watch_lawful}
+use Rattle.cdp_messages.specs.declared.command.WhitespaceWord.{WhitespaceWord}
+use Rattle.cdp_messages.specs.declared.command.WhitespaceWord.TheVariants.{Hidden, Shown}
+use Rattle.cdp_messages.specs.Whitespace.{whitespace_name, all_whitespace, whitespace}
 
 -- ---- depths
 
@@ -127,6 +130,13 @@ edit_faithful = through_faithful edit_parts edit_from edit_only (λ x. refl) (ob
 
 watch_faithful : FaithfulKind watch
 watch_faithful = faithful watch_lawful
+
+first_whitespace : (w : WhitespaceWord) → named whitespace_name all_whitespace (whitespace_name w) ≡ Some w
+first_whitespace Hidden = refl
+first_whitespace Shown = refl
+
+whitespace_faithful : FaithfulKind whitespace
+whitespace_faithful = faithful (choice_lawful whitespace_name all_whitespace first_whitespace)
 
 -- ---- one of two parameters
 
@@ -263,6 +273,9 @@ rule_fields_faithful : FaithfulLookups add_rule_fields
 rule_fields_faithful = look_for_faithful _ _ refl text_faithful
     (look_for_faithful _ _ refl text_faithful (look_for_faithful _ _ refl place_faithful nothing_more refl) refl) refl
 
+enable_fields_faithful : FaithfulLookups enable_fields
+enable_fields_faithful = may_look_for_faithful _ _ refl whitespace_faithful nothing_more refl
+
 watch_fields_faithful : FaithfulLookups watch_fields
 watch_fields_faithful = look_for_faithful _ _ refl whole_faithful (look_for_faithful _ _ refl watch_faithful nothing_more refl) refl
 
@@ -283,7 +296,7 @@ kept_again m makes is (string s) f = absurd cc
 kept_again m makes is (array ds) f = absurd cc
 
 command_again : (c : Command) → fits_command c ≡ true → then_ok (params_of (Some (parameters c))) (command_by (method_of c)) ≡ Ok c
-command_again DomEnable f = refl
+command_again (DomEnable shown) f = read_again enable_fields_faithful (λ x. DomEnable x.0) (shown, tt) f
 command_again DomDisable f = refl
 command_again (AskDom (ask.GetDocument depth pierce)) f =
     read_again depth_fields_faithful (λ x. AskDom (ask.GetDocument x.0 x.1.0)) (depth, (pierce, tt)) f
@@ -412,7 +425,7 @@ made : (m : Method) (k c : Command) → IsOf m k → ◌≡◌ {A = Result Comma
 made m k c is e = subst (IsOf m) (same_ok k c e) is
 
 command_fits : (m : Method) (ms : Members) (c : Command) → command_by m ms ≡ Ok c → IsOf m c
-command_fits method.DomEnable ms c e = made method.DomEnable DomEnable c (record { method_is = refl; fits = refl }) e
+command_fits method.DomEnable ms c e = read_fits enable_fields_faithful method.DomEnable (λ x. DomEnable x.0) (λ x. refl) ms c e
 command_fits method.DomDisable ms c e = made method.DomDisable DomDisable c (record { method_is = refl; fits = refl }) e
 command_fits method.GetDocument ms c e =
     read_fits depth_fields_faithful method.GetDocument (λ x. AskDom (ask.GetDocument x.0 x.1.0)) (λ x. refl) ms c e
@@ -583,7 +596,7 @@ asks_are_asked own id method params session c p s shallow utf8 =
 -- ---- whole commands
 
 pub parameters_are_plain : ParametersArePlain
-parameters_are_plain DomEnable f other = refl
+parameters_are_plain (DomEnable shown) f other = enable_fields_faithful.plain (shown, tt) f
 parameters_are_plain DomDisable f other = refl
 parameters_are_plain (AskDom (ask.GetDocument depth pierce)) f other = depth_fields_faithful.plain (depth, (pierce, tt)) f
 parameters_are_plain (AskDom (ask.RequestChildNodes node depth pierce)) f other =

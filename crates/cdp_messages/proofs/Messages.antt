@@ -424,6 +424,7 @@ param_utf8 param.Depth = IsUtf8-are_ascii (refusal_words (BadParam param.Depth))
 param_utf8 param.Edits = IsUtf8-are_ascii (refusal_words (BadParam param.Edits)) refl
 param_utf8 param.FromIndex = IsUtf8-are_ascii (refusal_words (BadParam param.FromIndex)) refl
 param_utf8 param.IncludeUserAgentShadowDom = IsUtf8-are_ascii (refusal_words (BadParam param.IncludeUserAgentShadowDom)) refl
+param_utf8 param.IncludeWhitespace = IsUtf8-are_ascii (refusal_words (BadParam param.IncludeWhitespace)) refl
 param_utf8 param.InsertBeforeNodeId = IsUtf8-are_ascii (refusal_words (BadParam param.InsertBeforeNodeId)) refl
 param_utf8 param.Location = IsUtf8-are_ascii (refusal_words (BadParam param.Location)) refl
 param_utf8 param.Name = IsUtf8-are_ascii (refusal_words (BadParam param.Name)) refl

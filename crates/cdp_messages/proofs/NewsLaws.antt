@@ -107,7 +107,7 @@ pause_lawful =
     through_lawful pause_fields pause_from (λ f x e. pause_only f.1.1.1.0 f.0 f.1.1.0 f.1.0 x e) pause_back
     (object_lawful (and_may_lawful _ flag_lawful
     (and_need_lawful _ node_id_lawful
-    (and_may_lawful _ node_id_lawful (and_need_lawful _ watch_lawful ends_lawful refl) refl) refl) refl))
+    (and_may_lawful _ whole_lawful (and_need_lawful _ watch_lawful ends_lawful refl) refl) refl) refl))
 
 no_items_only : (ds : Items) (x : ⊤) → unit_if (has_none ds) ≡ Some x → no_items ≡ ds
 no_items_only no_items x e = refl

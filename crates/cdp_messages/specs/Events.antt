@@ -164,7 +164,8 @@ all_watches = Subtree ∷ Attribute ∷ Removed ∷ []
 abbrev pub watch : Kind WatchKind
 watch = choice watch_name all_watches
 
--- the fields of a pause: whether the target was put in, the node that is watched, the target, and what is watched
+-- the fields of a pause: whether the target was put in, the node that is watched, the target, or 0 where it is hidden, and what is
+-- watched
 abbrev pub PauseFields : Type 0
 PauseFields = Option Bool × (ℕ × (Option ℕ × (WatchKind × ⊤)))
 
@@ -193,7 +194,7 @@ pause_from f = pause_by f.1.1.1.0 f.0 f.1.1.0 f.1.0
 -- the fields of a pause as JSON
 abbrev pub pause_form : Kind PauseFields
 pause_form = object_of (and_may (codes "insertion") flag
-    (and_need (codes "nodeId") node_id (and_may (codes "targetNodeId") node_id (and_need (codes "type") watch ends))))
+    (and_need (codes "nodeId") node_id (and_may (codes "targetNodeId") whole (and_need (codes "type") watch ends))))
 
 -- a pause as JSON
 abbrev pub pause_kind : Kind PauseData

@@ -4,6 +4,7 @@ pub mod JsonCode
 pub mod Methods
 pub mod Refusals
 pub mod Events
+pub mod Whitespace
 pub mod Parameters
 pub mod Asked
 pub mod DomAsks

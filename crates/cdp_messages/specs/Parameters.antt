@@ -6,6 +6,7 @@ use Rattle.cdp_json.specs.Kinds.{Kind, whole, text, flag, through, list_of, as_d
 use Rattle.cdp_json.specs.Fields.{field_of}
 use Rattle.cdp_json.specs.Lookups.{then_ok, optional, Lookups, no_lookups, look_for, may_look_for, object_with}
 use Rattle.cdp_messages.specs.declared.command.Command.{Command}
+use Rattle.cdp_messages.specs.declared.command.WhitespaceWord.{WhitespaceWord}
 use Rattle.cdp_messages.specs.declared.command.Command.TheVariants.{DomEnable, DomDisable, CssEnable, CssDisable, AskDom, EditDom, AskCss}
 use Rattle.cdp_messages.specs.declared.command.Command.TheVariants.{EditCss, MarkUndoableState, Undo, Redo, SetBreakpoint, RemoveBreakpoint}
 use Rattle.cdp_messages.specs.declared.command.Command.TheVariants.{ReplayLoad, ReplayAct, AskSearch}
@@ -30,6 +31,7 @@ use Rattle.cdp_messages.specs.declared.method.Method.TheVariants as method
 use Rattle.css_objects.specs.declared.ranges.SourceRange.{SourceRange}
 use Rattle.cdp_messages.specs.Events.{is_object, watch}
 use Rattle.cdp_messages.specs.Refusals.{param_name}
+use Rattle.cdp_messages.specs.Whitespace.{whitespace}
 
 -- ---- kinds of parameters
 
@@ -102,6 +104,10 @@ one_of p k q l later = record {
   puts = (allowed p k (allowed q l later)).puts;
   fits = λ x. (is_some x.0 || is_some x.1.0) && (allowed p k (allowed q l later)).fits x;
 }
+
+-- of `DOM.enable`: which texts of white space alone are shown
+abbrev pub enable_fields : Lookups Why (Option WhitespaceWord × ⊤)
+enable_fields = allowed param.IncludeWhitespace whitespace no_lookups
 
 -- of `DOM.getDocument`: how many levels, and a flag without effect
 abbrev pub depth_fields : Lookups Why (Option ℤ × (Option Bool × ⊤))
@@ -195,7 +201,7 @@ reads_with fields makes ms = then_ok (fields.gets ms) (λ x. Ok (makes x))
 
 -- the command of a method with these parameters, or the first refusal; what our own two methods are given is not looked into
 abbrev pub command_by : Method → Members → Result Command Why
-command_by method.DomEnable ms = Ok DomEnable
+command_by method.DomEnable ms = reads_with enable_fields (λ x. DomEnable x.0) ms
 command_by method.DomDisable ms = Ok DomDisable
 command_by method.GetDocument ms = reads_with depth_fields (λ x. AskDom (ask.GetDocument x.0 x.1.0)) ms
 command_by method.RequestChildNodes ms = reads_with children_fields (λ x. AskDom (ask.RequestChildNodes x.0 x.1.0 x.1.1.0)) ms
@@ -287,7 +293,7 @@ search_ask_form (search.DiscardSearchResults id) = form method.DiscardSearchResu
 
 -- each command, as it is written
 abbrev pub parameters_form : Command → Form
-parameters_form DomEnable = form method.DomEnable no_lookups tt
+parameters_form (DomEnable shown) = form method.DomEnable enable_fields (shown, tt)
 parameters_form DomDisable = form method.DomDisable no_lookups tt
 parameters_form (AskDom a) = dom_ask_form a
 parameters_form (EditDom e) = dom_edit_form e

@@ -3,6 +3,7 @@ ghost use Rattle.std.specs.Prelude.{◌≡◌};
 ghost use Rattle.cdp_json.specs.Kinds.{named};
 ghost use Rattle.node_tree.specs.Watches.{watch_name};
 ghost use Rattle.cdp_messages.specs.Events.{all_watches};
+ghost use Rattle.cdp_messages.specs.Whitespace.{whitespace_name, all_whitespace};
 ghost use Rattle.cdp_messages.specs.declared.command.CommandErr.TheVariants as command_err;
 
 use crate::css_ask::CssAsk;
@@ -15,11 +16,22 @@ use crate::search_ask::SearchAsk;
 use node_tree::WatchKind;
 use std::alloc::{AllocError, AllocFailed};
 
+/// The words of the parameter `includeWhitespace`: which texts of white space alone are shown.
+#[derive(Clone, Copy, Drop, Debug)]
+pub enum WhitespaceWord {
+    /// `none`
+    Hidden,
+    /// `all`
+    Shown,
+}
+
 /// A command with its parameters; `None` stands for one that is absent.
 #[derive(Drop)]
 pub enum Command {
     /// `DOM.enable`
-    DomEnable,
+    DomEnable {
+        include_whitespace: Option<WhitespaceWord>,
+    },
     /// `DOM.disable`
     DomDisable,
     /// A command that the DOM agent serves.
@@ -60,7 +72,7 @@ impl Command {
         ensures { result ≡ method_of self.now }
     {
         match self {
-            Command::DomEnable => Method::DomEnable,
+            Command::DomEnable { .. } => Method::DomEnable,
             Command::DomDisable => Method::DomDisable,
             Command::AskDom(ask) => ask.method(),
             Command::EditDom(edit) => edit.method(),
@@ -92,6 +104,17 @@ pub(crate) fn watch_named(word: &str) -> Option<WatchKind>
     }
 }
 
+// Which texts of white space alone are shown, by its word.
+pub(crate) fn whitespace_named(word: &str) -> Option<WhitespaceWord>
+    ensures { result ≡ named whitespace_name all_whitespace word.now }
+{
+    match word {
+        "none" => Some(WhitespaceWord::Hidden),
+        "all" => Some(WhitespaceWord::Shown),
+        _ => None,
+    }
+}
+
 /// A parameter of a command, by its name.
 #[derive(Clone, Copy)]
 pub enum Param {
@@ -101,6 +124,7 @@ pub enum Param {
     Edits,
     FromIndex,
     IncludeUserAgentShadowDom,
+    IncludeWhitespace,
     InsertBeforeNodeId,
     Location,
     Name,

@@ -85,7 +85,7 @@ pub enum Event {
 /// Why script pauses: what was watched of the node.
 #[derive(Clone, Copy, Drop)]
 pub enum PauseData {
-    /// `subtree-modified`: the target was put in, or else taken out or changed.
+    /// `subtree-modified`: the target was put in, or else taken out or changed; 0 stands for a target that is hidden.
     Subtree {
         node: u64,
         target: u64,

@@ -285,17 +285,6 @@ fn flag_if_any(fields: &mut Cursor<'_>, name: &str) -> Option<Option<bool>>
     }
 }
 
-fn node_id_if_any(fields: &mut Cursor<'_>, name: &str) -> Option<Option<u64>>
-    ensures { option_map (left_with (left fields.new)) result
-        ≡ may node_id.reads name.now (left fields.old) }
-{
-    match fields.may_whole(name) {
-        Some(Some(id)) => if id > 0 { Some(Some(id)) } else { None },
-        Some(None) => Some(None),
-        None => None,
-    }
-}
-
 fn watch_field(fields: &mut Cursor<'_>) -> Option<WatchKind>
     ensures { option_map (left_with (left fields.new)) result
         ≡ need watch.reads (codes "type") (left fields.old) }
@@ -331,7 +320,7 @@ fn pause_of(value: &Value) -> Option<PauseData>
     let mut fields = Cursor::new(value.as_object()?);
     let insertion = flag_if_any(&mut fields, "insertion")?;
     let node = node_id_field(&mut fields, "nodeId")?;
-    let target = node_id_if_any(&mut fields, "targetNodeId")?;
+    let target = fields.may_whole("targetNodeId")?;
     let kind = watch_field(&mut fields)?;
     if !fields.is_done() {
         return None;

@@ -40,7 +40,7 @@ mod search_ids;
 mod tree_messages;
 mod write;
 
-pub use command::{Asked, Command, CommandErr, Param, ReadErr, Refused, Why};
+pub use command::{Asked, Command, CommandErr, Param, ReadErr, Refused, WhitespaceWord, Why};
 pub use css_ask::CssAsk;
 pub use css_edit::CssEdit;
 pub use css_objects::{

@@ -8,10 +8,11 @@ ghost use Rattle.cdp_json.specs.Lookups.{optional, required, ok_value};
 ghost use Rattle.cdp_messages.specs.declared.command.Why.TheVariants.{BadParam};
 ghost use Rattle.cdp_messages.specs.Refusals.{param_name};
 ghost use Rattle.cdp_messages.specs.Events.{watch};
+ghost use Rattle.cdp_messages.specs.Whitespace.{whitespace};
 ghost use Rattle.cdp_messages.specs.Parameters.{place_fields, place_from, range_parameter, text_edit};
 ghost use Rattle.cdp_messages.specs.Answers.{Commands};
 
-use crate::command::{CommandErr, Param, Why, watch_named};
+use crate::command::{CommandErr, Param, WhitespaceWord, Why, watch_named, whitespace_named};
 use crate::edits::{TextEdit, TextEdits};
 use crate::numbers::Numbers;
 use crate::write::param_name;
@@ -147,6 +148,29 @@ pub(crate) fn watch(params: &Map<String, Value>, param: Param) -> Result<WatchKi
         (members_view params.now.entries)) }
 {
     required(param, watch_field(params, param_name(param)))
+}
+
+fn whitespace_field(params: &Map<String, Value>, name: &str) -> Field<WhitespaceWord>
+    ensures { result ≡ field_of whitespace.reads name.now (members_view params.now.entries) }
+{
+    match text_field(params, name) {
+        Field::Is(word) => match whitespace_named(word) {
+            Some(found) => Field::Is(found),
+            None => Field::WrongKind,
+        },
+        Field::Missing => Field::Missing,
+        Field::WrongKind => Field::WrongKind,
+    }
+}
+
+pub(crate) fn whitespace_or_none(
+    params: &Map<String, Value>,
+    param: Param,
+) -> Result<Option<WhitespaceWord>, Why>
+    ensures { result ≡ optional (BadParam param) (field_of whitespace.reads (param_name param)
+        (members_view params.now.entries)) }
+{
+    optional(param, whitespace_field(params, param_name(param)))
 }
 
 fn place_in(members: &Map<String, Value>) -> Option<SourceRange>

@@ -14,11 +14,19 @@ use crate::dom_edit::DomEdit;
 use crate::kept::Json;
 use crate::method::Method;
 use crate::parameters::{
-    depth_or_none, edits, flag_or_none, place, text, watch, whole, whole_or_none, wholes,
+    depth_or_none, edits, flag_or_none, place, text, watch, whitespace_or_none, whole,
+    whole_or_none, wholes,
 };
 use crate::search_ask::SearchAsk;
 use serde_json::{Map, Value};
 use std::alloc::Global;
+
+fn dom_enable(params: &Map<String, Value>) -> Result<Command, Why>
+    ensures { result ≡ command_by method.DomEnable (members_view params.now.entries) }
+{
+    let include_whitespace = whitespace_or_none(params, Param::IncludeWhitespace)?;
+    Ok(Command::DomEnable { include_whitespace })
+}
 
 fn get_document(params: &Map<String, Value>) -> Result<Command, Why>
     ensures { result ≡ command_by method.GetDocument (members_view params.now.entries) }
@@ -286,7 +294,7 @@ pub(crate) fn command_by(
     ensures { Commands result (command_by method (members_view members.now.entries)) }
 {
     match method {
-        Method::DomEnable => Ok(Command::DomEnable),
+        Method::DomEnable => small(dom_enable(members)),
         Method::DomDisable => Ok(Command::DomDisable),
         Method::GetDocument => small(get_document(members)),
         Method::RequestChildNodes => small(request_child_nodes(members)),

@@ -81,6 +81,7 @@ pub(crate) fn param_name(param: Param) -> &'static str
         Param::Edits => "edits",
         Param::FromIndex => "fromIndex",
         Param::IncludeUserAgentShadowDom => "includeUserAgentShadowDOM",
+        Param::IncludeWhitespace => "includeWhitespace",
         Param::InsertBeforeNodeId => "insertBeforeNodeId",
         Param::Location => "location",
         Param::Name => "name",

@@ -1,5 +1,5 @@
 -- How a client's view changes: by moves, each of which one message tells.
-use Rattle.std.specs.Prelude.{◌≡◌, ℕ, ◌≤◌, ◌==◌, ◌||◌, Bool, true, false, not, ◌&&◌, cond, List, [], ◌∷◌, ◌++◌, map, ⊤, Some}
+use Rattle.std.specs.Prelude.{◌≡◌, ℕ, zero, suc, ◌≤◌, ◌==◌, ◌||◌, Bool, true, false, not, ◌&&◌, cond, List, [], ◌∷◌, ◌++◌, map, ⊤, Some}
 use Rattle.std.specs.List.{flat_map}
 use Rattle.std.specs.Option.{option_to_list}
 use Rattle.cdp_json.specs.Kinds.{is_counted, holds_of_some}
@@ -208,9 +208,14 @@ pub record ChangesNode (id : ℕ) (c : Change) (v w : Nodes Seen) : Type 0 where
   pub low : height (nodes_told c) ≤ most_told
   pub at : At old (changed c old) depth v w
 
+-- the target of a pause, but 0, which stands for one that is hidden
+abbrev pub target_nodes : ℕ → List ℕ
+target_nodes zero = []
+target_nodes (suc n) = suc n ∷ []
+
 -- the nodes that a pause names
 abbrev pub paused_nodes : PauseData → List ℕ
-paused_nodes (pause.Subtree watched target insertion) = watched ∷ target ∷ []
+paused_nodes (pause.Subtree watched target insertion) = watched ∷ target_nodes target
 paused_nodes (pause.Attribute watched) = watched ∷ []
 paused_nodes (pause.Removed watched) = watched ∷ []
 

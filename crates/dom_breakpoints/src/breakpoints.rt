@@ -139,7 +139,7 @@ impl Watches {
         }
     }
 
-    /// Forgets the watches at and below a node. This is called before the node is taken out.
+    /// Forgets the watches at and below a node. This is called before the node is taken out, or before a text is shown no more.
     pub fn forget_subtree(&mut self, page: &Page, serial: u64)
         requires { IsSome (find_in serial page.now.tree) }
         ensures { self.new ≡ without_subtree serial page.now.tree self.old }

@@ -1,5 +1,6 @@
 -- What each move makes of a front: from one view to the next, and over a course.
-use Rattle.std.proofs.Common.{◌≡◌, ◌≤◌, ℕ, Bool, true, false, cond, codes, List, [], ◌∷◌, ◌++◌, map, Option, Some, None, Result, Ok, Err}
+use Rattle.std.proofs.Common.{◌≡◌, ◌≤◌, ℕ, zero, suc, Bool, true, false, cond, codes, List, [], ◌∷◌, ◌++◌, map, Option, Some, None, Result}
+use Rattle.std.proofs.Common.{Ok, Err}
 use Rattle.std.proofs.Common.{refl, sym, ap, ◌∙◌, subst, append_assoc, append-nil, arith}
 use Rattle.std.specs.List.{flat_map, list_all}
 use Rattle.std.specs.Option.{option_to_list}
@@ -24,7 +25,7 @@ use Rattle.dom_objects.specs.Tellable.{suits_tree}
 use Rattle.cdp_messages.specs.Laws.{BodyHasUtf8, body_height, answers}
 use Rattle.client_views.specs.Moves as move
 use Rattle.client_views.specs.Moves.{Move, change_news, move_text, answered_by, paused_nodes, AreShown, suits_view, IsTellable, CanBeTold}
-use Rattle.client_views.specs.Moves.{ChangesNode, IsPlainReply, Moves, Course, ends, goes}
+use Rattle.client_views.specs.Moves.{target_nodes, ChangesNode, IsPlainReply, Moves, Course, ends, goes}
 use Rattle.css_objects.specs.Sheets.{is_sheet}
 use Rattle.client_views.specs.Views.{ShownSheet, sheet_number, AreSheets, text_units, sheet_header, shows_sheet, shown_text, sheets_without}
 use Rattle.client_views.specs.Views.{sheets_with_text, is_distinct, View}
@@ -97,15 +98,17 @@ gives_clear w v is knows = record {
   taken = refl;
 }
 
+target_fits : (target : ℕ) (u : Nodes Seen) → AreShown (target_nodes target) u → suits_view u ≡ true → is_counted target ≡ true
+target_fits zero u are s = refl
+target_fits (suc n) u are s = (shown_id (suc n) u are.0 s).counted
+
 pause_fits : (why : PauseData) (u : Nodes Seen) → AreShown (paused_nodes why) u → suits_view u ≡ true → fits_news (paused why) ≡ true
 pause_fits (pause.Subtree watched target true) u are s =
     let a = shown_id watched u are.0 s in
-    let b = shown_id target u are.1.0 s in
-    both (both (both a.counted a.positive) (both (both b.counted b.positive) refl)) refl
+    both (both (both a.counted a.positive) (both (target_fits target u are.1 s) refl)) refl
 pause_fits (pause.Subtree watched target false) u are s =
     let a = shown_id watched u are.0 s in
-    let b = shown_id target u are.1.0 s in
-    both (both (both a.counted a.positive) (both (both b.counted b.positive) refl)) refl
+    both (both (both a.counted a.positive) (both (target_fits target u are.1 s) refl)) refl
 pause_fits (pause.Attribute watched) u are s = let a = shown_id watched u are.0 s in both (both (both a.counted a.positive) refl) refl
 pause_fits (pause.Removed watched) u are s = let a = shown_id watched u are.0 s in both (both (both a.counted a.positive) refl) refl
 

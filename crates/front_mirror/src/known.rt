@@ -4,7 +4,7 @@ ghost use Rattle.serde_json.specs.View.{view};
 ghost use Rattle.std.specs.List.{list_all};
 ghost use Rattle.node_tree.specs.Nodes.{none};
 ghost use Rattle.dom_objects.specs.NodeData.{fits_tree};
-ghost use Rattle.client_views.specs.Moves.{paused_nodes};
+ghost use Rattle.client_views.specs.Moves.{paused_nodes, target_nodes};
 ghost use Rattle.cdp_messages.specs.Events.{news_of, fits_news};
 ghost use Rattle.front_mirror.specs.Known.{known_value, Takes};
 ghost use Rattle.front_mirror.specs.Front.{first_value, reply_frame, reply_kept, method_waiting, fetched_sheet, sheets_fetched, replied};
@@ -398,13 +398,20 @@ impl Known {
         Ok(())
     }
 
+    /// Whether the target of a pause is shown; 0 names none.
+    fn knows_target(&self, target: u64) -> bool
+        ensures { result ≡ list_all (is_shown (known_value self.now).tree) (target_nodes target) }
+    {
+        target == 0 || self.mirror.has_id(target)
+    }
+
     /// Whether the nodes that a pause names are shown.
     fn knows_paused(&self, why: PauseData) -> bool
         ensures { result ≡ list_all (is_shown (known_value self.now).tree) (paused_nodes why) }
     {
         match why {
             PauseData::Subtree { node, target, .. } => self.mirror.has_id(node)
-                && self.mirror.has_id(target),
+                && self.knows_target(target),
             PauseData::Attribute { node } | PauseData::Removed { node } => self.mirror.has_id(node),
         }
     }

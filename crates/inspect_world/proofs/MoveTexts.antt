@@ -1,5 +1,6 @@
 -- The message of each move of a course is a text without a zero byte.
-use Rattle.std.proofs.Common.{◌≡◌, true, false, refl, ap, sym, subst}
+use Rattle.std.proofs.Common.{◌≡◌, ℕ, zero, suc, true, false, refl, ap, sym, subst}
+use Rattle.cdp_json.specs.Kinds.{is_counted}
 use Rattle.cdp_json.specs.Plain.{is_plain}
 use Rattle.node_tree.specs.Nodes.{Nodes, Branch, alone}
 use Rattle.node_tree.specs.Seen.{Seen}
@@ -14,7 +15,7 @@ use Rattle.dom_objects.specs.Told.{told_branch}
 use Rattle.client_views.specs.Views.{AreSheets, sheet_header, View}
 use Rattle.client_views.specs.Moves as move
 use Rattle.client_views.specs.Moves.{Move, change_news, message_of, move_text, paused_nodes, AreShown, suits_view, IsTellable, CanBeTold}
-use Rattle.client_views.specs.Moves.{Moves}
+use Rattle.client_views.specs.Moves.{target_nodes, Moves}
 use Rattle.cdp_messages.proofs.Messages.{reply_plain, refusal_plain}
 use Rattle.cdp_messages.proofs.NewsLaws.{news_plain}
 use Rattle.dom_objects.proofs.TellableLaws.{shown_trees_fit}
@@ -23,15 +24,17 @@ use Rattle.front_mirror.proofs.BoolLemmas.{and_left, both}
 use Rattle.front_mirror.proofs.FollowLemmas.{told_change_news, shown_id}
 use Rattle.front_mirror.proofs.KnownSheets.{last_is_sheet, shown_is_sheet, added_news_fit, changed_news_fit, removed_news_fit}
 
+target-fits : (target : ℕ) (u : Nodes Seen) → AreShown (target_nodes target) u → suits_view u ≡ true → is_counted target ≡ true
+target-fits zero u are s = refl
+target-fits (suc n) u are s = (shown_id (suc n) u are.0 s).counted
+
 pause-fits : (why : PauseData) (u : Nodes Seen) → AreShown (paused_nodes why) u → suits_view u ≡ true → fits_news (paused why) ≡ true
 pause-fits (pause.Subtree watched target true) u are s =
     let a = shown_id watched u are.0 s in
-    let b = shown_id target u are.1.0 s in
-    both (both (both a.counted a.positive) (both (both b.counted b.positive) refl)) refl
+    both (both (both a.counted a.positive) (both (target-fits target u are.1 s) refl)) refl
 pause-fits (pause.Subtree watched target false) u are s =
     let a = shown_id watched u are.0 s in
-    let b = shown_id target u are.1.0 s in
-    both (both (both a.counted a.positive) (both (both b.counted b.positive) refl)) refl
+    both (both (both a.counted a.positive) (both (target-fits target u are.1 s) refl)) refl
 pause-fits (pause.Attribute watched) u are s = let a = shown_id watched u are.0 s in both (both (both a.counted a.positive) refl) refl
 pause-fits (pause.Removed watched) u are s = let a = shown_id watched u are.0 s in both (both (both a.counted a.positive) refl) refl
 

@@ -26,7 +26,7 @@ use Rattle.inspect_world.specs.Fold.{folded, asks_joined}
 use Rattle.front_mirror.specs.declared.panels.PanelKind.{PanelKind}
 use Rattle.inspect_world.specs.World.{World, Audience, Spent, nothing_spent, one_raw, raw, turned, delivered_up, settled}
 use Rattle.back_end.proofs.WatchedLemmas.{none-set}
-use Rattle.back_end.specs.States.{page_nodes, loaded_state, HoldsNow, IsState}
+use Rattle.back_end.specs.States.{nodes_shown, loaded_state, HoldsNow, IsState}
 use Rattle.back_end.specs.Steps.{Turn, acts, loads}
 use Rattle.inspect_world.specs.RunStates.{RunState, run_start, run_step, run_turn}
 use Rattle.inspect_world.proofs.Growing.{pauses-of}
@@ -93,9 +93,10 @@ holds-first page can texts = record {
   page = loaded_valid 1 page.nodes (omega arith) can.nodes;
   texts = ((IsUtf8-nil, IsUtf8-nil, tt), texts-numbered 2 page.nodes texts.nodes, tt);
   sheets = sheets-first page.sheets can.sheets texts.sheets;
-  session = IsSession-begun (page_nodes (loaded_state page));
+  session = IsSession-begun (nodes_shown (loaded_state page));
   off = λ off. refl;
   css_off = λ off. refl;
+  all_shown = λ off. refl;
   watched = λ kind serial here. none-set kind serial here;
   none_watched = λ none. refl;
 }

@@ -153,7 +153,7 @@ sheet-edit-never (style.SetMediaText sheet range text) m e = absurd cc
 styles-command : (id : ℕ) (c : Command) (state : State) (ms : List Move) → ms ≡ (command_step id c state).moves
     → MayAnswerAll (method_name c) ms
     → styles_in ms ≡ styles_asked (Ok (record { id = id; command = c })) state
-styles-command id DomEnable state ms is may = other DomEnable ms (λ m e. absurd cc) may
+styles-command id (DomEnable word) state ms is may = other (DomEnable word) ms (λ m e. absurd cc) may
 styles-command id DomDisable state ms is may = other DomDisable ms (λ m e. absurd cc) may
 styles-command id (AskDom a) state ms is may = other (AskDom a) ms (ask-never a) may
 styles-command id (EditDom e) state ms is may = other (EditDom e) ms (edit-never e) may

@@ -2,11 +2,11 @@
 use Rattle.std.proofs.Common.{◌≡◌, Some, None, ◌++◌, sym, ap, ◌∙◌}
 use Rattle.page_tree.specs.Pages.{PageValue}
 use Rattle.client_views.specs.Moves.{frames_of_moves}
-use Rattle.back_end.specs.Plans.{node_edit_fault, node_put}
+use Rattle.back_end.specs.Plans.{node_edit_fault}
 use Rattle.back_end.specs.Steps.{refusing}
 use Rattle.back_end.proofs.SeatLemmas.{on_ok}
 use Rattle.back_end.proofs.ScriptLemmas.{in_any}
-use Rattle.back_end.proofs.TreeSeats.{can-push, fault-here, put-answered-sent, fault-both, fault-sent}
+use Rattle.back_end.proofs.TreeSeats.{can-push, put-answered-sent, fault-both, fault-sent}
 use Rattle.back_end.proofs.NoteSeats.{edited-both}
 use Rattle.back_end.proofs.desk.Desk.answer_node_edit.Goals as goal
 
@@ -28,12 +28,9 @@ pub returns-clause-stands : goal.returns-clause-stands
 returns-clause-stands c = λ state both begun.
     let fits : node_edit_fault c.args.edit c.args.side.now.page
     ≡ None = ap (λ (p : PageValue). node_edit_fault c.args.edit p) (sym c.page.ensures) ∙ sym c.in_default.ensures in
-    let put : node_put c.args.edit state.side.page
-    ≡ c.in_ok-put.put = sym (c.in_ok-put.ensures.put ∙ ap (λ (p : PageValue). node_put c.args.edit p) both.stands.page_is) in
     on_ok c.answer_put.result _ _
     (c.answer_put.ensures.stands _ (c.in_ok-put.ensures.stands state both.stands)
-    (can-push state c.args.edit c.in_ok-put.put both.stands.now begun
-    (fault-here c.args.side.now state c.args.edit None both.stands.page_is fits) put))
+    (can-push state c.args.edit begun))
     (edited-both c.args.self.now c.answer_put.new.self c.args.history.now c.put.new.history c.args.side.now c.put.new.side state c.args.id
     c.args.edit c.in_ok-put.put both c.requires.plain fits
     c.in_ok-put.ensures.put c.in_ok-put.ensures.noted)
@@ -42,12 +39,9 @@ pub returns-clause-sent : goal.returns-clause-sent
 returns-clause-sent c = λ state stands begun.
     let fits : node_edit_fault c.args.edit c.args.side.now.page
     ≡ None = ap (λ (p : PageValue). node_edit_fault c.args.edit p) (sym c.page.ensures) ∙ sym c.in_default.ensures in
-    let put : node_put c.args.edit state.side.page
-    ≡ c.in_ok-put.put = sym (c.in_ok-put.ensures.put ∙ ap (λ (p : PageValue). node_put c.args.edit p) stands.page_is) in
     on_ok c.answer_put.result _ _
     (c.answer_put.ensures.sent _ (c.in_ok-put.ensures.stands state stands)
-    (can-push state c.args.edit c.in_ok-put.put stands.now begun
-    (fault-here c.args.side.now state c.args.edit None stands.page_is fits) put))
+    (can-push state c.args.edit begun))
     (put-answered-sent c.args.side.now state c.args.id c.args.edit c.in_ok-put.put c.args.out.now.items c.put.new.out.items
     c.answer_put.new.out.items stands.page_is fits c.in_ok-put.ensures.put
     (c.in_ok-put.ensures.sent state stands))

@@ -4,7 +4,8 @@ use Rattle.back_end.proofs.ScriptLemmas.{edit-stands, edit-sent, edit-few}
 use Rattle.back_end.proofs.desk.Desk.apply.Goals as goal
 
 pub returns-in-Ok-clause-few : goal.returns-in-Ok-clause-few
-returns-in-Ok-clause-few c = edit-few c.args.side.now.page c.args.edit c.args.self.now.agent c.edit.new.self c.in-Ok.ensures.agent
+returns-in-Ok-clause-few c = edit-few c.args.self.now.agent.mode c.args.side.now.page c.args.edit c.args.self.now.agent c.edit.new.self
+    c.in-Ok.ensures.agent
 
 pub returns-in-Ok-clause-stands : goal.returns-in-Ok-clause-stands
 returns-in-Ok-clause-stands c = λ state stands texts.

@@ -19,15 +19,20 @@ ask_agent-requires-clause-ask c = subst (λ (x : Command). fits_command x ≡ tr
 pub ask_agent-requires-clause-standing : goal.ask_agent-requires-clause-standing
 ask_agent-requires-clause-standing c = ∥∥₁_map c.requires.standing (λ p. (p.0, p.1.stands))
 
+pub enable-requires-clause-standing : goal.enable-requires-clause-standing
+enable-requires-clause-standing c = ∥∥₁_map c.requires.standing (λ p. (p.0, p.1.stands))
+
 pub returns-in-DomEnable-clause-stands : goal.returns-in-DomEnable-clause-stands
 returns-in-DomEnable-clause-stands c = λ state both.
     plain-both c.enable.result c.args.self.now c.enable.new.self c.args.side.now c.enable.new.side c.args.history.now state c.args.id
-    commands.DomEnable c.args.command (sym c.in-DomEnable.is) enables-alone both
+    (commands.DomEnable c.in-DomEnable.include_whitespace) c.args.command (sym c.in-DomEnable.is)
+    (enables-alone c.in-DomEnable.include_whitespace) both
     (c.enable.ensures.stands state both.stands)
 
 pub returns-in-DomEnable-clause-sent : goal.returns-in-DomEnable-clause-sent
 returns-in-DomEnable-clause-sent c = λ state both.
-    part-sent c.enable.result state c.args.id commands.DomEnable c.args.command c.args.out.now.items c.enable.new.out.items
+    part-sent c.enable.result state c.args.id
+    (commands.DomEnable c.in-DomEnable.include_whitespace) c.args.command c.args.out.now.items c.enable.new.out.items
     (sym c.in-DomEnable.is) (c.enable.ensures.sent state)
 
 pub returns-in-CssEnable-clause-stands : goal.returns-in-CssEnable-clause-stands

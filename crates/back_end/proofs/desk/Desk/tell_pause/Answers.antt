@@ -35,12 +35,12 @@ pub returns-in-Subtree-Some-clause-stands : goal.returns-in-Subtree-Some-clause-
 returns-in-Subtree-Some-clause-stands c = λ state stands is.
     let p = subtree-is c.args.pause c.in-Subtree-Some.target c.in-Subtree-Some.is-1 is in
     let can = watched-can state Subtree c.args.pause.node stands.now p.1 in
-    on_ok c.tell_subtree.result _ _ (c.tell_subtree.ensures.stands state stands can (record { begun = can.begun; there = p.2 }))
+    on_ok c.tell_subtree.result _ _ (c.tell_subtree.ensures.stands state stands can)
     (told-stands c.tell_subtree.new.self c.args.side.now state c.args.pause _ p.0)
 
 pub returns-in-Subtree-Some-clause-sent : goal.returns-in-Subtree-Some-clause-sent
 returns-in-Subtree-Some-clause-sent c = λ state stands is.
     let p = subtree-is c.args.pause c.in-Subtree-Some.target c.in-Subtree-Some.is-1 is in
     let can = watched-can state Subtree c.args.pause.node stands.now p.1 in
-    on_ok c.tell_subtree.result _ _ (c.tell_subtree.ensures.sent state stands can (record { begun = can.begun; there = p.2 }))
+    on_ok c.tell_subtree.result _ _ (c.tell_subtree.ensures.sent state stands can)
     (told-sent state c.args.pause _ c.args.out.now.items c.tell_subtree.new.out.items p.0)
