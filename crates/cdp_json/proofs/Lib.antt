@@ -8,3 +8,5 @@ pub mod TokenTexts
 pub mod ReadTexts
 pub mod ReadPlain
 pub mod LookupLaws
+pub mod WrittenTokens
+pub mod TakenTokens

@@ -1,8 +1,9 @@
 // Tokens taken one by one, each of the kind that is meant to come next.
-ghost use Rattle.std.specs.Prelude.{◌≡◌, ◌∷◌, MatchResult};
-ghost use Rattle.json.specs.Token.{begin_object, end_object, begin_array, key, string};
+ghost use Rattle.std.specs.Prelude.{◌≡◌, ◌∷◌, ◌++◌, decimal, true, Some, IfOk, IfSome, MatchResult};
+ghost use Rattle.json.specs.Token.{begin_object, end_object, begin_array, key, string, number as number_token};
 ghost use Rattle.cdp_json.specs.declared.tokens.ScanErr.TheVariants.{OtherForm};
-ghost use Rattle.cdp_json.specs.Tokens.{IsOther, IsOtherKind};
+ghost use Rattle.cdp_json.specs.Kinds.{whole, text as text_kind, is_counted};
+ghost use Rattle.cdp_json.specs.Tokens.{field_tokens, IsOther, IsOtherKind};
 
 use json::{Reader, Token};
 use std::alloc::{AllocError, AllocFailed};
@@ -105,5 +106,64 @@ pub fn take_text<'a>(reader: &mut Reader<'a>) -> Result<&'a str, ScanErr>
     match reader.next() {
         Some(Token::String(text)) => Ok(text),
         _ => Err(ScanErr::OtherForm),
+    }
+}
+
+/// The member of that name, which is a text.
+pub fn take_text_field<'a>(reader: &mut Reader<'a>, name: &str) -> Result<&'a str, ScanErr>
+    ensures { IfOk result (λ t. reader.old ≡ field_tokens name.now (Some (text_kind.spell t.now)) ++ reader.new) }
+{
+    take_key(reader, name)?;
+    take_text(reader)
+}
+
+// A number that is spelled as it is written.
+fn spelled(text: &str) -> Option<u64>
+    ensures { IfSome result (λ n. text.now ≡ decimal n) }
+{
+    let number = text.parse::<u64>().ok()?;
+    let mut buffer = itoa::Buffer::new();
+    if buffer.format(number) == text {
+        Some(number)
+    } else {
+        None
+    }
+}
+
+/// A number, spelled as it is written.
+pub fn take_whole(reader: &mut Reader<'_>) -> Result<u64, ScanErr>
+    ensures { IfOk result (λ n. reader.old ≡ number_token (decimal n) ∷ reader.new) }
+{
+    match reader.next() {
+        Some(Token::Number(text)) => spelled(text).ok_or(ScanErr::OtherForm),
+        _ => Err(ScanErr::OtherForm),
+    }
+}
+
+/// The member of that name, which is a number spelled as it is written.
+pub fn take_whole_field(reader: &mut Reader<'_>, name: &str) -> Result<u64, ScanErr>
+    ensures { IfOk result (λ n. reader.old ≡ field_tokens name.now (Some (whole.spell n)) ++ reader.new) }
+{
+    take_key(reader, name)?;
+    take_whole(reader)
+}
+
+/// The number is below 2^53.
+pub fn is_counted(number: u64) -> bool
+    ensures { result ≡ is_counted number }
+{
+    number < 1 << 53
+}
+
+/// The member of that name, which is a number from 0 to 2^53-1 spelled as it is written.
+pub fn take_counted_field(reader: &mut Reader<'_>, name: &str) -> Result<u64, ScanErr>
+    ensures read { IfOk result (λ n. reader.old ≡ field_tokens name.now (Some (whole.spell n)) ++ reader.new) }
+    ensures fits { IfOk result (λ n. whole.fits n ≡ true) }
+{
+    let number = take_whole_field(reader, name)?;
+    if is_counted(number) {
+        Ok(number)
+    } else {
+        Err(ScanErr::OtherForm)
     }
 }

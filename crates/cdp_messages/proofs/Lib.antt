@@ -12,3 +12,4 @@ pub mod ZeroFree
 pub mod MessageTokens
 mod RootScans
 pub mod MethodRows
+mod MatchedScans

@@ -5,7 +5,8 @@
 //! appends is exactly the text of its message; what comes down is read exactly where it is a message, strictly as it is spelled.
 //!
 //! Way in: `read_command` for the back end, `write_reply`, `write_event` and `write_refused` for its answers; `write_command`,
-//! `read_down` and `read_result` for the front end, and `read_root` for a document read in one pass.
+//! `read_down` and `read_result` for the front end, and `read_root` and `read_matched` for a document and for
+//! matched styles, each read in one pass.
 //!
 //! Law: `spell_law` (src/laws.rt, specs/Laws): what is written is read again, from whatever text a value comes, and no value
 //! spells two messages. The names of methods stand once, in specs/Methods, their parameters in specs/Parameters, the order of
@@ -24,6 +25,7 @@ mod event_read;
 mod event_write;
 mod kept;
 mod laws;
+mod matched_reply;
 mod method;
 mod node_message;
 mod numbers;
@@ -55,6 +57,7 @@ pub use edits::{TextEdit, TextEdits};
 pub use event_write::write_event;
 pub use kept::Json;
 pub use laws::spell_law;
+pub use matched_reply::read_matched;
 pub use method::{Domains, Method, Server};
 pub use node_message::NodeMessage;
 pub use node_tree::{Attributes, Kind, Kind as NodeType, Text, WatchKind as WatchWord};

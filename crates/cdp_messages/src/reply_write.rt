@@ -10,6 +10,7 @@ ghost use Rattle.pipe_frames.specs.Frames.{framed};
 ghost use Rattle.cdp_messages.specs.Forms.{body_said};
 
 use crate::down::ReplyBody;
+use crate::matched_reply::append_matched;
 use crate::node_message::NodeMessage;
 use crate::numbers::Numbers;
 use crate::search_ids::search_value;
@@ -17,7 +18,7 @@ use crate::tree_messages::append_tree;
 use crate::write::append;
 use cdp_json::{ObjectBuilder, whole_list};
 use css_objects::{
-    class_names_value, matched_value, new_media_value, new_rule_value, new_selectors_value,
+    Matched, class_names_value, new_media_value, new_rule_value, new_selectors_value,
     sheet_text_value, styles_value,
 };
 use dom_objects::NodeTree;
@@ -77,6 +78,7 @@ pub(crate) enum BodyForm<'a> {
     Plain(Value),
     Root(&'a NodeTree),
     Node(&'a NodeTree),
+    Matched(&'a Matched),
 }
 
 // A result of this value, where it could be made.
@@ -103,7 +105,7 @@ fn body_form(alloc: Global, body: &ReplyBody) -> Result<BodyForm<'_>, AllocError
         ReplyBody::Selectors(selectors) => plain_body(new_selectors_value(alloc, selectors)),
         ReplyBody::Rule(rule) => plain_body(new_rule_value(alloc, rule)),
         ReplyBody::Media(media) => plain_body(new_media_value(alloc, media)),
-        ReplyBody::Matched(matched) => plain_body(matched_value(alloc, matched)),
+        ReplyBody::Matched(matched) => Ok(BodyForm::Matched(matched)),
     }
 }
 
@@ -147,5 +149,6 @@ pub fn write_reply(
         BodyForm::Plain(value) => append_reply(alloc, id, value, out),
         BodyForm::Root(tree) => append_tree(alloc, NodeMessage::Root { id }, tree, out),
         BodyForm::Node(tree) => append_tree(alloc, NodeMessage::Node { id }, tree, out),
+        BodyForm::Matched(matched) => append_matched(alloc, id, matched, out),
     }
 }

@@ -18,7 +18,7 @@ use std::alloc::Global;
 const LEVELS: u64 = MOST_TOLD + 1;
 
 // That nothing is left.
-fn take_end(reader: &mut Reader<'_>) -> Result<(), ScanErr>
+pub(crate) fn take_end(reader: &mut Reader<'_>) -> Result<(), ScanErr>
     ensures { OnOk result (reader.old ≡ []) }
 {
     match reader.next() {

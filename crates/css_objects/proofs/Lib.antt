@@ -4,3 +4,5 @@ pub mod Options
 mod ReadLists
 pub mod SheetIds
 pub mod SoundKinds
+mod WrittenParts
+mod TakenParts

@@ -17,9 +17,11 @@ mod media;
 mod ranges;
 mod results;
 mod rules;
+mod scan;
 mod selectors;
 mod sheets;
 mod styles;
+mod token_write;
 
 pub use laws::css_objects_law;
 pub use listed::Listed;
@@ -34,6 +36,7 @@ pub use rules::{
     Inherited, Matched, Rule, RuleMatch, inherited_of, inherited_value, match_of, match_value,
     matched_of, matched_value, rule_of, rule_value,
 };
+pub use scan::scan_matched;
 pub use selectors::{
     RuleSelectors, SelectorValue, Weight, selector_of, selector_value, selectors_of,
     selectors_value,
@@ -45,3 +48,4 @@ pub use sheets::{
 pub use styles::{
     Style, StyleProperty, inline_style_of, property_of, property_value, rule_style_of, style_value,
 };
+pub use token_write::write_matched;

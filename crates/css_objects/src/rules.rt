@@ -166,7 +166,7 @@ pub fn rule_value(alloc: Global, rule: &Rule) -> Result<Value, AllocError>
         .build()
 }
 
-fn ascend(numbers: &[u64]) -> bool
+pub(crate) fn ascend(numbers: &[u64]) -> bool
     ensures { result ≡ ascend numbers.now }
 {
     let mut last = None;

@@ -121,7 +121,7 @@ pub(crate) fn sheet_if_any_value(
     }
 }
 
-fn origin_in(name: &str) -> Option<SheetOrigin>
+pub(crate) fn origin_in(name: &str) -> Option<SheetOrigin>
     ensures { result ≡ origin_named name.now }
 {
     match name {

@@ -1,12 +1,13 @@
 -- Tokens that are read one after the other.
-use Rattle.std.proofs.Common.{◌≡◌, ℕ, ◌<◌, List, [], ◌∷◌, ◌++◌, length, length-append, Bool, Option, Some, None, option_map, decimal}
+use Rattle.std.proofs.Common.{◌≡◌, ℕ, ◌<◌, List, [], ◌∷◌, ◌++◌, length, Bool, Option, Some, None, option_map, decimal}
 use Rattle.std.proofs.Common.{append_assoc, sym, ap, ap₂, ◌∙◌, arith}
-use Rattle.std.specs.Prelude.{codes, flat_map}
-use Rattle.std.proofs.lemmas.List.{flat_map_more}
+use Rattle.std.specs.Prelude.{codes}
 use Rattle.json.specs.Json.{after_end_array}
-use Rattle.json.specs.Token.{Token, begin_object, end_object, begin_array, end_array, key, string, number, boolean, null, bad}
+use Rattle.json.specs.Token.{Token, begin_object, end_object, begin_array, key, string, number}
 use Rattle.serde_json.specs.Data.{Data, array, Items}
 use Rattle.cdp_json.specs.Kinds.{whole}
+use Rattle.cdp_json.proofs.TakenTokens.{items_step, items_over, shorter}
+pub use Rattle.cdp_json.proofs.TakenTokens.{IsRead, none_yet}
 use Rattle.node_tree.specs.Labels.{Pair}
 use Rattle.node_tree.specs.Nodes.{Branch, nodes_of}
 use Rattle.dom_objects.specs.declared.node_read.NodeParts.{NodeParts}
@@ -19,41 +20,6 @@ use Rattle.dom_objects.specs.Raw.{object_over, object_behind, behind_tokens, nex
 use Rattle.dom_objects.proofs.TokenLists.{object_tokens, pair_tokens, branch_tokens, pairs_tokens, branches_tokens}
 
 -- ---- the items of an array
-
-array_ended : (old new : List Token) → after_end_array old ≡ Some new → old ≡ end_array ∷ new
-array_ended [] new e = absurd cc
-array_ended (begin_object ∷ ts) new e = absurd cc
-array_ended (end_object ∷ ts) new e = absurd cc
-array_ended (begin_array ∷ ts) new e = absurd cc
-array_ended (end_array ∷ ts) new e = cc
-array_ended (key s ∷ ts) new e = absurd cc
-array_ended (string s ∷ ts) new e = absurd cc
-array_ended (number s ∷ ts) new e = absurd cc
-array_ended (boolean b ∷ ts) new e = absurd cc
-array_ended (null ∷ ts) new e = absurd cc
-array_ended (bad ∷ ts) new e = absurd cc
-
--- what was read of an array, and what is left
-abbrev pub IsRead : {A : Type 0} → (A → List Token) → List Token → List A → List Token → Type 0
-IsRead f start xs left = start ≡ begin_array ∷ (flat_map f xs ++ left)
-
--- nothing of it
-pub none_yet : {A : Type 0} (f : A → List Token) (start left : List Token) (xs : List A) → xs ≡ [] → start ≡ begin_array ∷ left
-    → IsRead f start xs left
-none_yet f start left xs e begun = begun ∙ ap (λ ys. begin_array ∷ (flat_map f ys ++ left)) (sym e)
-
-items_step : {A : Type 0} (f : A → List Token) (start left new : List Token) (xs ys : List A) (x : A) → IsRead f start xs left
-    → left ≡ f x ++ new → ys ≡ xs ++ x ∷ [] → IsRead f start ys new
-items_step f start left new xs ys x so e m =
-    so ∙ ap (λ r. begin_array ∷ (flat_map f xs ++ r)) e ∙ ap (λ r. begin_array ∷ r) (sym (append_assoc (flat_map f xs) (f x) new))
-    ∙ ap (λ r. begin_array ∷ (r ++ new)) (flat_map_more f [] xs x) ∙ ap (λ zs. begin_array ∷ (flat_map f zs ++ new)) (sym m)
-
-items_over : {A : Type 0} (f : A → List Token) (start left new : List Token) (xs : List A) → IsRead f start xs left
-    → after_end_array left ≡ Some new
-    → start ≡ begin_array ∷ ((flat_map f xs ++ end_array ∷ []) ++ new)
-items_over f start left new xs so e =
-    so ∙ ap (λ r. begin_array ∷ (flat_map f xs ++ r)) (array_ended left new e) ∙ ap (λ r. begin_array ∷ r)
-    (sym (append_assoc (flat_map f xs) (end_array ∷ []) new))
 
 pub pairs_step : (start left middle new : List Token) (ps qs : List Pair) (name value : List ℕ) → IsRead pair_tokens start ps left
     → left ≡ string name ∷ middle → middle ≡ string value ∷ new
@@ -78,9 +44,6 @@ branches_over start left new bs so e = items_over branch_tokens start left new b
     (sym (branches_tokens bs))
 
 -- ---- fewer are left
-
-shorter : (t : Token) (rest left new : List Token) → left ≡ t ∷ (rest ++ new) → length new < length left
-shorter t rest left new e = omega (arith, ap length e, length-append rest new)
 
 pub pair_shorter : (left middle new : List Token) (name value : List ℕ) → left ≡ string name ∷ middle → middle ≡ string value ∷ new
     → length new < length left

@@ -1,19 +1,19 @@
--- Tokens that are written one after the other.
-use Rattle.std.proofs.Common.{◌≡◌, ℕ, ◌+◌, ◌<◌, ◌≤◌, List, [], ◌∷◌, ◌++◌, length, get_or, take, map, Option, Some, None, Result, Ok, Err}
-use Rattle.std.proofs.Common.{Vec, Global, OnOk, IsOk, IsUtf8, append_assoc, refl, sym, ap, ap₂, ◌∙◌, subst, add-one}
+-- Nodes that are written, as tokens one after the other.
+use Rattle.std.proofs.Common.{◌≡◌, ℕ, ◌<◌, ◌≤◌, List, [], ◌∷◌, ◌++◌, length, take, map, Option, Some, None, Result, Ok, Err}
+use Rattle.std.proofs.Common.{Vec, Global, OnOk, IsOk, IsUtf8, append_assoc, refl, sym, ap, ap₂, ◌∙◌, subst}
 use Rattle.std.specs.Prelude.{codes, nat_lt, flat_map, option_map}
-use Rattle.std.proofs.Math.Seq.{take-suc}
-use Rattle.std.proofs.lemmas.List.{take_all, flat_map_more}
 use Rattle.json.specs.Token.{Token, begin_object, end_object, begin_array, end_array, key, string}
 use Rattle.json.specs.Print.{print}
-use Rattle.json.specs.Tree.{items_tokens, members_tokens}
+use Rattle.json.specs.Tree.{items_tokens}
 use Rattle.serde_json.specs.Data as values
 use Rattle.serde_json.specs.Data.{Data, array, Items, Members, no_members, member}
 use Rattle.serde_json.specs.View.{items_of}
-use Rattle.serde_json.specs.Written.{items_outline, members_outline, compact_text}
+use Rattle.serde_json.specs.Written.{items_outline, compact_text}
 use Rattle.serde_json.proofs.Texts.{print-outline}
 use Rattle.cdp_json.specs.Kinds.{whole, text}
 use Rattle.cdp_json.specs.Rows.{maybe_member}
+use Rattle.cdp_json.proofs.WrittenTokens.{rest_tokens, field_first, items_end}
+pub use Rattle.cdp_json.proofs.WrittenTokens.{after, after_last, items_turn}
 use Rattle.node_tree.specs.Labels.{Pair, Label, is_element, holds}
 use Rattle.node_tree.specs.Nodes.{Branch, nodes_of}
 use Rattle.node_tree.specs.Seen.{is_opened}
@@ -26,16 +26,7 @@ use Rattle.dom_objects.specs.Tokens.{data_tokens, field_tokens, head_tokens, tai
 use Rattle.dom_objects.specs.NodeRows.{unshown}
 use Rattle.dom_objects.proofs.Written.{told_tree, written_items, tree_written}
 
--- ---- one call after another
-
-pub after : (old xs ys : List Token) {mid new : List Token} → mid ≡ old ++ xs → new ≡ mid ++ ys → new ≡ old ++ (xs ++ ys)
-after old xs ys first rest = rest ∙ ap (λ ts. ts ++ ys) first ∙ append_assoc old xs ys
-
--- the same, where the second call is the last
-pub after_last : {E : Type 0} (old xs ys : List Token) (r : Result (Unit {0}) E) (new : List Token) {mid : List Token} → mid ≡ old ++ xs
-    → OnOk r (new ≡ mid ++ ys) → OnOk r (new ≡ old ++ (xs ++ ys))
-after_last old xs ys (Ok u) new first rest = after old xs ys first rest
-after_last old xs ys (Err e) new first rest = tt
+-- ---- a node's object, part after part
 
 -- a node's object behind its children; some of its texts are known by other names
 pub tail_written : (old : List Token) (r : Told) {local name value : List ℕ} {number : ℕ} {t1 t2 t3 t4 t5 t6 new : List Token}
@@ -59,15 +50,6 @@ pub head_written : (old : List Token) (r : Told) {t1 t2 t3 new : List Token} →
 head_written old r e1 e2 e3 e4 = rw (e4, e3, e2, e1) (simp append_assoc)
 
 -- ---- the members of an object
-
--- the tokens of the members, with the brace that closes the object
-abbrev pub rest_tokens : Members → List Token
-rest_tokens ms = members_tokens (members_outline ms)
-
-field_first : (k : List ℕ) (o : Option Data) (ms : Members) (ts : List Token) → rest_tokens ms ≡ ts
-    → rest_tokens (maybe_member k o ms) ≡ field_tokens k o ++ ts
-field_first k None ms ts e = e
-field_first k (Some d) ms ts e = ap (λ r. field_tokens k (Some d) ++ r) e
 
 regroup : (b : Token) (x y z r : List Token) → b ∷ (x ++ (y ++ (z ++ r))) ≡ (b ∷ (x ++ (y ++ z))) ++ r
 regroup b x y z r = ap (λ ts. b ∷ ts) (sym (append_assoc x (y ++ z) r ∙ ap (λ ts. x ++ ts) (append_assoc y z r)))
@@ -178,21 +160,6 @@ pub branches_tokens : (bs : List (Branch Told))
 branches_tokens [] = refl
 branches_tokens (b ∷ bs) = ap (λ ts. branch_tokens b ++ ts) (branches_tokens bs) ∙ sym
     (append_assoc (branch_tokens b) (flat_map branch_tokens bs) (end_array ∷ []))
-
--- a turn of a loop that writes items
-pub items_turn : {A : Type 0} (f : A → List Token) (start now next : List Token) (xs : List A) (x : A) (i : ℕ) → i < length xs
-    → x ≡ get_or xs i x → next ≡ now ++ f x
-    → now ≡ start ++ flat_map f (take i xs) → next ≡ start ++ flat_map f (take (i + 1) xs)
-items_turn f start now next xs x i below at step so =
-    let more : take i xs ++ x ∷ [] ≡ take (i + 1) xs = sym (rw add-one (take-suc xs i x below ∙ ap (λ y. take i xs ++ y ∷ []) (sym at))) in
-    step ∙ ap (λ ts. ts ++ f x) so ∙ flat_map_more f start (take i xs) x ∙ ap (λ ys. start ++ flat_map f ys) more
-
-items_end : {A : Type 0} (f : A → List Token) (old start now last : List Token) (xs : List A) (i : ℕ) → length xs ≤ i
-    → start ≡ old ++ begin_array ∷ []
-    → now ≡ start ++ flat_map f (take i xs) → last ≡ now ++ end_array ∷ [] → last ≡ old ++ (begin_array ∷ (flat_map f xs ++ end_array ∷ []))
-items_end f old start now last xs i all begun so framed =
-    after old (begin_array ∷ []) _ begun
-    (after start (flat_map f xs) (end_array ∷ []) (so ∙ ap (λ ys. start ++ flat_map f ys) (take_all i xs all)) framed)
 
 pub pairs_end : (old start now last : List Token) (ps qs : List Pair) (i : ℕ) → length ps ≤ i → ps ≡ qs → start ≡ old ++ begin_array ∷ []
     → now ≡ start ++ flat_map pair_tokens (take i ps) → last ≡ now ++ end_array ∷ [] → last ≡ old ++ data_tokens (attribute_list.spell qs)

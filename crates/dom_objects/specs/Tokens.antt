@@ -1,22 +1,11 @@
--- JSON as the tokens of its compact text.
-use Rattle.std.specs.Prelude.{ℕ, List, [], ◌∷◌, ◌++◌, codes, nat_lt, Option, Some, None, option_map}
-use Rattle.json.specs.Token.{Token, begin_object, end_object, key}
-use Rattle.json.specs.Tree.{json_tokens}
-use Rattle.serde_json.specs.Data.{Data}
-use Rattle.serde_json.specs.Written.{outline}
+-- A node as the tokens of its compact text.
+use Rattle.std.specs.Prelude.{List, [], ◌∷◌, ◌++◌, codes, nat_lt, Some, option_map}
+use Rattle.json.specs.Token.{Token, begin_object, end_object}
 use Rattle.cdp_json.specs.Kinds.{whole, text}
+pub use Rattle.cdp_json.specs.Tokens.{data_tokens, field_tokens}
 use Rattle.node_tree.specs.Labels.{is_element, holds}
 use Rattle.dom_objects.specs.Told.{Told}
 use Rattle.dom_objects.specs.NodeObject.{attribute_list, node_type, node_name, local_name, only_if}
-
--- the tokens of a value
-abbrev pub data_tokens : Data → List Token
-data_tokens d = json_tokens (outline d)
-
--- the tokens of a field, none where it has no value
-abbrev pub field_tokens : List ℕ → Option Data → List Token
-field_tokens name None = []
-field_tokens name (Some d) = key name ∷ data_tokens d
 
 -- the tokens of a node's object up to its children
 abbrev pub head_tokens : Told → List Token

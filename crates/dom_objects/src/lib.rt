@@ -23,12 +23,14 @@ mod token_write;
 mod tree;
 mod tree_write;
 
+pub use cdp_json::{is_counted, take_whole_field};
 pub use down_err::DownErr;
 pub use node_read::{attributes_of, tree_of, trees_of};
 pub use node_row::NodeRow;
 pub use node_rules::{Manner, are_attribute_names, is_ascending};
 pub use node_tree::{Attributes, Kind, Text};
 pub use node_writer::NodeWriter;
-pub use scan::{is_counted, scan_node, take_whole_field};
+pub use scan::scan_node;
+pub use token_write::{begin_frame, end_frame};
 pub use tree::NodeTree;
 pub use tree_write::{write_node, write_nodes};

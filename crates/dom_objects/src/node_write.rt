@@ -8,7 +8,7 @@ ghost use Rattle.dom_objects.specs.Tokens.{data_tokens, field_tokens, head_token
 ghost use Rattle.dom_objects.specs.NodeRows.{told_by};
 
 use crate::node_row::NodeRow;
-use crate::token_write::{text_field, whole_field};
+use cdp_json::{write_text_field, write_whole_field};
 use json::Writer;
 use node_tree::{Attributes, Kind};
 use std::alloc::{AllocError, Global};
@@ -101,7 +101,7 @@ fn count_field(out: &mut Writer, kind: Kind, count: u64) -> Result<(), AllocErro
     ensures before { out.new.before ≡ out.old.before }
 {
     if kind.is_container() {
-        whole_field(out, "childNodeCount", count)
+        write_whole_field(out, "childNodeCount", count)
     } else {
         Ok(())
     }
@@ -113,7 +113,7 @@ fn parent_field(out: &mut Writer, parent: u64) -> Result<(), AllocError>
     ensures before { out.new.before ≡ out.old.before }
 {
     if parent > 0 {
-        whole_field(out, "parentId", parent)
+        write_whole_field(out, "parentId", parent)
     } else {
         Ok(())
     }
@@ -126,7 +126,7 @@ fn name_field(out: &mut Writer, held: &mut String, kind: Kind, name: &str) -> Re
     ensures before { out.new.before ≡ out.old.before }
 {
     put_name(held, kind, name)?;
-    text_field(out, "nodeName", held.as_str())
+    write_text_field(out, "nodeName", held.as_str())
 }
 
 /// A node's object, up to its children.
@@ -136,7 +136,7 @@ pub(crate) fn write_head(out: &mut Writer, row: &NodeRow) -> Result<(), AllocErr
 {
     out.begin_object()?;
     attributes_field(out, row.kind, row.attributes)?;
-    whole_field(out, "backendNodeId", row.serial)?;
+    write_whole_field(out, "backendNodeId", row.serial)?;
     count_field(out, row.kind, row.count)?;
     Ok(())
 }
@@ -150,11 +150,11 @@ pub(crate) fn write_tail(
     ensures ok { OnOk result (out.new.tokens ≡ out.old.tokens ++ tail_tokens (told_by row.now)) }
     ensures before { out.new.before ≡ out.old.before }
 {
-    text_field(out, "localName", local_name(row.kind, row.name))?;
-    whole_field(out, "nodeId", row.id)?;
+    write_text_field(out, "localName", local_name(row.kind, row.name))?;
+    write_whole_field(out, "nodeId", row.id)?;
     name_field(out, held, row.kind, row.name)?;
-    whole_field(out, "nodeType", type_number(row.kind))?;
-    text_field(out, "nodeValue", row.value)?;
+    write_whole_field(out, "nodeType", type_number(row.kind))?;
+    write_text_field(out, "nodeValue", row.value)?;
     parent_field(out, row.parent)?;
     out.end_object()?;
     Ok(())

@@ -10,7 +10,8 @@ ghost use Rattle.dom_objects.specs.NodeRows.{told_by};
 
 use crate::node_row::NodeRow;
 use crate::node_write::{write_head, write_tail};
-use crate::token_write::{begin_frame, end_frame, text_field, whole_field};
+use crate::token_write::{begin_frame, end_frame};
+use cdp_json::{write_text_field, write_whole_field};
 use json::Writer;
 use std::alloc::{AllocError, Global};
 use std::marker::Model;
@@ -86,7 +87,7 @@ impl NodeWriter {
             ++ field_tokens name.now (Some (whole.spell number))) }
         ensures before { self.new.before ≡ self.old.before }
     {
-        whole_field(&mut self.writer, name, number)
+        write_whole_field(&mut self.writer, name, number)
     }
 
     /// A member that is a text.
@@ -95,7 +96,7 @@ impl NodeWriter {
             ++ field_tokens name.now (Some (text.spell value.now))) }
         ensures before { self.new.before ≡ self.old.before }
     {
-        text_field(&mut self.writer, name, value)
+        write_text_field(&mut self.writer, name, value)
     }
 
     /// A node up to its children.

@@ -1,8 +1,8 @@
 // A node out of the tokens that are written for one, in one pass. Any other text is left to `serde_json`.
-ghost use Rattle.std.specs.Prelude.{◌≡◌, ◌≤◌, [], ◌++◌, ◌∷◌, ◌&&◌, codes, decimal, None, Some, option_map, true, IfOk, IfSome, OnOk};
-ghost use Rattle.json.specs.Token.{begin_object, end_object, begin_array, key, number as number_token, string as string_token};
+ghost use Rattle.std.specs.Prelude.{◌≡◌, ◌≤◌, ◌++◌, ◌∷◌, ◌&&◌, codes, None, Some, option_map, true, IfOk};
+ghost use Rattle.json.specs.Token.{end_object, key};
 ghost use Rattle.serde_json.specs.Data.{array};
-ghost use Rattle.cdp_json.specs.Kinds.{whole, text as text_kind, is_counted, holds_of_some};
+ghost use Rattle.cdp_json.specs.Kinds.{whole, is_counted, holds_of_some};
 ghost use Rattle.node_tree.specs.Nodes.{nodes_of, alone, height, width};
 ghost use Rattle.dom_objects.specs.Told.{shown_children};
 ghost use Rattle.dom_objects.specs.NodeObject.{attribute_list, node_type, node_fields};
@@ -14,45 +14,15 @@ use crate::node_read::{Behind, NodeParts, kind_of_type};
 use crate::node_rules::Manner;
 use crate::tree::NodeTree;
 use cdp_json::{
-    ScanErr, take_any_key, take_begin_array, take_begin_object, take_end_object, take_key,
-    take_text,
+    ScanErr, is_counted, take_any_key, take_begin_array, take_begin_object, take_end_object,
+    take_key, take_text, take_text_field, take_whole, take_whole_field,
 };
 use json::{Reader, Token};
 use node_tree::{Attributes, Kind, Text};
-use std::alloc::{AllocError, Global};
+use std::alloc::Global;
 
 // The most children for which there is room before the first is read: their number is what the other end says.
 const MOST_ROOM: u64 = 256;
-
-// A number that is spelled as it is written.
-fn spelled(text: &str) -> Option<u64>
-    ensures { IfSome result (λ n. text.now ≡ decimal n) }
-{
-    let number = text.parse::<u64>().ok()?;
-    let mut buffer = itoa::Buffer::new();
-    if buffer.format(number) == text {
-        Some(number)
-    } else {
-        None
-    }
-}
-
-fn take_whole(reader: &mut Reader<'_>) -> Result<u64, ScanErr>
-    ensures { IfOk result (λ n. reader.old ≡ number_token (decimal n) ∷ reader.new) }
-{
-    match reader.next() {
-        Some(Token::Number(text)) => spelled(text).ok_or(ScanErr::OtherForm),
-        _ => Err(ScanErr::OtherForm),
-    }
-}
-
-/// The member of that name, which is a number spelled as it is written.
-pub fn take_whole_field(reader: &mut Reader<'_>, name: &str) -> Result<u64, ScanErr>
-    ensures { IfOk result (λ n. reader.old ≡ field_tokens name.now (Some (whole.spell n)) ++ reader.new) }
-{
-    take_key(reader, name)?;
-    take_whole(reader)
-}
 
 fn take_attributes(alloc: Global, reader: &mut Reader<'_>) -> Result<Attributes, ScanErr>
     ensures { IfOk result (λ pairs. reader.old ≡ data_tokens (attribute_list.spell pairs) ++ reader.new) }
@@ -146,21 +116,14 @@ fn kind_field(reader: &mut Reader<'_>) -> Result<Kind, ScanErr>
     kind_of_type(number).ok_or(ScanErr::OtherForm)
 }
 
-fn text_field<'a>(reader: &mut Reader<'a>, name: &str) -> Result<&'a str, ScanErr>
-    ensures { IfOk result (λ t. reader.old ≡ field_tokens name.now (Some (text_kind.spell t.now)) ++ reader.new) }
-{
-    take_key(reader, name)?;
-    take_text(reader)
-}
-
 fn take_behind<'a>(reader: &mut Reader<'a>) -> Result<Behind<'a>, ScanErr>
     ensures { IfOk result (λ b. key (codes "localName") ∷ reader.old ≡ behind_tokens b ++ reader.new) }
 {
     let local_name = take_text(reader)?;
     let id = take_whole_field(reader, "nodeId")?;
-    let name = text_field(reader, "nodeName")?;
+    let name = take_text_field(reader, "nodeName")?;
     let kind = kind_field(reader)?;
-    let value = text_field(reader, "nodeValue")?;
+    let value = take_text_field(reader, "nodeValue")?;
     let parent = parent_ahead(reader)?;
     Ok(Behind {
         local_name,
@@ -201,13 +164,6 @@ fn count_of(children: &Option<Vec<NodeTree>>) -> Option<u64>
         Some(trees) => Some(trees.len() as u64),
         None => None,
     }
-}
-
-/// The number is below 2^53.
-pub fn is_counted(number: u64) -> bool
-    ensures { result ≡ is_counted number }
-{
-    number < 1 << 53
 }
 
 fn is_counted_where_there(number: Option<u64>) -> bool

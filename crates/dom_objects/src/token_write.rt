@@ -1,34 +1,14 @@
 // Frames that are written token by token, by the writer that `serde_json` itself calls.
-ghost use Rattle.std.specs.Prelude.{◌≡◌, ◌++◌, [], length, Some, IsOk, IsUtf8, OnOk, OnErr};
+ghost use Rattle.std.specs.Prelude.{◌≡◌, ◌++◌, [], length, IsOk, IsUtf8, OnOk, OnErr};
 ghost use Rattle.json.specs.Print.{print};
-ghost use Rattle.cdp_json.specs.Kinds.{whole, text};
 ghost use Rattle.pipe_frames.specs.Frames.{framed};
-ghost use Rattle.dom_objects.specs.Tokens.{field_tokens};
 
 use json::Writer;
 use std::alloc::{AllocError, Global};
 use std::mem;
 
-pub(crate) fn whole_field(out: &mut Writer, name: &str, number: u64) -> Result<(), AllocError>
-    ensures ok { OnOk result (out.new.tokens ≡ out.old.tokens
-        ++ field_tokens name.now (Some (whole.spell number))) }
-    ensures before { out.new.before ≡ out.old.before }
-{
-    out.key(name)?;
-    out.u64(number)
-}
-
-pub(crate) fn text_field(out: &mut Writer, name: &str, value: &str) -> Result<(), AllocError>
-    ensures ok { OnOk result (out.new.tokens ≡ out.old.tokens
-        ++ field_tokens name.now (Some (text.spell value.now))) }
-    ensures before { out.new.before ≡ out.old.before }
-{
-    out.key(name)?;
-    out.string(value)
-}
-
 /// A writer of a frame behind what `out` holds, and how much that is. `end_frame` gives it back.
-pub(crate) fn begin_frame(alloc: Global, out: &mut Vec<u8>) -> (Writer, usize)
+pub fn begin_frame(alloc: Global, out: &mut Vec<u8>) -> (Writer, usize)
     ensures before { result.0.before ≡ out.old.items }
     ensures tokens { result.0.tokens ≡ [] }
     ensures start { result.1 ≡ length out.old.items }
@@ -39,7 +19,7 @@ pub(crate) fn begin_frame(alloc: Global, out: &mut Vec<u8>) -> (Writer, usize)
 }
 
 /// Ends a frame with its zero byte. Where it was not written whole, what was written of it is taken back.
-pub(crate) fn end_frame(
+pub fn end_frame(
     writer: Writer,
     start: usize,
     written: Result<(), AllocError>,

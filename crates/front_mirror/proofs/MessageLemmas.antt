@@ -25,6 +25,7 @@ use Rattle.dom_objects.specs.NodeKinds.{shows_no_children}
 use Rattle.cdp_messages.specs.Replies.{Message, reply, event, message_of, message_in, down_of, body_data, result_of, fits_body}
 use Rattle.cdp_messages.specs.Replies.{fits_message}
 use Rattle.cdp_messages.proofs.Messages.{messages_are_spelled, results_are_read, results_are_spelled}
+use Rattle.css_objects.specs.Rules.{matched_kind}
 use Rattle.front_mirror.specs.declared.faults.FrontKind.TheVariants.{NotMessage}
 use Rattle.css_objects.specs.declared.rules.Matched.{Matched}
 use Rattle.front_mirror.specs.declared.replies.MatchedReply.{MatchedReply}
@@ -166,6 +167,17 @@ other_taken v id frame d method b x has other is =
     ∙ ap (λ (rs : List MatchedReply). with_effect (with_matched v rs) (reply_frame id frame) (effect_of method b)) (untold id b other)
     ∙ ap (λ (u : FrontValue). with_effect u (reply_frame id frame) (effect_of method b)) (none_matched v)
     ∙ ap (with_effect v (reply_frame id frame)) (sym is)
+
+-- matched styles that an ask waits for
+pub styles_taken : (v : FrontValue) (frame : List ℕ) (id : ℕ) (m : Matched) (method : List ℕ)
+    → down_of frame ≡ Some (reply id (body_data (body.Matched m))) → matched_kind.fits m ≡ true
+    → method_waiting id v.asks ≡ Some method → method ≡ codes "CSS.getMatchedStylesForNode"
+    → take_frame v frame ≡ Ok (replied (with_matched v (record { ask = id; matched = m } ∷ [])) (reply_frame id frame) true v.tree)
+styles_taken v frame id m method told fits waits is =
+    let asked = codes "CSS.getMatchedStylesForNode" in
+    let read : IsRead v id (body_data (body.Matched m)) asked (body.Matched m) =
+    record { waits = waits ∙ ap Some is; result = results_are_read asked (body.Matched m) refl fits } in
+    ap (with_message v frame) told ∙ matched_taken v _ id frame (body_data (body.Matched m)) asked (body.Matched m) m read refl refl
 
 -- a document that an ask waits for
 pub document_taken : (v : FrontValue) (frame : List ℕ) (id : ℕ) (tree : Branch Told) (method : List ℕ)

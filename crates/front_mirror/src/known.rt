@@ -24,7 +24,8 @@ use crate::replies::{Ask, Kept, MatchedReply};
 use crate::roots::root_fault;
 use crate::sheets::{KnownSheets, new_sheet};
 use cdp_messages::{
-    Down, DownErr, Event, Header, PauseData, ReplyBody, read_down, read_result, read_root,
+    Down, DownErr, Event, Header, PauseData, ReplyBody, read_down, read_matched, read_result,
+    read_root,
 };
 use client_views::Effect;
 use css_objects::Matched;
@@ -51,12 +52,17 @@ impl From<AllocError> for FrameErr {
     }
 }
 
-/// Whether a text begins as a reply with a document does, so that no other text is tried as one.
-fn begins_document(text: &str) -> bool {
+// What follows the id of a reply with a document, and with matched styles.
+const DOCUMENT: &str = ",\"result\":{\"root\":";
+
+const MATCHED: &str = ",\"result\":{\"inherited\":";
+
+/// Whether a text begins as a reply with such a result does, so that no other text is tried as one.
+fn begins_reply(text: &str, result: &str) -> bool {
     match text.strip_prefix("{\"id\":") {
         Some(rest) => rest
             .trim_start_matches(|c: char| c.is_ascii_digit())
-            .starts_with(",\"result\":{\"root\":"),
+            .starts_with(result),
         None => false,
     }
 }
@@ -100,13 +106,55 @@ impl Known {
         self.take_text(Text::new(text))
     }
 
-    /// A document is read without values in between, where its text is as it is written; all else is read as a value.
+    /// A document is read without values in between, where its text is as it is written.
     fn take_text(&mut self, frame: Text) -> Result<Option<Change>, FrameErr>
         ensures { Takes (known_value self.old) (known_value self.new) result (take_frame (known_value self.old) frame) }
     {
         match self.document_in(frame.as_str()) {
             Some((id, root)) => self.take_root(id, root, frame),
+            None => self.take_other(frame),
+        }
+    }
+
+    /// So are matched styles; all else is read as a value.
+    fn take_other(&mut self, frame: Text) -> Result<Option<Change>, FrameErr>
+        ensures { Takes (known_value self.old) (known_value self.new) result (take_frame (known_value self.old) frame) }
+    {
+        match self.matched_in(frame.as_str()) {
+            Some((id, matched)) => self.take_matched(id, matched, frame),
             None => self.take_value(frame),
+        }
+    }
+
+    fn take_matched(
+        &mut self,
+        id: u64,
+        matched: Matched,
+        frame: Text,
+    ) -> Result<Option<Change>, FrameErr>
+        ensures { Takes (known_value self.old) (known_value self.new) result
+            (Ok (replied (with_matched (known_value self.old) (record { ask = id; matched = matched } ∷ []))
+            (reply_frame id frame) true (known_value self.old).tree)) }
+    {
+        self.keep_matched(id, matched, frame)?;
+        Ok(None)
+    }
+
+    /// The matched styles that a text brings, and the id of the ask that waits for them.
+    fn matched_in(&self, text: &str) -> Option<(u64, Matched)>
+        ensures { IfSome result (λ p. take_frame (known_value self.now) text.now
+            ≡ Ok (replied (with_matched (known_value self.now) (record { ask = p.0; matched = p.1 } ∷ []))
+            (reply_frame p.0 text.now) true (known_value self.now).tree)) }
+    {
+        if !begins_reply(text, MATCHED) {
+            return None;
+        }
+        let (id, matched) = read_matched(self.alloc, text).ok()?;
+        let method = method_of(&self.asks, id)?;
+        if method == "CSS.getMatchedStylesForNode" {
+            Some((id, matched))
+        } else {
+            None
         }
     }
 
@@ -116,7 +164,7 @@ impl Known {
             ≡ with_root (known_value self.now) (reply_frame p.0 text.now) p.1 (root_fault p.1)) }
         ensures fits { IfSome result (λ p. fits_tree true p.1 ≡ true) }
     {
-        if !begins_document(text) {
+        if !begins_reply(text, DOCUMENT) {
             return None;
         }
         let (id, root) = read_root(self.alloc, text).ok()?;

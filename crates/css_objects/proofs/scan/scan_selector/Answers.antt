@@ -1,0 +1,18 @@
+use Rattle.std.proofs.Common.{refl}
+use Rattle.cdp_json.proofs.Options.{both}
+use Rattle.cdp_json.proofs.TakenTokens.{object_taken, field_taken, key_taken, none_taken}
+use Rattle.css_objects.specs.Selectors.{selector_row}
+use Rattle.css_objects.proofs.scan.scan_selector.Goals as goal
+
+pub returns-clause-read : goal.returns-clause-read
+returns-clause-read c =
+    object_taken
+    (selector_row.writes (c.in_ok-range.range, (c.in_ok-weight.weight, (c.in_ok-text.text, tt))))
+    c.in_ok-take_begin_object.ensures
+    (key_taken c.in_ok-take_key.ensures c.in_ok-range.ensures.read
+    (key_taken c.in_ok-take_key-2.ensures c.in_ok-weight.ensures.read
+    (field_taken c.in_ok-text.ensures
+    (none_taken c.in_ok-take_end_object.ensures))))
+
+pub returns-clause-fits : goal.returns-clause-fits
+returns-clause-fits c = both c.in_ok-range.ensures.fits (both c.in_ok-weight.ensures.fits refl)
