@@ -581,7 +581,7 @@ pub ask_plain : (id : ℕ) (method : List ℕ) (params session : Option Data) �
 ask_plain id method params session c p s =
     request_lawful.plain (id, (method, (params, (session, tt)))) (both c (both (any_fits params) (both (any_fits session) refl))) (both p s)
 
-value_asked : (own : Bool) (id : ℕ) (method : List ℕ) (params session : Option Data) → is_counted id ≡ true
+pub value_asked : (own : Bool) (id : ℕ) (method : List ℕ) (params session : Option Data) → is_counted id ≡ true
     → asked_value own (Some (command_value id method params session)) ≡ asked_by id (command_of own method params session)
 value_asked own id method None None c = rw c
 value_asked own id method None (Some s) c = rw c

@@ -5,6 +5,7 @@ mod FrameBytes
 mod FieldsRead
 pub mod Messages
 pub mod SearchIds
+pub mod SessionFrames
 mod NeedsRead
 pub mod NewsLaws
 pub mod TextsUtf8

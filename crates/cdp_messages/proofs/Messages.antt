@@ -27,7 +27,7 @@ use Rattle.cdp_messages.specs.declared.command.Why.TheVariants.{NotJson, NoId, B
 use Rattle.cdp_messages.specs.declared.command.Why.TheVariants.{UnknownNode, NotPushed, NoPath, BadQuery, Crossed, NoNode, NotElement}
 use Rattle.cdp_messages.specs.declared.command.Why.TheVariants.{NotText, IsDocument, NotChild, Inside, TooDeep, TooMany, BadName, NoAttr}
 use Rattle.cdp_messages.specs.declared.command.Why.TheVariants.{NotContainer, NoSheet, NotMutable, BadRange, BadText, BadSelector, BadPlace}
-use Rattle.cdp_messages.specs.declared.command.Why.TheVariants.{TooBig, NoSearch, BadSearchRange}
+use Rattle.cdp_messages.specs.declared.command.Why.TheVariants.{TooBig, NoSearch, BadSearchRange, NoTarget, SessionTaken, NoTargetSession}
 use Rattle.cdp_messages.specs.declared.command.Refused.{Refused}
 use Rattle.cdp_messages.specs.declared.down.ReplyBody.{ReplyBody}
 use Rattle.cdp_messages.specs.declared.down.ReplyBody.TheVariants.{Nothing, Root, Node, NodeId, NodeIds, Attributes, ClassNames, SheetText}
@@ -397,6 +397,9 @@ code_fits NoPath = refl
 code_fits BadQuery = refl
 code_fits NoSearch = refl
 code_fits BadSearchRange = refl
+code_fits NoTarget = refl
+code_fits SessionTaken = refl
+code_fits NoTargetSession = refl
 code_fits Crossed = refl
 code_fits NoNode = refl
 code_fits NotElement = refl
@@ -437,7 +440,9 @@ param_utf8 param.Range = IsUtf8-are_ascii (refusal_words (BadParam param.Range))
 param_utf8 param.RuleText = IsUtf8-are_ascii (refusal_words (BadParam param.RuleText)) refl
 param_utf8 param.SearchId = IsUtf8-are_ascii (refusal_words (BadParam param.SearchId)) refl
 param_utf8 param.Selector = IsUtf8-are_ascii (refusal_words (BadParam param.Selector)) refl
+param_utf8 param.SessionId = IsUtf8-are_ascii (refusal_words (BadParam param.SessionId)) refl
 param_utf8 param.StyleSheetId = IsUtf8-are_ascii (refusal_words (BadParam param.StyleSheetId)) refl
+param_utf8 param.TargetId = IsUtf8-are_ascii (refusal_words (BadParam param.TargetId)) refl
 param_utf8 param.TargetNodeId = IsUtf8-are_ascii (refusal_words (BadParam param.TargetNodeId)) refl
 param_utf8 param.Text = IsUtf8-are_ascii (refusal_words (BadParam param.Text)) refl
 param_utf8 param.ToIndex = IsUtf8-are_ascii (refusal_words (BadParam param.ToIndex)) refl
@@ -459,6 +464,9 @@ why_utf8 NoPath = IsUtf8-are_ascii (refusal_words NoPath) refl
 why_utf8 BadQuery = IsUtf8-are_ascii (refusal_words BadQuery) refl
 why_utf8 NoSearch = IsUtf8-are_ascii (refusal_words NoSearch) refl
 why_utf8 BadSearchRange = IsUtf8-are_ascii (refusal_words BadSearchRange) refl
+why_utf8 NoTarget = IsUtf8-are_ascii (refusal_words NoTarget) refl
+why_utf8 SessionTaken = IsUtf8-are_ascii (refusal_words SessionTaken) refl
+why_utf8 NoTargetSession = IsUtf8-are_ascii (refusal_words NoTargetSession) refl
 why_utf8 Crossed = IsUtf8-are_ascii (refusal_words Crossed) refl
 why_utf8 NoNode = IsUtf8-are_ascii (refusal_words NoNode) refl
 why_utf8 NotElement = IsUtf8-are_ascii (refusal_words NotElement) refl

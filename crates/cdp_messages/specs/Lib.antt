@@ -12,4 +12,5 @@ pub mod SearchIds
 pub mod Results
 pub mod Replies
 pub mod Answers
+pub mod SessionFrames
 pub mod Laws

@@ -7,7 +7,7 @@ use Rattle.cdp_messages.specs.declared.command.Why.TheVariants.{NotJson, NoId, B
 use Rattle.cdp_messages.specs.declared.command.Why.TheVariants.{UnknownNode, NotPushed, NoPath, BadQuery, Crossed, NoNode, NotElement}
 use Rattle.cdp_messages.specs.declared.command.Why.TheVariants.{NotText, IsDocument, NotChild, Inside, TooDeep, TooMany, BadName, NoAttr}
 use Rattle.cdp_messages.specs.declared.command.Why.TheVariants.{NotContainer, NoSheet, NotMutable, BadRange, BadText, BadSelector, BadPlace}
-use Rattle.cdp_messages.specs.declared.command.Why.TheVariants.{TooBig, NoSearch, BadSearchRange}
+use Rattle.cdp_messages.specs.declared.command.Why.TheVariants.{TooBig, NoSearch, BadSearchRange, NoTarget, SessionTaken, NoTargetSession}
 
 -- a parameter's name in a command
 abbrev pub param_name : Param → List ℕ
@@ -30,7 +30,9 @@ param_name param.Range = codes "range"
 param_name param.RuleText = codes "ruleText"
 param_name param.SearchId = codes "searchId"
 param_name param.Selector = codes "selector"
+param_name param.SessionId = codes "sessionId"
 param_name param.StyleSheetId = codes "styleSheetId"
+param_name param.TargetId = codes "targetId"
 param_name param.TargetNodeId = codes "targetNodeId"
 param_name param.Text = codes "text"
 param_name param.ToIndex = codes "toIndex"
@@ -53,6 +55,9 @@ code_of NoPath = negsuc 31999
 code_of BadQuery = negsuc 31999
 code_of NoSearch = negsuc 31999
 code_of BadSearchRange = negsuc 31999
+code_of NoTarget = negsuc 31999
+code_of SessionTaken = negsuc 31999
+code_of NoTargetSession = negsuc 31999
 code_of Crossed = negsuc 31999
 code_of NoNode = negsuc 31999
 code_of NotElement = negsuc 31999
@@ -89,6 +94,9 @@ said_first NoPath = codes "no such path"
 said_first BadQuery = codes "bad selector"
 said_first NoSearch = codes "no such search"
 said_first BadSearchRange = codes "bad search range"
+said_first NoTarget = codes "no such target"
+said_first SessionTaken = codes "session is taken"
+said_first NoTargetSession = codes "no such session"
 said_first Crossed = codes "Crossed"
 said_first NoNode = codes "NoNode"
 said_first NotElement = codes "NotElement"
@@ -125,6 +133,9 @@ said_of_param NoPath = []
 said_of_param BadQuery = []
 said_of_param NoSearch = []
 said_of_param BadSearchRange = []
+said_of_param NoTarget = []
+said_of_param SessionTaken = []
+said_of_param NoTargetSession = []
 said_of_param Crossed = []
 said_of_param NoNode = []
 said_of_param NotElement = []

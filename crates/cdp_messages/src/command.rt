@@ -137,7 +137,9 @@ pub enum Param {
     RuleText,
     SearchId,
     Selector,
+    SessionId,
     StyleSheetId,
+    TargetId,
     TargetNodeId,
     Text,
     ToIndex,
@@ -176,6 +178,12 @@ pub enum Why {
     NoSearch,
     /// The range is empty or upside down, or ends behind what the search found.
     BadSearchRange,
+    /// There is no target with that id to attach a session to.
+    NoTarget,
+    /// A session is attached already.
+    SessionTaken,
+    /// The session that is to be detached is not attached.
+    NoTargetSession,
     /// Script changed the page since the edit that is to be taken back.
     Crossed,
     /// A serial is not that of a live node.

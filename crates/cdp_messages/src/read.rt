@@ -119,8 +119,8 @@ fn asked_in(alloc: Global, value: &Value, own: bool) -> Result<Asked, ReadErr>
     }
 }
 
-// The JSON value that the bytes are.
-pub(crate) fn json_of(alloc: Global, bytes: &[u8]) -> Result<Option<Value>, AllocError>
+/// The JSON value that the bytes are, where they are UTF-8 and JSON.
+pub fn json_of(alloc: Global, bytes: &[u8]) -> Result<Option<Value>, AllocError>
     ensures { IfOk result (λ found. option_map view found ≡ json_of bytes.now) }
 {
     match Value::from_slice(alloc, bytes) {
@@ -134,7 +134,7 @@ pub(crate) fn json_of(alloc: Global, bytes: &[u8]) -> Result<Option<Value>, Allo
 }
 
 // What is asked by a frame that is this value, if it is any.
-fn asked_by(alloc: Global, found: &Option<Value>, own: bool) -> Result<Asked, ReadErr>
+pub(crate) fn asked_by(alloc: Global, found: &Option<Value>, own: bool) -> Result<Asked, ReadErr>
     ensures { ReadsAsked result (asked_value own (option_map view found.now)) }
 {
     match found {

@@ -118,8 +118,13 @@ fn reply_value(alloc: Global, id: u64, body: Value) -> Result<Value, AllocError>
         .build()
 }
 
-// Appends a reply with this result.
-fn append_reply(alloc: Global, id: u64, body: Value, out: &mut Vec<u8>) -> Result<(), AllocError>
+/// Appends a reply with this result as one frame, with its zero byte. No number in the result has a point or an exponent.
+pub fn append_reply(
+    alloc: Global,
+    id: u64,
+    body: Value,
+    out: &mut Vec<u8>,
+) -> Result<(), AllocError>
     requires { has_float (message_data (reply id (view body))) ≡ false }
     ensures ok { OnOk result (out.new.items ≡ out.old.items
         ++ framed (compact_text (message_data (reply id (view body))))) }

@@ -94,7 +94,9 @@ pub(crate) fn param_name(param: Param) -> &'static str
         Param::RuleText => "ruleText",
         Param::SearchId => "searchId",
         Param::Selector => "selector",
+        Param::SessionId => "sessionId",
         Param::StyleSheetId => "styleSheetId",
+        Param::TargetId => "targetId",
         Param::TargetNodeId => "targetNodeId",
         Param::Text => "text",
         Param::ToIndex => "toIndex",
@@ -121,6 +123,9 @@ fn code_of(why: Why) -> i64
         | Why::BadQuery
         | Why::NoSearch
         | Why::BadSearchRange
+        | Why::NoTarget
+        | Why::SessionTaken
+        | Why::NoTargetSession
         | Why::Crossed
         | Why::NoNode
         | Why::NotElement
@@ -161,6 +166,9 @@ fn said_first(why: Why) -> &'static str
         Why::BadQuery => "bad selector",
         Why::NoSearch => "no such search",
         Why::BadSearchRange => "bad search range",
+        Why::NoTarget => "no such target",
+        Why::SessionTaken => "session is taken",
+        Why::NoTargetSession => "no such session",
         Why::Crossed => "Crossed",
         Why::NoNode => "NoNode",
         Why::NotElement => "NotElement",
@@ -201,6 +209,9 @@ fn said_of_param(why: Why) -> &'static str
         | Why::BadQuery
         | Why::NoSearch
         | Why::BadSearchRange
+        | Why::NoTarget
+        | Why::SessionTaken
+        | Why::NoTargetSession
         | Why::Crossed
         | Why::NoNode
         | Why::NotElement

@@ -1,0 +1,3 @@
+pub mod TagLemmas
+pub mod TextLemmas
+pub mod RouteLemmas

@@ -1,0 +1,6 @@
+pub mod Sessions
+pub mod Targets
+pub mod Tags
+pub mod TaggedTexts
+pub mod Routes
+pub mod Laws
