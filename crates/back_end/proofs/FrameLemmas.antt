@@ -302,6 +302,7 @@ enabled-view word state is = at state.client.dom_on refl where
   nothing : (w : Session) (page : PageValue) → w.opened ≡ None
       → seen_by w page (sheets_shown state) ≡ record { tree = none; sheets = sheets_shown state }
   nothing w page h = rw h refl
+
   at : (b : Bool) → state.client.dom_on ≡ b → view_of (on_from b word state) ≡ view_of state
   at true on = refl
   at false off =

@@ -85,10 +85,10 @@ stays-both d d1 s s1 h state id command stays both stands = record {
 agent-stays : (id : ℕ) (ask : DomAsk) (state : State) → Stays state (served_step id (AskDom ask) state).state
 agent-stays id ask state =
     record { marks = at (session_outcome (page_shown state) state.side.page.tree ask state.client.session); side = refl } where
-  at : (o : Outcome Session) → (client_served ask o state.client).marks ≡ state.client.marks
-  at (shows_root b p) = refl
-  at (served p body) = refl
-  at (refused why) = refl
+      at : (o : Outcome Session) → (client_served ask o state.client).marks ≡ state.client.marks
+      at (shows_root b p) = refl
+      at (served p body) = refl
+      at (refused why) = refl
 
 watch-stays : (id : ℕ) (change : ℕ → Watched → Watched) (found : Option ℕ) (state : State)
     → Stays state (watch_step id change found state).state

@@ -120,10 +120,13 @@ told-stays : (state : State) (node target : ℕ) → HoldsNow state → HasBegun
 told-stays state node target is can = at (is_shown_now state node) refl where
   after : State
   after = (push_step node state).state
+
   begun : IsBegun state.client.session
   begun = is-begun state.client.session can
+
   begun_after : IsBegun after.client.session
   begun_after = (opened_by node state begun.0, push-opened node state begun)
+
   at : (b : Bool) → is_shown_now state node ≡ b
       → cond b (id_now after node) 0 ≡ cond b (id_now (push_step target after).state node) 0
   at true there =

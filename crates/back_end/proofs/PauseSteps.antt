@@ -191,8 +191,10 @@ target-shown : (target : ℕ) (state : State) (begun : IsBegun state.client.sess
 target-shown target state begun is = at (is_shown_now state target) refl where
   last : State
   last = (push_step target state).state
+
   begun_last : IsBegun last.client.session
   begun_last = (opened_by target state begun.0, push-opened target state begun)
+
   at : (b : Bool) → is_shown_now state target ≡ b → AreShown (target_nodes (cond b (id_now last target) 0)) (view_of last).tree
   at true there =
       target-seen (id_now last target) (view_of last).tree (shown-id last begun_last target

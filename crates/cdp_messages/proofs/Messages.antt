@@ -425,6 +425,7 @@ param_utf8 param.BackendNodeId = IsUtf8-are_ascii (refusal_words (BadParam param
 param_utf8 param.BackendNodeIds = IsUtf8-are_ascii (refusal_words (BadParam param.BackendNodeIds)) refl
 param_utf8 param.Depth = IsUtf8-are_ascii (refusal_words (BadParam param.Depth)) refl
 param_utf8 param.Edits = IsUtf8-are_ascii (refusal_words (BadParam param.Edits)) refl
+param_utf8 param.Flatten = IsUtf8-are_ascii (refusal_words (BadParam param.Flatten)) refl
 param_utf8 param.FromIndex = IsUtf8-are_ascii (refusal_words (BadParam param.FromIndex)) refl
 param_utf8 param.IncludeUserAgentShadowDom = IsUtf8-are_ascii (refusal_words (BadParam param.IncludeUserAgentShadowDom)) refl
 param_utf8 param.IncludeWhitespace = IsUtf8-are_ascii (refusal_words (BadParam param.IncludeWhitespace)) refl

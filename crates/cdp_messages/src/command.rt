@@ -55,13 +55,23 @@ pub enum Command {
     /// A client's edit of sheets.
     EditCss(CssEdit),
     /// `DOMDebugger.setDOMBreakpoint`
-    SetBreakpoint { node: u64, kind: WatchKind },
+    SetBreakpoint {
+        node: u64,
+        kind: WatchKind,
+    },
     /// `DOMDebugger.removeDOMBreakpoint`
-    RemoveBreakpoint { node: u64, kind: WatchKind },
+    RemoveBreakpoint {
+        node: u64,
+        kind: WatchKind,
+    },
     /// `Replay.load`, one of our own two methods: the page.
-    ReplayLoad { params: Json },
+    ReplayLoad {
+        params: Json,
+    },
     /// `Replay.act`, one of our own two methods: the change.
-    ReplayAct { params: Json },
+    ReplayAct {
+        params: Json,
+    },
 }
 
 impl Command {
@@ -122,6 +132,7 @@ pub enum Param {
     BackendNodeIds,
     Depth,
     Edits,
+    Flatten,
     FromIndex,
     IncludeUserAgentShadowDom,
     IncludeWhitespace,

@@ -4,13 +4,13 @@
 //! Promise: a frame is read as exactly the command that it asks, or refused with the first refusal in order; what a writer
 //! appends is exactly the text of its message; what comes down is read exactly where it is a message, strictly as it is spelled.
 //!
-//! Way in: `read_command` for the back end, `write_reply`, `write_event` and `write_refused` for its answers; `write_command`,
-//! `read_down` and `read_result` for the front end, and `read_root` and `read_matched` for a document and for
-//! matched styles, each read in one pass.
+//! Way in: `read_command` for the back end, `read_session_command` for frames of an attached session, `write_reply`,
+//! `write_event` and `write_refused` for its answers; `write_command`, `read_down` and `read_result` for the front end, and
+//! `read_root` and `read_matched` for a document and for matched styles, each read in one pass.
 //!
-//! Law: `spell_law` (src/laws.rt, specs/Laws): what is written is read again, from whatever text a value comes, and no value
-//! spells two messages. The names of methods stand once, in specs/Methods, their parameters in specs/Parameters, the order of
-//! refusals in specs/Asked.
+//! Laws: `spell_law` (src/laws.rt, specs/Laws): what is written is read again, from whatever text a value comes, and no value
+//! spells two messages. `session_law` (specs/SessionFrames): a command for a session is read as the command without it. The names
+//! of methods stand once, in specs/Methods, their parameters in specs/Parameters, the order of refusals in specs/Asked.
 #![tactic(auto)]
 
 mod command;

@@ -79,6 +79,7 @@ pub(crate) fn param_name(param: Param) -> &'static str
         Param::BackendNodeIds => "backendNodeIds",
         Param::Depth => "depth",
         Param::Edits => "edits",
+        Param::Flatten => "flatten",
         Param::FromIndex => "fromIndex",
         Param::IncludeUserAgentShadowDom => "includeUserAgentShadowDOM",
         Param::IncludeWhitespace => "includeWhitespace",

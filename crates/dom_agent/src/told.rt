@@ -130,7 +130,12 @@ fn write_children(
 }
 
 /// A node of which nothing is shown below it.
-fn write_unopened(out: &mut NodeWriter, node: &ShownNode<'_>, id: u64, parent: u64) -> Result<(), AllocError>
+fn write_unopened(
+    out: &mut NodeWriter,
+    node: &ShownNode<'_>,
+    id: u64,
+    parent: u64,
+) -> Result<(), AllocError>
     ensures ok { OnOk result (out.new.tokens ≡ out.old.tokens
         ++ data_tokens (tree_data (told_branch parent (unopened id node.now)))) }
     ensures before { out.new.before ≡ out.old.before }

@@ -1,6 +1,5 @@
 -- A walk up. The parent of a shown node is its parent in the page.
 use Rattle.std.proofs.Common.{◌≡◌, ℕ, List, Option, IsSome, ◌++◌, map, subst, sym, ap, refl, ◌∙◌}
-
 use Rattle.node_tree.specs.Nodes.{Branch}
 use Rattle.page_tree.specs.Pages.{PageRow, PageValue, IsValid, find_in, parent_at}
 use Rattle.page_tree.specs.Zippers.{Zipper}
