@@ -6,7 +6,7 @@ use Rattle.node_tree.specs.Nodes.{Nodes, none, node, Branch, alone, node_count}
 use Rattle.page_tree.specs.Pages.{PageRow}
 use Rattle.page_tree.specs.Zippers.{Generation, Zipper, serial_of, all_in, below, root_of, zippers}
 use Rattle.select_match.specs.Texts.{has_no_byte}
-use Rattle.dom_search.specs.Found.{finds, shown_nodes, found_in}
+use Rattle.dom_search.specs.Found.{finds, searched_nodes, found_in}
 use Rattle.dom_search.proofs.FoundLemmas.{zippers-root}
 
 length-all : (above : List Generation) (before : List (Branch PageRow)) (n : Nodes PageRow) → length (all_in above before n) ≡ node_count n
@@ -30,15 +30,15 @@ few p (z ∷ zs) = at (p z) (few p zs)
     at true h = omega (arith, h)
     at false h = omega (arith, h)
 
-nodes-few : (tree : Branch PageRow) → length (shown_nodes tree) ≤ node_count (alone tree)
+nodes-few : (tree : Branch PageRow) → length (searched_nodes tree) ≤ node_count (alone tree)
 nodes-few tree =
-    let all : length (root_of tree ∷ shown_nodes tree) ≡ node_count (alone tree)
+    let all : length (root_of tree ∷ searched_nodes tree) ≡ node_count (alone tree)
     = ap (λ (l : List Zipper). length l) (sym (zippers-root tree)) ∙ length-all [] [] (alone tree) in
     omega (arith, all)
 
 pub found-count : (tree : Branch PageRow) (query : List ℕ) → length (found_in tree query) ≤ node_count (alone tree)
 found-count tree query = at (has_no_byte query)
   where
-    at : (b : Bool) → length (cond b [] (map serial_of (filter (finds query) (shown_nodes tree)))) ≤ node_count (alone tree)
+    at : (b : Bool) → length (cond b [] (map serial_of (filter (finds query) (searched_nodes tree)))) ≤ node_count (alone tree)
     at true = omega arith
-    at false = omega (arith, few (finds query) (shown_nodes tree), nodes-few tree)
+    at false = omega (arith, few (finds query) (searched_nodes tree), nodes-few tree)

@@ -13,7 +13,7 @@ use Rattle.selectors.specs.Forms.{SelectorForm}
 use Rattle.selectors.specs.Reading.{selectors_of}
 use Rattle.select_match.specs.Texts.{has_no_byte}
 use Rattle.select_match.specs.Matches.{selector_matches, list_matches}
-use Rattle.dom_search.specs.Found.{lowered, has_lowered, has_query, texts_of, has_text, some_selects, selects, finds, shown_nodes, found_in}
+use Rattle.dom_search.specs.Found.{lowered, has_lowered, has_query, texts_of, has_text, some_selects, selects, finds, searched_nodes, found_in}
 use Rattle.dom_search.specs.FoundLaws.{FindsBy, by_text, by_selector, IsFound, IsOutOf, at_end, passes, takes, FindsExactly}
 use Rattle.dom_search.specs.Merged.{merged}
 use Rattle.dom_search.proofs.MergedLemmas.{AreApartNodes, merged-filter}
@@ -27,9 +27,9 @@ zippers-root tree = ap (λ (l : List Zipper). root_of tree ∷ l) (append-nil (b
 all-apart : (page : PageValue) → IsValid page → AreApartNodes (zippers page.tree)
 all-apart page valid x = omega (arith, count-found x [] [] (alone page.tree), valid.distinct x)
 
-pub nodes-apart : (page : PageValue) → IsValid page → AreApartNodes (shown_nodes page.tree)
+pub nodes-apart : (page : PageValue) → IsValid page → AreApartNodes (searched_nodes page.tree)
 nodes-apart page valid x =
-    let all : times (has_serial x) (root_of page.tree ∷ shown_nodes page.tree) ≤ 1
+    let all : times (has_serial x) (root_of page.tree ∷ searched_nodes page.tree) ≤ 1
     = subst (λ (l : List Zipper). times (has_serial x) l ≤ 1) (zippers-root page.tree) (all-apart page valid x) in
     omega (arith, all)
 
@@ -141,7 +141,7 @@ none-selected zs o is = ap (λ (o : Option (List SelectorForm)). map serial_of (
 
 module _ (page : PageValue) (valid : IsValid page) (query : List ℕ) where
   abbrev nodes : List Zipper
-  nodes = shown_nodes page.tree
+  nodes = searched_nodes page.tree
 
   abbrev by_test : Bool → List ℕ
   by_test b = cond b [] (map serial_of (filter (finds query) nodes))

@@ -51,9 +51,9 @@ abbrev pub finds : List ℕ → Zipper → Bool
 finds query z = has_text (lowered query) z || selects query z
 
 -- the shown nodes of a page but the document, in document order
-abbrev pub shown_nodes : Branch PageRow → List Zipper
-shown_nodes document = below (root_of document)
+abbrev pub searched_nodes : Branch PageRow → List Zipper
+searched_nodes document = below (root_of document)
 
 -- the serials of the nodes that a query finds, in document order; an empty query finds none
 abbrev pub found_in : Branch PageRow → List ℕ → List ℕ
-found_in document query = cond (has_no_byte query) [] (map serial_of (filter (finds query) (shown_nodes document)))
+found_in document query = cond (has_no_byte query) [] (map serial_of (filter (finds query) (searched_nodes document)))

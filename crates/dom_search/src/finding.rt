@@ -2,7 +2,7 @@
 
 ghost use Rattle.std.specs.Prelude.{◌≡◌, ◌++◌, map, filter, IfOk, OnOk, [], ◌∷◌, ◌||◌, cond};
 ghost use Rattle.page_tree.specs.Zippers.{below, serial_of};
-ghost use Rattle.dom_search.specs.Found.{lowered, has_text, selects, shown_nodes, found_in};
+ghost use Rattle.dom_search.specs.Found.{lowered, has_text, selects, searched_nodes, found_in};
 ghost use Rattle.dom_search.specs.Merged.{waiting, is_next, left_behind, left_after, merged};
 
 use crate::texts::has_text;
@@ -37,7 +37,7 @@ impl<'a> Listed<'a> {
 
 /// The serials of the elements that the query selects, in document order; none where it is no selector list.
 fn selected(alloc: Global, page: &Page, query: &str) -> Result<Vec<u64>, AllocError>
-    ensures { IfOk result (λ v. v.items ≡ map serial_of (filter (selects query.now) (shown_nodes page.now.tree))) }
+    ensures { IfOk result (λ v. v.items ≡ map serial_of (filter (selects query.now) (searched_nodes page.now.tree))) }
 {
     match read_selectors(alloc, query) {
         Ok(selectors) => all_matches(alloc, &selectors, page, page.document()),
