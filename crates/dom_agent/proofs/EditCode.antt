@@ -34,19 +34,6 @@ pub on_ok : {T E P Q : Type 0} (r : Result T E) → OnOk r P → (P → Q) → O
 on_ok (Ok x) p f = f p
 on_ok (Err e) p f = tt
 
--- an event that was made before the edit, and sent after it
-pub event_sent : {T : Type 0} (r : Result T EditErr) (event : Result (Option Event) AllocError) (out out2 frames wanted : List ℕ)
-    → OnOk r (IsOkAnd event (λ told. out2 ≡ out ++ event_frames told)) → IfOk event (λ told. event_frames told ≡ frames) → frames ≡ wanted
-    → OnOk r (out2 ≡ out ++ wanted)
-event_sent (Ok x) (Ok told) out out2 frames wanted sent is same = sent ∙ ap (λ l. out ++ l) (is ∙ same)
-event_sent (Ok x) (Err e) out out2 frames wanted sent is same = absurd sent
-event_sent (Err e) event out out2 frames wanted sent is same = tt
-
--- the same edit, by the agent's value
-pub by_agent : (page : PageValue) (b self : BindingValue) (e edit : TreeEdit) → b ≡ self → edit ≡ e
-    → binding_edited e page b ≡ binding_edited edit page self
-by_agent page b self e edit value_is edit_is = λ k. binding_edited (sym edit_is k) page (value_is k)
-
 -- ---- the sibling before
 
 module _ (ids : ℕ → ℕ) (x : Branch PageRow) (n rest : Nodes PageRow) (serial p q : ℕ) (split : n ≡ node x.row x.children rest)

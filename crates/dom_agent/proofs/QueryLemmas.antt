@@ -90,10 +90,3 @@ found-there s tree x e None k there is = cc
 found-there s tree x e (Some z) k there is =
     let same : serial_of z ≡ k = cc in
     subst (λ (m : ℕ). keys.has row_serial m (alone tree) ≡ true) same (below-there s tree x e z (there z refl))
-
--- the first node below a node of the page that passes a test
-pub first-there : (p : Zipper → Bool) (tree : Branch PageRow) {s : ℕ} → Below tree s → (k : ℕ)
-    → option_map serial_of (find p (below (zipper_at s tree))) ≡ Some k → keys.has row_serial k (alone tree) ≡ true
-first-there p tree {s} b k is =
-    found-there s tree b.node_there b.found (find p (below (zipper_at s tree))) k
-    (λ z found. IsIn-find p (below (zipper_at s tree)) z found) is
