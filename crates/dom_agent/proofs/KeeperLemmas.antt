@@ -43,9 +43,8 @@ use Rattle.dom_agent.specs.Laws.{FindsInside, session_outcome, binding_outcome, 
 use Rattle.dom_agent.proofs.OpeningsLemmas.{AreOpenings, AreContainers, opened_all, request-are, pushing-are}
 use Rattle.dom_agent.proofs.StepLemmas.{Goes, goes-pushed}
 use Rattle.dom_agent.proofs.OutcomeLemmas.{containers-page, known-found, root-opened, document-left}
-use Rattle.dom_agent.proofs.QueryLemmas.{query-live, known_query}
+use Rattle.dom_agent.proofs.QueryLemmas.{query-live}
 use Rattle.dom_agent.specs.Queries.{Query, query_of, first_matching, all_matching}
-use Rattle.select_match.specs.Matches.{list_matches}
 use Rattle.cdp_messages.specs.declared.command.Why.{Why}
 use Rattle.dom_agent.proofs.KnownLemmas.{opened_after, pushed-known, path-there}
 

@@ -1,19 +1,15 @@
 -- What a request and a push open.
-use Rattle.std.proofs.Common.{◌≡◌, ℕ, zero, suc, ◌+◌, ◌<◌, ◌≤◌, Bool, true, false, not, ◌&&◌, ◌||◌, ◌==◌, cond, List, [], ◌∷◌, ◌++◌, map}
-use Rattle.std.proofs.Common.{reverse, append_assoc, append-nil, Option, Some, None, refl, sym, ap, ◌∙◌, subst, inl, inr, arith}
-use Rattle.std.proofs.lemmas.Bool.{false≢true}
+use Rattle.std.proofs.Common.{◌≡◌, ℕ, Bool, true, false, not, ◌&&◌, ◌||◌, ◌==◌, cond, List, [], ◌∷◌, ◌++◌, map}
+use Rattle.std.proofs.Common.{reverse, append_assoc, append-nil, Option, Some, None, refl, sym, ap, ◌∙◌}
 use Rattle.std.proofs.lemmas.List.{map-append, reverse-append, reverse-reverse}
 use Rattle.std.specs.List.{filter}
-use Rattle.node_tree.specs.Nodes.{Nodes, none, node, Branch, alone, from, tree_at, width}
-use Rattle.node_tree.specs.Keys.{has, tally}
-use Rattle.node_tree.proofs.NodeLemmas.{from-zero}
-use Rattle.node_tree.proofs.KeyLemmas.{tally_cases, has-absent}
+use Rattle.node_tree.specs.Nodes.{Nodes, none, node, Branch, alone}
+use Rattle.node_tree.specs.Keys.{has}
 use Rattle.node_tree.specs.Labels.{holds}
 use Rattle.page_tree.specs.Pages.{PageRow, row_serial}
 use Rattle.node_binding.specs.Openings.{less, is_spent}
 use Rattle.node_binding.specs.Deals.{deal, more_told}
 use Rattle.dom_agent.specs.Requests.{Opening, requested, ancestors_down, pushing}
-use Rattle.page_tree.proofs.CursorLemmas.{from-next}
 
 -- ---- requests
 

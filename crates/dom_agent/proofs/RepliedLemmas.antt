@@ -1,11 +1,9 @@
 -- A reply alone changes nothing.
-use Rattle.std.proofs.Common.{◌≡◌, ℤ, Bool, true, false, cond, Option, Some, None, refl}
+use Rattle.std.proofs.Common.{◌≡◌, ℤ, Option, Some, None, refl}
 use Rattle.node_tree.specs.Nodes.{Branch}
-use Rattle.node_tree.specs.Labels.{is_element}
 use Rattle.page_tree.specs.Pages.{PageRow}
-use Rattle.cdp_messages.specs.declared.down.ReplyBody.TheVariants.{Attributes}
 use Rattle.dom_agent.specs.Keepers.{Keeper}
-use Rattle.dom_agent.specs.Requests.{Outcome, refused, of_attributes, of_description, only_replied, state_after}
+use Rattle.dom_agent.specs.Requests.{of_description, state_after}
 
 module _ {S : Type 0} (k : Keeper S) (document : Branch PageRow) where
   pub description-keeps : (depth : Option ℤ) (found : Option (Branch PageRow)) (w : S)
