@@ -171,6 +171,26 @@ def _(n):
     return Serve(flat_chain(n, 400), False).begins().ask("DOM.getDocument", ALL)
 
 
+@row("DOM.getDocument of n nodes, 400 levels, both ends", NODES)
+def _(n):
+    return Replay(flat_chain(n, 400)).begins().ask("DOM.getDocument", ALL).line({"settle": True})
+
+
+def hiding(page):
+    """A client to which texts of white space alone are not shown."""
+    return Serve(page, False).ask("DOM.enable", {"includeWhitespace": "none"})
+
+
+@row("DOM.getDocument of n nodes, blank texts hidden", NODES)
+def _(n):
+    return hiding(rows(n)).begins().ask("DOM.getDocument", ALL)
+
+
+@row("DOM.getDocument of 2n children, every second one blank and hidden", NODES)
+def _(n):
+    return hiding(wide(2 * n, lambda i: {"t": " "} if i % 2 else {"e": "p"})).begins().ask("DOM.getDocument", ALL)
+
+
 @row("DOM.requestChildNodes of n nodes", NODES)
 def _(n):
     return Serve(rows(n), False).ask("DOM.getDocument").begins().ask("DOM.requestChildNodes", {"nodeId": 2, "depth": -1})
