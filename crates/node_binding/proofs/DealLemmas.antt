@@ -6,13 +6,12 @@ use Rattle.node_tree.specs.Nodes.{Nodes, none, node, Branch, alone, height}
 use Rattle.node_tree.specs.Seen.{Seen}
 use Rattle.node_tree.specs.Keys.{tally}
 use Rattle.node_tree.specs.Labels.{holds}
-use Rattle.page_tree.specs.Pages.{PageRow, PageValue, IsValid, row_serial}
+use Rattle.page_tree.specs.Pages.{PageRow, row_serial}
 use Rattle.node_binding.specs.Counts.{times, stands_in}
 use Rattle.node_binding.specs.Cuts.{opens, cut}
 use Rattle.node_binding.specs.Openings.{less, is_spent, containers_within, above, opened_also, is_unopened, is_closed}
 use Rattle.node_binding.specs.Sessions.{CanOpen, IsSession, session_of}
-use Rattle.node_binding.proofs.OpeningLemmas.{goes_on, AreDistinct, Agrees, self_times, in_children, in_rest, at_root, all_unopened}
-use Rattle.node_binding.proofs.OpeningLemmas.{root_is}
+use Rattle.node_binding.proofs.OpeningLemmas.{goes_on, AreDistinct, Agrees, self_times, in_children, in_rest, all_unopened}
 use Rattle.node_binding.proofs.OpeningLemmas.{opens_is, agrees_rest, agrees_children, reached-tally, times-reached}
 use Rattle.node_binding.proofs.InViewLemmas.{root, child, later, InView, AreInView, in_view-can_open, in_view-grows, children_in_view}
 use Rattle.node_binding.proofs.InViewLemmas.{are_in_view-grows}
@@ -22,9 +21,9 @@ use Rattle.node_binding.proofs.AnewLemmas.{unopened-at, and-first, and-second, c
 use Rattle.node_binding.proofs.Places.{is_in-times}
 use Rattle.std.proofs.lemmas.Bool.Decides.{eqb_tells}
 use Rattle.node_binding.specs.Cuts.{known}
-use Rattle.node_binding.proofs.StartLemmas.{root_holds, distinct-alone}
+use Rattle.node_binding.proofs.StartLemmas.{distinct-alone}
 use Rattle.node_binding.specs.Deals.{Opening, smaller, capped, less_by, containers_at, dealt, deal, deals, asked, AreOpenings, opened_all}
-use Rattle.node_binding.specs.DealLaws.{DealIsDeals, DealOpens, Deals, DocumentDeals, StartDeals, AskOpens, AskDeals, IsPiece, ArePieces}
+use Rattle.node_binding.specs.DealLaws.{DealIsDeals, Deals, StartDeals, AskDeals, IsPiece, ArePieces}
 use Rattle.node_binding.specs.DealLaws.{DealtInPieces, ShownLow, RootLow}
 
 -- ---- numbers of levels

@@ -46,14 +46,8 @@ Agrees o d n = (s : ℕ) → 0 < tally row_serial s n → o s ≡ stands_in s (c
 abbrev pub AreDistinct : Nodes PageRow → Type 0
 AreDistinct n = (s : ℕ) → tally row_serial s n ≤ 1
 
-same_count : (s : ℕ) (xs ys : List ℕ) → times s xs ≡ times s ys → stands_in s xs ≡ stands_in s ys
-same_count s xs ys e = ap (λ n. not (n == 0)) e
-
 absent : (n : ℕ) → n ≡ 0 → not (n == 0) ≡ false
 absent n e = ap (λ n. not (n == 0)) e
-
-present : (s : ℕ) (xs : List ℕ) → 0 < times s xs → stands_in s xs ≡ true
-present s xs h = times-is_in xs s h
 
 pub self_times : (s : ℕ) → cond {A = ℕ} (s == s) 1 0 ≡ 1
 self_times s = grind (arith, nat_tests)

@@ -1,12 +1,12 @@
 -- The openings of a deal, one tree after another.
-use Rattle.std.proofs.Common.{◌≡◌, ℕ, zero, suc, ◌+◌, ◌-◌, ◌<◌, ◌≤◌, ◌&&◌, not, Bool, true, false, cond, List, [], ◌∷◌, ◌++◌}
+use Rattle.std.proofs.Common.{◌≡◌, ℕ, zero, suc, ◌≤◌, ◌&&◌, not, cond, List, [], ◌++◌}
 use Rattle.std.proofs.Common.{append_assoc, append-nil}
-use Rattle.std.proofs.Common.{Option, Some, None, refl, sym, ap, ◌∙◌, arith}
+use Rattle.std.proofs.Common.{Option, refl, sym, ap, ◌∙◌, arith}
 use Rattle.node_tree.specs.Nodes.{Nodes, none, node, Branch, alone}
 use Rattle.node_tree.specs.Labels.{holds}
 use Rattle.page_tree.specs.Pages.{PageRow}
 use Rattle.node_binding.specs.Openings.{less, is_spent}
-use Rattle.node_binding.specs.Deals.{Opening, smaller, capped, dealt}
+use Rattle.node_binding.specs.Deals.{Opening, smaller, dealt}
 use Rattle.node_binding.specs.Pieces.{begun, left_below}
 
 pub smaller-less : (k d : ℕ) → d ≤ k → smaller k d ≡ d
@@ -27,31 +27,6 @@ module _ (m : ℕ) where
       ++ dealt m left d t
   dealt-node zero d x t = refl
   dealt-node (suc k) d x t = refl
-
-  -- a container that is reached
-  pub dealt-reached : (left : ℕ) (d : Option ℕ) (x : Branch PageRow) (reached : Bool) (old mid new : List Opening) (below : ℕ)
-      (rest : Option ℕ) (kids : Nodes PageRow) → reached ≡ (holds x.row.label.kind && not (is_spent d)) → reached ≡ true
-      → mid ≡ old ++ begun m left d x → below ≡ left_below m left → rest ≡ less d → kids ≡ x.children
-      → new ≡ mid ++ dealt m below rest kids → new ≡ old ++ dealt m left d (alone x)
-  dealt-reached left d x reached old mid new below rest kids is goes first left_is rest_is kids_are more =
-      more
-      ∙ ap (λ l. l ++ dealt m below rest kids) first
-      ∙ append_assoc old (begun m left d x) (dealt m below rest kids)
-      ∙ ap (λ k. old ++ (begun m left d x ++ dealt m k rest kids)) left_is
-      ∙ ap (λ e. old ++ (begun m left d x ++ dealt m (left_below m left) e kids)) rest_is
-      ∙ ap (λ c. old ++ (begun m left d x ++ dealt m (left_below m left) (less d) c)) kids_are
-      ∙ ap (λ l. old ++ l) (sym (append-nil (begun m left d x ++ dealt m (left_below m left) (less d) x.children)))
-      ∙ ap (λ b. old ++ (cond b (begun m left d x ++ dealt m (left_below m left) (less d) x.children) [] ++ [])) (sym goes ∙ is)
-      ∙ ap (λ l. old ++ l) (sym (dealt-node left d x none))
-
-  -- and one that is not
-  pub dealt-not : (left : ℕ) (d : Option ℕ) (x : Branch PageRow) (reached : Bool) (old new : List Opening)
-      → reached ≡ (holds x.row.label.kind && not (is_spent d)) → reached ≡ false → new ≡ old → new ≡ old ++ dealt m left d (alone x)
-  dealt-not left d x reached old new is off same =
-      same
-      ∙ sym (append-nil old)
-      ∙ ap (λ b. old ++ (cond b (begun m left d x ++ dealt m (left_below m left) (less d) x.children) [] ++ [])) (sym off ∙ is)
-      ∙ ap (λ l. old ++ l) (sym (dealt-node left d x none))
 
   pub deal_turn : (left : ℕ) (d : Option ℕ) (x : Branch PageRow) (old rest : Nodes PageRow) (before after all : List Opening)
       → old ≡ node x.row x.children rest → after ≡ before ++ dealt m left d (alone x) → before ++ dealt m left d old ≡ all

@@ -116,10 +116,3 @@ reveal_turn d x left rest b b4 all split turned was = record {
   same = ap (revealed d rest) turned ∙ sym (revealed-node d x.row x.children rest b) ∙ sym (ap (λ m. revealed d m b) split) ∙ was.same;
   room = omega (arith, was.room, ap node_count split, ap (λ m. m.next) turned, after_first-next (goes_on d x) d x.row x.children b);
 }
-
--- there is room for the children of the next tree
-pub reveal_room : (x : Branch PageRow) (left rest : Nodes PageRow) (s s2 : ℕ) (b b1 b2 : BindingValue) (kids : Nodes PageRow)
-    → left ≡ node x.row x.children rest → b.next + node_count left < 2 ^ 63 → b1 ≡ with_bound s b → b2 ≡ with_opened s2 b1
-    → kids ≡ x.children → b2.next + node_count kids < 2 ^ 63
-reveal_room x left rest s s2 b b1 b2 kids split room bound opened kids_are =
-    omega (arith, ap node_count split, ap (λ m. m.next) bound, ap (λ m. m.next) opened, ap node_count kids_are)

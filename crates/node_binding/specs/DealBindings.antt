@@ -1,9 +1,9 @@
 -- A binding that opens in pieces stands for the session that does.
-use Rattle.std.specs.Prelude.{◌≡◌, ℕ, suc, Bool, false, List, [], ◌∷◌, Option, Some}
+use Rattle.std.specs.Prelude.{◌≡◌, ℕ, suc, Bool, false, List, [], ◌∷◌, Option}
 use Rattle.node_tree.specs.Nodes.{Nodes, Branch, alone}
 use Rattle.page_tree.specs.Pages.{PageRow, PageValue, IsValid}
 use Rattle.node_binding.specs.Openings.{is_spent, above, opened_also}
-use Rattle.node_binding.specs.Sessions.{Session, IsSession, CanOpen, session_of, grown, document_opened}
+use Rattle.node_binding.specs.Sessions.{Session, CanOpen, session_of, grown, document_opened}
 use Rattle.node_binding.specs.Bindings.{BindingValue, opened_down, started}
 use Rattle.node_binding.specs.Changes.{BindingStandsFor}
 use Rattle.node_binding.specs.Deals.{Opening, capped, dealt, deal}

@@ -1,14 +1,14 @@
 -- What holds of deals.
-use Rattle.std.specs.Prelude.{◌≡◌, ℕ, suc, ◌<◌, ◌≤◌, min, Bool, true, false, List, [], ◌∷◌, ◌++◌, Option, Some, None}
+use Rattle.std.specs.Prelude.{◌≡◌, ℕ, suc, ◌≤◌, Bool, true, false, List, [], ◌∷◌, Option, Some, None}
 use Rattle.node_tree.specs.Nodes.{Nodes, Branch, alone, height}
 use Rattle.node_tree.specs.Labels.{holds}
 use Rattle.node_tree.specs.Keys.{find}
 use Rattle.page_tree.specs.Pages.{PageRow, PageValue, IsValid, row_serial}
 use Rattle.node_binding.specs.Cuts.{known, cut}
-use Rattle.node_binding.specs.Openings.{less, is_spent, containers_within, above, opened_also}
+use Rattle.node_binding.specs.Openings.{is_spent, above, opened_also}
 use Rattle.node_binding.specs.Counts.{stands_in}
-use Rattle.node_binding.specs.Sessions.{Session, IsSession, CanOpen, session_of}
-use Rattle.node_binding.specs.Deals.{Opening, smaller, capped, less_by, containers_at, dealt, deal, deals, asked, AreOpenings, opened_all}
+use Rattle.node_binding.specs.Sessions.{IsSession, CanOpen, session_of}
+use Rattle.node_binding.specs.Deals.{Opening, capped, less_by, containers_at, dealt, deal, deals, asked, AreOpenings, opened_all}
 
 -- a deal is its first opening and the deals of the containers a piece below
 abbrev pub DealIsDeals : Type 0

@@ -1,4 +1,4 @@
-use Rattle.std.proofs.Common.{◌++◌, map, ap, arith}
+use Rattle.std.proofs.Common.{map, ap, arith}
 use Rattle.node_tree.specs.Nodes.{node_count}
 use Rattle.node_binding.specs.Deals.{more_told}
 use Rattle.node_binding.specs.Pieces.{opening_of}
