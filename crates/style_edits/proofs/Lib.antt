@@ -6,3 +6,8 @@ pub mod SpliceForms
 pub mod FoundForms
 pub mod RuleForms
 pub mod MediaForms
+pub mod RuleOrder
+pub mod MadeRules
+pub mod LoneRules
+pub mod AddedRules
+pub mod Fronts

@@ -27,7 +27,7 @@ mod splice;
 
 pub use edits::{StyleEdit, add_rule, set_selector, set_styles, set_styles_noting, set_text};
 pub use faults::{SheetErr, SheetFault};
-pub use laws::{edits_law, splice_law};
+pub use laws::{edits_law, rules_law, splice_law};
 pub use lines::LineRange;
 pub use media_edits::{edited_media, set_media};
 pub use rule_places::{RulePlace, edited_rule};
