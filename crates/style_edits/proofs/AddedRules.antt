@@ -4,11 +4,12 @@ use Rattle.std.proofs.Common.{length, take, drop, Option, Some, None, Ok, Err, r
 use Rattle.std.proofs.Common.{length-append, length-take, arith}
 use Rattle.std.specs.Prelude.{slice_get, IsSomeAnd}
 use Rattle.std.specs.Str.{IsUtf8}
-use Rattle.std.specs.List.{find}
+use Rattle.std.specs.List.{find, list_all}
+use Rattle.css_tokens.specs.Codes.{is_white}
 use Rattle.std.proofs.lemmas.Bool.Decides.{nat_tests}
 use Rattle.std.proofs.lemmas.Str.{IsUtf8-take}
 use Rattle.std.proofs.lemmas.List.{length-map, take_all, drop_all}
-use Rattle.std.proofs.lemmas.List.Elements.{All-head, All-tail, All-nil, All-cons}
+use Rattle.std.proofs.lemmas.List.Elements.{All-head, All-tail, All-nil, All-cons, All-weaker}
 use Rattle.node_tree.specs.Numbers.{number_limit}
 use Rattle.css_tokens.specs.declared.token.Range.{Range}
 use Rattle.sheet_reader.specs.declared.book.Origin.{Origin}
@@ -25,26 +26,26 @@ use Rattle.sheet_reader.specs.Declarations.{style_of}
 use Rattle.sheet_reader.specs.Forms.{range, RuleForm}
 use Rattle.sheet_reader.specs.Joins.{is_shut_text, behind_rule, joined}
 use Rattle.sheet_reader.specs.Lone.{lone_rule}
-use Rattle.sheet_reader.specs.Moves.{placed_rule, rebodied, moved_rules, body_cut, moved_by, replaced}
+use Rattle.sheet_reader.specs.Moves.{placed_rule, rebodied, moved_rules, body_cut, moved_by, replaced, IsPropertyWithin, CanMoveBody}
 use Rattle.sheet_reader.specs.Repairs.{IsRuleWithin}
 use Rattle.sheet_reader.specs.Sealing.{is_sealed}
 use Rattle.sheet_reader.specs.Sheets.{sheet_of}
-use Rattle.sheet_reader.specs.Usable.{IsRuleOf}
 use Rattle.sheet_reader.proofs.MovedLaw.{moved_holds}
+use Rattle.sheet_reader.proofs.ClearBodies.{body_clear}
 use Rattle.sheet_reader.proofs.JoinedLaw.{joined_holds}
 use Rattle.sheet_reader.proofs.RepairBounds.{all_within}
 use Rattle.sheet_reader.proofs.ShutForms.{shut_at}
-use Rattle.sheet_reader.proofs.UsableForms.{sheet_usable}
 use Rattle.style_edits.specs.declared.faults.SheetFault.TheVariants.{BadText, TooBig}
 use Rattle.style_edits.specs.declared.lines.LineRange.{LineRange}
 use Rattle.style_edits.specs.declared.splice.Splice.{Splice}
 use Rattle.style_edits.specs.Splices.{spliced, TakesSplice}
 use Rattle.style_edits.specs.Edits.{Found, splice_at, place_at, put_by, added_by, rule_in, mutable, client_by, found_by, rule_splice, is_at}
-use Rattle.style_edits.specs.EditedRules.{rules_before, made_rule, new_range, StandsIn, MakesRule}
+use Rattle.style_edits.specs.EditedRules.{rules_before, made_rule, new_range, StandsIn, EndsBehindRule, MakesRule}
 use Rattle.style_edits.proofs.BookForms.{entry_again}
 use Rattle.style_edits.proofs.FoundForms.{rule_found}
 use Rattle.style_edits.proofs.LoneRules.{OneRule, just_one}
 use Rattle.style_edits.proofs.MadeRules.{made_at}
+use Rattle.style_edits.proofs.Fronts.{Moved, AreMoved, map_moved, moved_more, StartsBefore, Fronts, IsPassedFront, nothing_front, white_front}
 
 -- ---- what the text of a rule says before another text
 
@@ -104,9 +105,6 @@ body_inside front put o sealed shut k r e at =
     ∙ ap (λ (rs : List RuleForm). length rs) o.rules in
     absurd (omega (arith, as_moved, as_joined, one))
 
-abbrev StartsBefore : ℕ → RuleForm → Type 0
-StartsBefore n r = r.body.start < n
-
 -- what holds of each rule by its place holds of all
 all_by : (P : RuleForm → Type 0) (rules : List RuleForm) → ((k : ℕ) (r : RuleForm) → slice_get rules k ≡ Some r → P r) → All P rules
 all_by P [] each = All-nil P
@@ -118,9 +116,9 @@ one_of P [] k r all e = absurd (cc)
 one_of P (x ∷ rules) zero r all e = let same : x ≡ r = cc in subst P same (All-head P x rules all)
 one_of P (x ∷ rules) (suc k) r all e = one_of P rules k r (All-tail P x rules all) e
 
-all_start : (front put : List ℕ) → IsUtf8 front → (o : OneRule put) → is_sealed put ≡ true → is_shut_text front ≡ true
+all_start : (front put : List ℕ) → length front + 0 < number_limit → (o : OneRule put) → is_sealed put ≡ true → is_shut_text front ≡ true
     → All (StartsBefore (length front)) (sheet_of front).rules
-all_start front put utf8 o sealed shut = all_by (StartsBefore (length front)) (sheet_of front).rules own
+all_start front put small o sealed shut = all_by (StartsBefore (length front)) (sheet_of front).rules own
   where
     own : (k : ℕ) (r : RuleForm) → slice_get (sheet_of front).rules k ≡ Some r → r.body.start < length front
     own k r e = by (nat_lt r.body.start (length front)) refl
@@ -128,16 +126,40 @@ all_start front put utf8 o sealed shut = all_by (StartsBefore (length front)) (s
         within : IsRuleWithin (length front) r
         within = one_of (IsRuleWithin (length front)) (sheet_of front).rules k r (all_within front) e
 
-        is : IsRuleOf front r
-        is = one_of (IsRuleOf front) (sheet_of front).rules k r (sheet_usable front utf8).each e
+        clear : CanMoveBody (sheet_of front) k [] 0 r
+        clear = body_clear front k r [] 0 e (All-nil (IsPropertyWithin 0)) small
 
         by : (b : Bool) → nat_lt r.body.start (length front) ≡ b → r.body.start < length front
         by true less = grind (arith, nat_tests, less)
         by false less =
             let over : length front ≤ r.body.start = grind (arith, nat_tests, less) in
             let start : r.body.start ≡ length front = omega (arith, over, within.body.front) in
-            let end : r.body.end ≡ length front = omega (arith, over, is.body.order, within.body.back) in
+            let end : r.body.end ≡ length front = omega (arith, over, clear.order, within.body.back) in
             absurd (body_inside front put o sealed shut k r e (λ i. range (start i) (end i)))
+
+-- a text that ends with a rule, and white space behind it
+pub shut_front : (front white put behind : List ℕ) → length front + 0 < number_limit → OneRule put → is_sealed put ≡ true
+    → is_shut_text front ≡ true → list_all is_white white ≡ true → Fronts (front ++ white) (put ++ behind)
+shut_front front white put behind small o sealed shut blank =
+    let other = put ++ behind in
+    let n = length front in
+    let k = length (sheet_of front).media in
+    let joins = ap (λ (t : Sheet). t.rules) (joined_holds front (white ++ other) shut) in
+    let size : n + length white ≡ length (front ++ white) = sym (length-append front white) in
+    let own = all_start front put small o sealed shut in
+    record {
+      own = (sheet_of front).rules;
+      starts = All-weaker (StartsBefore n) (StartsBefore (length (front ++ white))) (λ r h. omega (arith, h, size)) (sheet_of front).rules own;
+      rest = map (behind_rule n k) (sheet_of (white ++ other)).rules;
+      is = ap (λ (t : List ℕ). (sheet_of t).rules) (append_assoc front white other) ∙ joins;
+      moved = moved_more n (length white) (length (front ++ white)) (sheet_of other).rules (sheet_of (white ++ other)).rules
+          (map (behind_rule n k) (sheet_of (white ++ other)).rules) size (by white blank)
+          (map_moved n (behind_rule n k) (λ r. record { prelude = refl; start = refl; end = refl }) (sheet_of (white ++ other)).rules);
+    }
+  where
+    by : (w : List ℕ) → list_all is_white w ≡ true → IsPassedFront w (put ++ behind)
+    by [] all = nothing_front (put ++ behind)
+    by (c ∷ w) all = white_front (c ∷ w) (put ++ behind) all (omega arith)
 
 -- ---- the rule that was put in
 
@@ -158,34 +180,29 @@ get_behind : (xs : List RuleForm) (y : RuleForm) (ys : List RuleForm) → slice_
 get_behind [] y ys = refl
 get_behind (x ∷ xs) y ys = get_behind xs y ys
 
--- what a text says with a rule put in behind another one
+-- what a text says with a rule put in
 record Added (front put behind : List ℕ) (r : RuleForm) : Type 0 where
   rule : RuleForm
   count : ℕ
   before : rules_before (sheet_of (front ++ (put ++ behind))).rules (length front) ≡ count
   there : slice_get (sheet_of (front ++ (put ++ behind))).rules count ≡ Some rule
-  starts : rule.prelude.start ≡ length front + r.prelude.start
-  ends : rule.body.end ≡ length front + r.body.end
+  moved : Moved (length front) r rule
 
-added : (front put behind : List ℕ) → IsUtf8 front → (o : OneRule put) → is_sealed put ≡ true → is_shut_text front ≡ true
-    → Added front put behind o.rule
-added front put behind utf8 o sealed shut =
-    let n = length front in
-    let k = length (sheet_of front).media in
-    let l = begins put behind o in
-    let own = behind_rule n k o.rule in
-    let rest = map (behind_rule n k) l.rules in
-    let is : (sheet_of (front ++ (put ++ behind))).rules ≡ (sheet_of front).rules ++ own ∷ rest =
-    ap (λ (t : Sheet). t.rules) (joined_holds front (put ++ behind) shut)
-    ∙ ap (λ (rs : List RuleForm). (sheet_of front).rules ++ map (behind_rule n k) rs) l.is in
-    record {
-      rule = own;
-      count = length (sheet_of front).rules;
-      before = ap (λ (rs : List RuleForm). rules_before rs n) is
-          ∙ count_all n (sheet_of front).rules own rest (all_start front put utf8 o sealed shut) (omega arith);
-      there = ap (λ (rs : List RuleForm). slice_get rs (length (sheet_of front).rules)) is ∙ get_behind (sheet_of front).rules own rest;
-      starts = refl;
-      ends = refl;
+added : (front put behind : List ℕ) → Fronts front (put ++ behind) → (o : OneRule put) → Added front put behind o.rule
+added front put behind f o =
+    let b = begins put behind o in
+    by f.rest f.is (subst (λ (rs : List RuleForm). AreMoved (length front) rs f.rest) b.is f.moved)
+  where
+    by : (rest : List RuleForm) → (sheet_of (front ++ (put ++ behind))).rules ≡ f.own ++ rest
+        → AreMoved (length front) (o.rule ∷ (begins put behind o).rules) rest → Added front put behind o.rule
+    by [] is moved = absurd moved
+    by (q ∷ rest) is moved = record {
+      rule = q;
+      count = length f.own;
+      before = ap (λ (rs : List RuleForm). rules_before rs (length front)) is
+          ∙ count_all (length front) f.own q rest f.starts (omega (arith, moved.0.start));
+      there = ap (λ (rs : List RuleForm). slice_get rs (length f.own)) is ∙ get_behind f.own q rest;
+      moved = moved.0;
     }
 
 -- ---- the edit
@@ -243,18 +260,22 @@ rule_puts id lines text book s h = by (entry_of id book) h
     by (Some e) k = at e e.origin k
 
 -- the splice's sheet is read with the rule in it
-added_there : (book : List SheetEntry) (s : Splice) (e : SheetEntry) → entry_of s.sheet book ≡ Some e → IsUtf8 e.text → IsUtf8 s.text
-    → IsRangeOf e.text (range s.start s.end) → Puts book s → is_shut_text (take s.start e.text) ≡ true
+added_there : (book : List SheetEntry) (s : Splice) (e : SheetEntry) → entry_of s.sheet book ≡ Some e → IsStored e → IsUtf8 s.text
+    → IsRangeOf e.text (range s.start s.end) → Puts book s → EndsBehindRule (take s.start e.text)
     → IsSomeAnd (made_rule book s) (StandsIn (new_range s))
-added_there book s e found utf8 own_utf8 cut p shut =
+added_there book s e found stored utf8 cut p ends =
     let front = take s.start e.text in
     let size : length front ≡ s.start = omega (arith, length-take s.start e.text, cut.front.0) in
-    let o = just_one s.text own_utf8 p.style in
-    let a = added front s.text (drop s.end e.text) (IsUtf8-take e.text s.start utf8 cut.front) o p.sealed shut in
+    let o = just_one s.text utf8 p.style in
+    let small : length ends.front + 0 < number_limit =
+    omega (arith, ap length ends.is, length-append ends.front ends.white, length-take s.start e.text, stored.entry.short) in
+    let f = subst (λ (t : List ℕ). Fronts t (s.text ++ drop s.end e.text)) (sym ends.is)
+    (shut_front ends.front ends.white s.text (drop s.end e.text) small o p.sealed ends.shut ends.blank) in
+    let a = added front s.text (drop s.end e.text) f o in
     let before = ap (rules_before (sheet_of (spliced e.text s.start s.end s.text)).rules) (sym size) ∙ a.before in
     let stands : StandsIn (new_range s) a.rule = record {
-      starts = omega (arith, a.starts, size);
-      ends = omega (arith, a.ends, size, o.ends);
+      starts = omega (arith, a.moved.prelude, size);
+      ends = omega (arith, a.moved.end, size, o.ends);
     } in
     subst (λ (x : Option RuleForm). IsSomeAnd x (StandsIn (new_range s))) (sym (made_at book s e a.count found before ∙ a.there)) stands
 
@@ -262,5 +283,5 @@ pub rule_made : (id : ℕ) (lines : LineRange) (text : List ℕ) → IsUtf8 text
     → rule_splice id lines text book ≡ Ok s → MakesRule book s
 rule_made id lines text utf8 book s all h behind =
     let t = rule_found id lines text book s all utf8 h in
-    let shut = subst (λ (o : Option SheetEntry). IsSomeAnd o (λ e. is_shut_text (take s.start e.text) ≡ true)) t.found behind in
-    added_there book s t.sheet t.found t.stored.utf8 t.text t.fits.is (rule_puts id lines text book s h) shut
+    let ends = subst (λ (o : Option SheetEntry). IsSomeAnd o (λ e. EndsBehindRule (take s.start e.text))) t.found behind in
+    added_there book s t.sheet t.found t.stored t.text t.fits.is (rule_puts id lines text book s h) ends

@@ -1,7 +1,7 @@
 -- What a text in front of another says, where the other is read as it is alone.
-use Rattle.std.proofs.Common.{◌≡◌, ℕ, zero, suc, ◌+◌, ◌<◌, ◌≤◌, Bool, true, false, ◌&&◌, ◌==◌, All, List, [], ◌∷◌, ◌++◌, map, length, drop}
-use Rattle.std.proofs.Common.{Option, Some, None, refl, sym, ap, subst, ◌∙◌, append_assoc, append-nil, length-append, arith}
-use Rattle.std.proofs.Math.Seq.{drop-append_seam}
+use Rattle.std.proofs.Common.{◌≡◌, ℕ, zero, suc, ◌+◌, ◌<◌, ◌≤◌, Bool, true, false, ◌&&◌, ◌==◌, All, List, [], ◌∷◌, ◌++◌, map, length, take, drop}
+use Rattle.std.proofs.Common.{Option, Some, None, ◌⊎◌, inl, inr, refl, sym, ap, subst, ◌∙◌, append_assoc, append-nil, length-append, arith}
+use Rattle.std.proofs.Math.Seq.{drop-append_seam, take-append_seam}
 use Rattle.std.specs.List.{list_all}
 use Rattle.std.proofs.lemmas.Bool.Decides.{nat_tests}
 use Rattle.std.proofs.lemmas.List.Elements.{All-head, All-tail, All-nil, All-cons, All-append, All-weaker}
@@ -56,23 +56,29 @@ moved_less n m k [] [] (x ∷ xs) sum a b = absurd b
 moved_less n m k [] (q ∷ qs) xs sum a b = absurd a
 moved_less n m k (r ∷ rs) [] xs sum a b = absurd a
 moved_less n m k (r ∷ rs) (q ∷ qs) [] sum a b = absurd b
-moved_less n m k (r ∷ rs) (q ∷ qs) (x ∷ xs) sum a b = (record {
-  prelude = omega (arith, sum, a.0.prelude, b.0.prelude);
-  start = omega (arith, sum, a.0.start, b.0.start);
-  end = omega (arith, sum, a.0.end, b.0.end);
-}, moved_less n m k rs qs xs sum a.1 b.1)
+moved_less n m k (r ∷ rs) (q ∷ qs) (x ∷ xs) sum a b = (
+  record {
+    prelude = omega (arith, sum, a.0.prelude, b.0.prelude);
+    start = omega (arith, sum, a.0.start, b.0.start);
+    end = omega (arith, sum, a.0.end, b.0.end);
+  },
+  moved_less n m k rs qs xs sum a.1 b.1,
+)
 
-moved_more : (n m k : ℕ) (rs qs xs : List RuleForm) → n + m ≡ k → AreMoved m rs qs → AreMoved n qs xs → AreMoved k rs xs
+pub moved_more : (n m k : ℕ) (rs qs xs : List RuleForm) → n + m ≡ k → AreMoved m rs qs → AreMoved n qs xs → AreMoved k rs xs
 moved_more n m k [] [] [] sum a b = tt
 moved_more n m k [] [] (x ∷ xs) sum a b = absurd b
 moved_more n m k [] (q ∷ qs) xs sum a b = absurd a
 moved_more n m k (r ∷ rs) [] xs sum a b = absurd a
 moved_more n m k (r ∷ rs) (q ∷ qs) [] sum a b = absurd b
-moved_more n m k (r ∷ rs) (q ∷ qs) (x ∷ xs) sum a b = (record {
-  prelude = omega (arith, sum, a.0.prelude, b.0.prelude);
-  start = omega (arith, sum, a.0.start, b.0.start);
-  end = omega (arith, sum, a.0.end, b.0.end);
-}, moved_more n m k rs qs xs sum a.1 b.1)
+moved_more n m k (r ∷ rs) (q ∷ qs) (x ∷ xs) sum a b = (
+  record {
+    prelude = omega (arith, sum, a.0.prelude, b.0.prelude);
+    start = omega (arith, sum, a.0.start, b.0.start);
+    end = omega (arith, sum, a.0.end, b.0.end);
+  },
+  moved_more n m k rs qs xs sum a.1 b.1,
+)
 
 -- ---- texts in front
 
@@ -91,6 +97,14 @@ pub record Fronts (front other : List ℕ) : Type 0 where
 -- a text in front of another has no rules, and behind it stand those of the other
 abbrev pub IsPassedFront : List ℕ → List ℕ → Type 0
 IsPassedFront front other = AreMoved (length front) (sheet_of other).rules (sheet_of (front ++ other)).rules
+
+-- nothing in front of a text
+pub nothing_front : (other : List ℕ) → IsPassedFront [] other
+nothing_front other = each (sheet_of other).rules
+  where
+    each : (rs : List RuleForm) → AreMoved 0 rs rs
+    each [] = tt
+    each (r ∷ rs) = (record { prelude = omega arith; start = omega arith; end = omega arith }, each rs)
 
 -- the other in the whole text
 behind_same : (front other : List ℕ) → SamePart other (front ++ other) (λ x. length front + x) 0 (length other)
@@ -206,18 +220,60 @@ units_before body rest other (unit_and {first = first} {others = others} is unit
 no_mark : (body front rest : List ℕ) → Units CommentUnit body rest → body ≡ front ++ 42 ∷ 47 ∷ [] → ⊥
 no_mark body [] rest no_units e = absurd (cc)
 no_mark body (c ∷ front) rest no_units e = absurd (cc)
-no_mark body front rest (unit_and {others = others} is (comment_code {c = c} apart) more) e = by front (sym is ∙ e)
+no_mark body front rest (unit_and {others = others} is (comment_code {c = c} apart) more) e =
+    by front (sym is ∙ e) (λ xs h. no_mark others xs rest more h)
   where
-    by : (front : List ℕ) → c ∷ others ≡ front ++ 42 ∷ 47 ∷ [] → ⊥
-    by [] same =
+    by : (front : List ℕ) → c ∷ others ≡ front ++ 42 ∷ 47 ∷ [] → ((xs : List ℕ) → others ≡ xs ++ 42 ∷ 47 ∷ [] → ⊥) → ⊥
+    by [] same again =
         let star : c ≡ 42 = cc in
         let slash : others ≡ 47 ∷ [] = cc in
         let wrong : (42 == 42 && begins (λ d. d == 47) ((47 ∷ []) ++ rest)) ≡ false =
         (λ i. sym star i == 42 && begins (λ d. d == 47) (sym slash i ++ rest)) ∙ apart in
         absurd (cc)
-    by (x ∷ front) same = let next : others ≡ front ++ 42 ∷ 47 ∷ [] = cc in no_mark others front rest more next
+    by (x ∷ front) same again = again front (cc)
+
+-- what begins with `/*` has the piece that the first row gives
+is_first : (inside other front : List ℕ) → front ≡ 47 ∷ 42 ∷ inside → comment (front ++ other) ≡ Some (piece Comment (length front))
+    → first_piece (front ++ other) ≡ Some (piece Comment (length front))
+unfolding first_piece
+is_first inside other front e row = rw row refl
+
+is_comment : (inside rest front : List ℕ) → front ≡ 47 ∷ 42 ∷ inside → first_piece (front ++ rest) ≡ Some (piece Comment (length front))
+    → comment (front ++ rest) ≡ Some (piece Comment (length front))
+unfolding first_piece comment
+is_comment inside rest front e found = subst (λ (x : List ℕ). first_piece (x ++ rest) ≡ Some (piece Comment (length x))
+    → comment (x ++ rest) ≡ Some (piece Comment (length x))) (sym e) (λ h. h) found
 
 -- a comment with its `*/` is one piece, whatever stands behind it
 pub comment_piece : (front rest other inner : List ℕ) → first_piece (front ++ rest) ≡ Some (piece Comment (length front))
     → front ≡ 47 ∷ 42 ∷ (inner ++ 42 ∷ 47 ∷ []) → first_piece (front ++ other) ≡ Some (piece Comment (length front))
-comment_piece front rest other inner found is = ?
+comment_piece front rest other inner found is =
+    let mark = 42 ∷ 47 ∷ [] in
+    let whole = is_comment (inner ++ mark) rest front is found in
+    let k = comment_row_law.form (front ++ rest) (piece Comment (length front)) whole in
+    let size : length k.front ≡ length front = sym k.len in
+    let same : k.front ≡ front = sym (take-append_seam k.front k.rest) ∙ (λ i. take (size i) (sym k.is i)) ∙ take-append_seam front rest in
+    let held : k.form.body ++ k.form.close ≡ inner ++ mark = inside (sym k.form.is ∙ same ∙ is) in
+    let units : Units CommentUnit inner (42 ∷ 47 ∷ k.rest) = elim k.form.closed [
+      | inl closed ↦ subst (λ (x : List ℕ). Units CommentUnit x (mark ++ k.rest))
+          (cut_off k.form.body inner mark (ap (λ (x : List ℕ). k.form.body ++ x) (sym closed) ∙ held))
+          (subst (λ (x : List ℕ). Units CommentUnit k.form.body (x ++ k.rest)) closed k.form.units)
+      | inr none ↦ absurd (no_mark k.form.body inner (k.form.close ++ k.rest) k.form.units
+          (sym (append-nil k.form.body) ∙ ap (λ (x : List ℕ). k.form.body ++ x) (sym none.0) ∙ held))
+    ] in
+    is_first (inner ++ mark) other front is (comment_row_law.only Comment front other (record {
+      named = refl;
+      body = inner;
+      close = mark;
+      is = is;
+      units = units_before inner k.rest other units;
+      closed = inl refl;
+    }))
+  where
+    inside : {xs ys : List ℕ} → ◌≡◌ {A = List ℕ} (47 ∷ 42 ∷ xs) (47 ∷ 42 ∷ ys) → xs ≡ ys
+    inside e = cc
+
+    cut_off : (xs ys end : List ℕ) → xs ++ end ≡ ys ++ end → xs ≡ ys
+    cut_off xs ys end e =
+        let size : length xs ≡ length ys = omega (arith, ap length e, length-append xs end, length-append ys end) in
+        sym (take-append_seam xs end) ∙ (λ i. take (size i) (e i)) ∙ take-append_seam ys end

@@ -1,7 +1,8 @@
 -- Which style rules a client's edits make: each by its place among the style rules of its sheet.
-use Rattle.std.specs.Prelude.{◌≡◌, ℕ, ◌+◌, ◌<◌, ◌≤◌, nat_lt, true, All, List, [], ◌∷◌, length, take, slice_get, Option, Some, None, option_and_then}
+use Rattle.std.specs.Prelude.{◌≡◌, ℕ, ◌+◌, ◌<◌, ◌≤◌, nat_lt, true, All, List, [], ◌∷◌, ◌++◌, length, take, slice_get, Option, Some, None, option_and_then}
 use Rattle.std.specs.Prelude.{IsSome, IsSomeAnd, Result, Ok, Err}
-use Rattle.std.specs.List.{prefix_len}
+use Rattle.std.specs.List.{prefix_len, list_all}
+use Rattle.css_tokens.specs.Codes.{is_white}
 use Rattle.sheet_reader.specs.declared.book.SheetEntry.{SheetEntry}
 use Rattle.css_tokens.specs.declared.token.Range.{Range}
 use Rattle.sheet_reader.specs.Forms.{range, RuleForm}
@@ -68,9 +69,17 @@ pub record StandsIn (part : Range) (r : RuleForm) : Type 0 where
   pub starts : part.start ≤ r.prelude.start
   pub ends : r.body.end < part.end
 
--- the splice is made at the start of its sheet, or behind the `}` of a rule at top level
+-- a text that ends with the `}` of a rule at top level, or an empty one, and white space behind it
+pub record EndsBehindRule (text : List ℕ) : Type 0 where
+  pub front : List ℕ
+  pub white : List ℕ
+  pub is : text ≡ front ++ white
+  pub shut : is_shut_text front ≡ true
+  pub blank : list_all is_white white ≡ true
+
+-- what stands before the splice is no more than white space, up to the `}` of a rule at top level or the start of the sheet
 abbrev pub IsBehindRule : List SheetEntry → Splice → Type 0
-IsBehindRule book s = IsSomeAnd (entry_of s.sheet book) (λ e. is_shut_text (take s.start e.text) ≡ true)
+IsBehindRule book s = IsSomeAnd (entry_of s.sheet book) (λ e. EndsBehindRule (take s.start e.text))
 
 -- there is a style rule, and it stands in the splice's text, where that is put at the start or behind a rule
 abbrev pub MakesRule : List SheetEntry → Splice → Type 0
