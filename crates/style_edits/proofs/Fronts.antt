@@ -3,20 +3,22 @@ use Rattle.std.proofs.Common.{◌≡◌, ℕ, zero, suc, ◌+◌, ◌<◌, ◌�
 use Rattle.std.proofs.Common.{Option, Some, None, ◌⊎◌, inl, inr, refl, sym, ap, subst, ◌∙◌, append_assoc, append-nil, length-append, arith}
 use Rattle.std.proofs.Math.Seq.{drop-append_seam, take-append_seam}
 use Rattle.std.specs.List.{list_all}
+use Rattle.std.specs.Prelude.{option_to_list}
 use Rattle.std.proofs.lemmas.Bool.Decides.{nat_tests}
 use Rattle.std.proofs.lemmas.List.Elements.{All-head, All-tail, All-nil, All-cons, All-append, All-weaker}
 use Rattle.css_tokens.specs.declared.token.Token.{Token}
 use Rattle.css_tokens.specs.declared.token.TokenKind.{TokenKind}
 use Rattle.css_tokens.specs.declared.token.TokenKind.TheVariants.{Comment, WhiteSpace}
 use Rattle.css_tokens.specs.Codes.{is_white, begins}
-use Rattle.css_tokens.specs.Forms.{Units, no_units, unit_and, CommentUnit, comment_code}
+use Rattle.css_tokens.specs.Forms.{Units, no_units, unit_and, CommentUnit, comment_code, CommentForm, ClosesWith}
 use Rattle.css_tokens.specs.Rows.{piece, first_piece, comment, white_space}
 use Rattle.css_tokens.specs.Pieces.{pieces, pieces_after}
-use Rattle.css_tokens.proofs.Cuts.{piece_first}
+use Rattle.css_tokens.specs.Seams.{IsWholeBefore, no_more, piece_and}
+use Rattle.css_tokens.proofs.SeamPieces.{pieces_at}
 use Rattle.css_tokens.proofs.RowForms.{comment_row_law, white_row_law, passes_cut, begins_all}
 use Rattle.sheet_reader.specs.Forms.{RuleForm}
-use Rattle.sheet_reader.specs.Parts.{is_passed, PartForm, passed, parts}
-use Rattle.sheet_reader.specs.Grammar.{passed_part}
+use Rattle.sheet_reader.specs.Parts.{is_passed, PartForm, passed, part_pieces, parts}
+use Rattle.sheet_reader.specs.Grammar.{IsPart, passed_part}
 use Rattle.sheet_reader.specs.Layout.{media_form, Laid, laid, level_of, laid_out, AreLaid, part_laid}
 use Rattle.sheet_reader.specs.Moves.{placed_rule}
 use Rattle.sheet_reader.specs.Sheets.{rule_of, rules_in, sheet_of}
@@ -116,41 +118,50 @@ behind_same front other =
     (subst (λ (t : List ℕ). SamePart t (front ++ other) (λ x. length front + x) 0 (0 + length other)) (append-nil other)
     (subst (λ (t : List ℕ). SamePart (other ++ []) (front ++ t) (λ x. length front + x) 0 (0 + length other)) (append-nil other) both))
 
--- a piece that is passed over has no rules
-pub passed_front : (front other : List ℕ) (kind : TokenKind) → first_piece (front ++ other) ≡ Some (piece kind (length front))
-    → 0 < length front → is_passed (level_of None) kind ≡ true → IsPassedFront front other
-unfolding rules_in rule_of media_form
-passed_front front other kind found some over =
+-- a whole part that is no rule has none, and what stands behind it is read as it is alone
+pub part_front : (front other : List ℕ) (p : PartForm) → IsWholeBefore other 0 front (part_pieces p)
+    → ((rest : List Token) → IsPart (level_of None) p rest) → media_form (front ++ other) p ≡ None → rule_of (front ++ other) None p ≡ None
+    → IsPassedFront front other
+unfolding rules_in
+part_front front other p is_whole is_part no_media no_rule =
     let n = length front in
     let whole = front ++ other in
     let f = λ (x : ℕ). n + x in
     let ps = parts (level_of None) (pieces other) in
     let ls = laid_out other None 0 (pieces other) in
     let more = map (raised_part f) ps in
-    let t : Token = record { kind = kind; start = 0; end = 0 + n } in
     let both = flat_of (level_of None) ps (pieces other) (parts_spelled (level_of None) (pieces other)) in
-    let zero_is : 0 + n ≡ n = omega arith in
-    let behind : pieces_after (0 + n) 0 (drop n whole) ≡ flat more =
-    ap (pieces_after (0 + n) 0) (drop-append_seam front other) ∙ ap (λ (m : ℕ). pieces_after m 0 other) zero_is ∙ pieces_from n other
-    ∙ ap (map (raised f)) both.0 ∙ sym (flat_raised f ps) in
-    let tokens : pieces whole ≡ t ∷ flat more =
-    piece_first whole 0 (piece kind n) found some (omega (arith, length-append front other)) ∙ ap (λ (ts : List Token). t ∷ ts) behind in
-    let new_parts : passed t ∷ more ≡ parts (level_of None) (pieces whole) =
-    parts_only (level_of None) (passed t ∷ more) (t ∷ flat more)
-    (flat_parts (level_of None) (passed t ∷ more) (passed_part t over, flat_again (level_of None) f ps both.1))
+    let tokens : pieces whole ≡ part_pieces p ++ flat more =
+    pieces_at other front (part_pieces p) is_whole
+    ∙ ap (λ (ts : List Token). part_pieces p ++ ts)
+    (pieces_from n other ∙ ap (map (raised f)) both.0 ∙ sym (flat_raised f ps)) in
+    let new_parts : p ∷ more ≡ parts (level_of None) (pieces whole) =
+    parts_only (level_of None) (p ∷ more) (part_pieces p ++ flat more)
+    (flat_parts (level_of None) (p ∷ more) (is_part (flat more), flat_again (level_of None) f ps both.1))
     ∙ ap (parts (level_of None)) (sym tokens) in
     let all : AllTokens 0 (length other) (flat ps) = subst (AllTokens 0 (length other)) both.0 (all_there [] other (whole_alone other)) in
     let same = behind_same front other in
     let are = laid_spelled other None 0 (pieces other) in
     let there = laid_again other whole f 0 (length other) same None 0 ps ls are all in
-    let new_laid : laid None (passed t) ∷ map (raised_laid f) ls ≡ laid_out whole None 0 (pieces whole) =
-    laid_only whole None 0 (pieces whole) (laid None (passed t) ∷ map (raised_laid f) ls)
-    (subst (λ (qs : List PartForm). AreLaid whole None 0 qs (laid None (passed t) ∷ map (raised_laid f) ls)) new_parts
-    (part_laid (passed t) more (map (raised_laid f) ls) refl there)) in
+    let new_laid : laid None p ∷ map (raised_laid f) ls ≡ laid_out whole None 0 (pieces whole) =
+    laid_only whole None 0 (pieces whole) (laid None p ∷ map (raised_laid f) ls)
+    (subst (λ (qs : List PartForm). AreLaid whole None 0 qs (laid None p ∷ map (raised_laid f) ls)) new_parts
+    (part_laid p more (map (raised_laid f) ls) no_media there)) in
     subst (AreMoved n (sheet_of other).rules)
     (sym (rules_same other whole f 0 (length other) same ls (laid_in 0 (length other) other None 0 ps ls are all)
-    (any_moved other whole f (sym (length-append front other)) ls)) ∙ ap (rules_in whole) new_laid)
+    (any_moved other whole f (sym (length-append front other)) ls))
+    ∙ sym (ap (λ (o : Option RuleForm). option_to_list o ++ rules_in whole (map (raised_laid f) ls)) no_rule)
+    ∙ ap (rules_in whole) new_laid)
     (map_moved n (placed_rule f) (λ r. record { prelude = refl; start = refl; end = refl }) (sheet_of other).rules)
+
+-- a piece that is passed over is such a part
+pub passed_front : (front other : List ℕ) (kind : TokenKind) → first_piece (front ++ other) ≡ Some (piece kind (length front))
+    → is_passed (level_of None) kind ≡ true → IsPassedFront front other
+unfolding rule_of media_form
+passed_front front other kind found over =
+    let t : Token = record { kind = kind; start = 0; end = 0 + length front } in
+    part_front front other (passed t) (piece_and (piece kind (length front)) front [] (sym (append-nil front)) refl found no_more)
+    (λ rest. passed_part t over) refl refl
 
 -- ---- white space
 
@@ -192,13 +203,13 @@ white_front front other all some =
   where
     by : (w rest : List ℕ) → other ≡ w ++ rest → list_all is_white w ≡ true → begins is_white rest ≡ false → IsPassedFront front other
     by [] rest same white stops =
-        passed_front front other WhiteSpace (white_piece front other all some (ap (begins is_white) same ∙ stops)) some refl
+        passed_front front other WhiteSpace (white_piece front other all some (ap (begins is_white) same ∙ stops)) refl
     by (c ∷ w) rest same white stops =
         let both = front ++ c ∷ w in
         let sum : length front + length (c ∷ w) ≡ length both = sym (length-append front (c ∷ w)) in
         let whole = passed_front both rest WhiteSpace
-        (white_piece both rest (all_both front (c ∷ w) all white) (omega (arith, some, sum)) stops) (omega (arith, some, sum)) refl in
-        let own = passed_front (c ∷ w) rest WhiteSpace (white_piece (c ∷ w) rest white (omega arith) stops) (omega arith) refl in
+        (white_piece both rest (all_both front (c ∷ w) all white) (omega (arith, some, sum)) stops) refl in
+        let own = passed_front (c ∷ w) rest WhiteSpace (white_piece (c ∷ w) rest white (omega arith) stops) refl in
         subst (IsPassedFront front) (sym same)
         (moved_less (length front) (length (c ∷ w)) (length both) (sheet_of rest).rules (sheet_of ((c ∷ w) ++ rest)).rules
         (sheet_of (front ++ ((c ∷ w) ++ rest))).rules sum own
@@ -238,42 +249,37 @@ is_first : (inside other front : List ℕ) → front ≡ 47 ∷ 42 ∷ inside �
 unfolding first_piece
 is_first inside other front e row = rw row refl
 
-is_comment : (inside rest front : List ℕ) → front ≡ 47 ∷ 42 ∷ inside → first_piece (front ++ rest) ≡ Some (piece Comment (length front))
-    → comment (front ++ rest) ≡ Some (piece Comment (length front))
-unfolding first_piece comment
-is_comment inside rest front e found = subst (λ (x : List ℕ). first_piece (x ++ rest) ≡ Some (piece Comment (length x))
-    → comment (x ++ rest) ≡ Some (piece Comment (length x))) (sym e) (λ h. h) found
+inside : {xs ys : List ℕ} → ◌≡◌ {A = List ℕ} (47 ∷ 42 ∷ xs) (47 ∷ 42 ∷ ys) → xs ≡ ys
+inside e = cc
+
+cut_off : (xs ys end : List ℕ) → xs ++ end ≡ ys ++ end → xs ≡ ys
+cut_off xs ys end e =
+    let size : length xs ≡ length ys = omega (arith, ap length e, length-append xs end, length-append ys end) in
+    sym (take-append_seam xs end) ∙ (λ i. take (size i) (e i)) ∙ take-append_seam ys end
+
+-- what is in such a comment
+comment_units : (k : TokenKind) (front rest inner : List ℕ) → CommentForm k front rest → front ≡ 47 ∷ 42 ∷ (inner ++ 42 ∷ 47 ∷ [])
+    → Units CommentUnit inner (42 ∷ 47 ∷ rest)
+comment_units k front rest inner f is = by f.body f.close (inside (sym f.is ∙ is)) f.units f.closed
+  where
+    by : (body close : List ℕ) → body ++ close ≡ inner ++ 42 ∷ 47 ∷ [] → Units CommentUnit body (close ++ rest)
+        → ClosesWith (42 ∷ 47 ∷ []) close rest → Units CommentUnit inner (42 ∷ 47 ∷ rest)
+    by body close held units (inl closed) =
+        subst (λ (x : List ℕ). Units CommentUnit x (42 ∷ 47 ∷ rest))
+        (cut_off body inner (42 ∷ 47 ∷ []) (ap (λ (x : List ℕ). body ++ x) (sym closed) ∙ held))
+        (subst (λ (x : List ℕ). Units CommentUnit body (x ++ rest)) closed units)
+    by body close held units (inr none) =
+        absurd (no_mark body inner (close ++ rest) units (sym (append-nil body) ∙ ap (λ (x : List ℕ). body ++ x) (sym none.0) ∙ held))
 
 -- a comment with its `*/` is one piece, whatever stands behind it
-pub comment_piece : (front rest other inner : List ℕ) → first_piece (front ++ rest) ≡ Some (piece Comment (length front))
+pub comment_piece : (k : TokenKind) (front rest other inner : List ℕ) → CommentForm k front rest
     → front ≡ 47 ∷ 42 ∷ (inner ++ 42 ∷ 47 ∷ []) → first_piece (front ++ other) ≡ Some (piece Comment (length front))
-comment_piece front rest other inner found is =
-    let mark = 42 ∷ 47 ∷ [] in
-    let whole = is_comment (inner ++ mark) rest front is found in
-    let k = comment_row_law.form (front ++ rest) (piece Comment (length front)) whole in
-    let size : length k.front ≡ length front = sym k.len in
-    let same : k.front ≡ front = sym (take-append_seam k.front k.rest) ∙ (λ i. take (size i) (sym k.is i)) ∙ take-append_seam front rest in
-    let held : k.form.body ++ k.form.close ≡ inner ++ mark = inside (sym k.form.is ∙ same ∙ is) in
-    let units : Units CommentUnit inner (42 ∷ 47 ∷ k.rest) = elim k.form.closed [
-      | inl closed ↦ subst (λ (x : List ℕ). Units CommentUnit x (mark ++ k.rest))
-          (cut_off k.form.body inner mark (ap (λ (x : List ℕ). k.form.body ++ x) (sym closed) ∙ held))
-          (subst (λ (x : List ℕ). Units CommentUnit k.form.body (x ++ k.rest)) closed k.form.units)
-      | inr none ↦ absurd (no_mark k.form.body inner (k.form.close ++ k.rest) k.form.units
-          (sym (append-nil k.form.body) ∙ ap (λ (x : List ℕ). k.form.body ++ x) (sym none.0) ∙ held))
-    ] in
-    is_first (inner ++ mark) other front is (comment_row_law.only Comment front other (record {
+comment_piece k front rest other inner f is =
+    is_first (inner ++ 42 ∷ 47 ∷ []) other front is (comment_row_law.only Comment front other (record {
       named = refl;
       body = inner;
-      close = mark;
+      close = 42 ∷ 47 ∷ [];
       is = is;
-      units = units_before inner k.rest other units;
+      units = units_before inner rest other (comment_units k front rest inner f is);
       closed = inl refl;
     }))
-  where
-    inside : {xs ys : List ℕ} → ◌≡◌ {A = List ℕ} (47 ∷ 42 ∷ xs) (47 ∷ 42 ∷ ys) → xs ≡ ys
-    inside e = cc
-
-    cut_off : (xs ys end : List ℕ) → xs ++ end ≡ ys ++ end → xs ≡ ys
-    cut_off xs ys end e =
-        let size : length xs ≡ length ys = omega (arith, ap length e, length-append xs end, length-append ys end) in
-        sym (take-append_seam xs end) ∙ (λ i. take (size i) (e i)) ∙ take-append_seam ys end

@@ -11,3 +11,4 @@ pub mod MadeRules
 pub mod LoneRules
 pub mod AddedRules
 pub mod Fronts
+pub mod PassedPieces
