@@ -11,7 +11,7 @@ use Rattle.style_edits.specs.declared.rule_places.RulePlace.{RulePlace}
 use Rattle.style_edits.specs.declared.splice.Splice.{Splice}
 use Rattle.style_edits.specs.Splices.{after_splice, back_splice}
 use Rattle.style_edits.specs.Edits.{Found, rule_splice}
-use Rattle.style_edits.specs.EditedRules.{edited_rule, edited_rules, IsRuleThere, made_rule, new_range, StandsIn, IsBehindRule}
+use Rattle.style_edits.specs.EditedRules.{edited_rule, edited_rules, IsRuleThere, made_rule, new_range, StandsIn}
 use Rattle.style_edits.proofs.MadeRules.{is_there, styles_made}
 use Rattle.style_edits.proofs.AddedRules.{rule_made}
 use Rattle.cdp_messages.specs.declared.css_edit.CssEdit.{CssEdit}
@@ -44,12 +44,10 @@ made-told book s P there = rule-told (after_splice s book) (edited_rule (after_s
     (is_there (made_rule book s) P there)
 
 -- where the one splice of an edit is so
-one-tells : (found : Found) (book : List SheetEntry) → ((s : Splice) → found ≡ Ok s → IsBehindRule book s → TellsMade book s)
-    → All (λ s. IsBehindRule book s → TellsMade book s) (one_splice found)
-one-tells (Err f) book each = All-nil (λ (s : Splice). IsBehindRule book s → TellsMade book s)
-one-tells (Ok s) book each =
-    All-cons (λ (t : Splice). IsBehindRule book t → TellsMade book t) s [] (each s refl)
-    (All-nil (λ (t : Splice). IsBehindRule book t → TellsMade book t))
+one-tells : (found : Found) (book : List SheetEntry) → ((s : Splice) → found ≡ Ok s → TellsMade book s)
+    → All (TellsMade book) (one_splice found)
+one-tells (Err f) book each = All-nil (TellsMade book)
+one-tells (Ok s) book each = All-cons (TellsMade book) s [] (each s refl) (All-nil (TellsMade book))
 
 pub rules-told : (x : CssEdit) (book : List SheetEntry) (d : CssDone) → All IsStored book → HasEditTexts x → css_edited book x ≡ Ok d
     → TellsRules book x d
@@ -61,6 +59,6 @@ rules-told (edit.SetRuleSelector sheet range selector) book d all texts h = tt
 rules-told (edit.SetStyleSheetText sheet text) book d all texts h = tt
 rules-told (edit.AddRule sheet rule_text location) book d all texts h =
     one-tells (rule_splice (number_named sheet) (line_range location) rule_text book) book
-    (λ s found behind. made-told book s (StandsIn (new_range s))
-    (rule_made (number_named sheet) (line_range location) rule_text texts book s all found behind))
+    (λ s found. made-told book s (StandsIn (new_range s))
+    (rule_made (number_named sheet) (line_range location) rule_text texts book s all found))
 rules-told (edit.SetMediaText sheet range text) book d all texts h = tt

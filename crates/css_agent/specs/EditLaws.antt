@@ -14,7 +14,7 @@ use Rattle.sheet_reader.specs.Books.{IsStored}
 use Rattle.style_edits.specs.declared.rule_places.RulePlace.{RulePlace}
 use Rattle.style_edits.specs.declared.splice.Splice.{Splice}
 use Rattle.style_edits.specs.Splices.{after_splice, back_splice, after_splices, TakesSplice}
-use Rattle.style_edits.specs.EditedRules.{edited_rule, edited_rules, IsBehindRule}
+use Rattle.style_edits.specs.EditedRules.{edited_rule, edited_rules}
 use Rattle.cdp_messages.specs.declared.css_edit.CssEdit.{CssEdit}
 use Rattle.cdp_messages.specs.declared.css_edit.CssEdit.TheVariants as edit
 use Rattle.css_agent.specs.Edits.{style_edit, found_at, told_at, CssDone, css_edited, css_splices}
@@ -85,13 +85,13 @@ abbrev pub TellsMade : List SheetEntry → Splice → Type 0
 TellsMade book s = IsRuleTold (after_splice s book) (edited_rule (after_splice s book) (back_splice s book))
 
 -- What is told of style rules is so: of those whose bodies are edited, each as it stands after all of these edits; and of one that is
--- added at the start of a sheet or behind the `}` of a rule at top level.
+-- added
 abbrev pub TellsRules : List SheetEntry → CssEdit → CssDone → Type 0
 TellsRules book (edit.SetStyleTexts edits) d = All (IsRuleTold d.book) (edited_rules (map style_edit edits) book)
 TellsRules book (edit.SetRuleSelector sheet range selector) d = ⊤
 TellsRules book (edit.SetStyleSheetText sheet text) d = ⊤
 TellsRules book (edit.AddRule sheet rule_text location) d =
-    All (λ s. IsBehindRule book s → TellsMade book s) (css_splices book (edit.AddRule sheet rule_text location))
+    All (TellsMade book) (css_splices book (edit.AddRule sheet rule_text location))
 TellsRules book (edit.SetMediaText sheet range text) d = ⊤
 
 -- ---- of an edit

@@ -1,25 +1,24 @@
 -- What a text in front of another says, where the other is read as it is alone.
-use Rattle.std.proofs.Common.{◌≡◌, ℕ, zero, suc, ◌+◌, ◌<◌, ◌≤◌, Bool, true, false, ◌&&◌, ◌==◌, All, List, [], ◌∷◌, ◌++◌, map, length, take, drop}
-use Rattle.std.proofs.Common.{Option, Some, None, ◌⊎◌, inl, inr, refl, sym, ap, subst, ◌∙◌, append_assoc, append-nil, length-append, arith}
-use Rattle.std.proofs.Math.Seq.{drop-append_seam, take-append_seam}
+use Rattle.std.proofs.Common.{◌≡◌, ℕ, ◌+◌, ◌<◌, Bool, true, false, ◌&&◌, ◌==◌, All, List, [], ◌∷◌, ◌++◌, map, length, take}
+use Rattle.std.proofs.Common.{Option, Some, None, inl, inr, refl, sym, ap, subst, ◌∙◌, append_assoc, append-nil, length-append, arith}
+use Rattle.std.proofs.Math.Seq.{take-append_seam}
 use Rattle.std.specs.List.{list_all}
 use Rattle.std.specs.Prelude.{option_to_list}
-use Rattle.std.proofs.lemmas.Bool.Decides.{nat_tests}
-use Rattle.std.proofs.lemmas.List.Elements.{All-head, All-tail, All-nil, All-cons, All-append, All-weaker}
+use Rattle.std.proofs.lemmas.List.Elements.{All-nil}
 use Rattle.css_tokens.specs.declared.token.Token.{Token}
 use Rattle.css_tokens.specs.declared.token.TokenKind.{TokenKind}
 use Rattle.css_tokens.specs.declared.token.TokenKind.TheVariants.{Comment, WhiteSpace}
 use Rattle.css_tokens.specs.Codes.{is_white, begins}
 use Rattle.css_tokens.specs.Forms.{Units, no_units, unit_and, CommentUnit, comment_code, CommentForm, ClosesWith}
-use Rattle.css_tokens.specs.Rows.{piece, first_piece, comment, white_space}
-use Rattle.css_tokens.specs.Pieces.{pieces, pieces_after}
+use Rattle.css_tokens.specs.Rows.{piece, first_piece, comment}
+use Rattle.css_tokens.specs.Pieces.{pieces}
 use Rattle.css_tokens.specs.Seams.{IsWholeBefore, no_more, piece_and}
 use Rattle.css_tokens.proofs.SeamPieces.{pieces_at}
 use Rattle.css_tokens.proofs.RowForms.{comment_row_law, white_row_law, passes_cut, begins_all}
 use Rattle.sheet_reader.specs.Forms.{RuleForm}
 use Rattle.sheet_reader.specs.Parts.{is_passed, PartForm, passed, part_pieces, parts}
 use Rattle.sheet_reader.specs.Grammar.{IsPart, passed_part}
-use Rattle.sheet_reader.specs.Layout.{media_form, Laid, laid, level_of, laid_out, AreLaid, part_laid}
+use Rattle.sheet_reader.specs.Layout.{media_form, laid, level_of, laid_out, AreLaid, part_laid}
 use Rattle.sheet_reader.specs.Moves.{placed_rule}
 use Rattle.sheet_reader.specs.Sheets.{rule_of, rules_in, sheet_of}
 use Rattle.sheet_reader.proofs.GrammarForms.{parts_only, parts_spelled}
@@ -100,6 +99,16 @@ pub record Fronts (front other : List ℕ) : Type 0 where
 abbrev pub IsPassedFront : List ℕ → List ℕ → Type 0
 IsPassedFront front other = AreMoved (length front) (sheet_of other).rules (sheet_of (front ++ other)).rules
 
+-- so such a text is in front of it
+pub passed_fronts : (front other : List ℕ) → IsPassedFront front other → Fronts front other
+passed_fronts front other moved = record {
+  own = [];
+  starts = All-nil (StartsBefore (length front));
+  rest = (sheet_of (front ++ other)).rules;
+  is = refl;
+  moved = moved;
+}
+
 -- nothing in front of a text
 pub nothing_front : (other : List ℕ) → IsPassedFront [] other
 nothing_front other = each (sheet_of other).rules
@@ -109,10 +118,11 @@ nothing_front other = each (sheet_of other).rules
     each (r ∷ rs) = (record { prelude = omega arith; start = omega arith; end = omega arith }, each rs)
 
 -- the other in the whole text
-behind_same : (front other : List ℕ) → SamePart other (front ++ other) (λ x. length front + x) 0 (length other)
+pub behind_same : (front other : List ℕ) → SamePart other (front ++ other) (λ x. length front + x) 0 (length other)
 behind_same front other =
     let both : SamePart ([] ++ (other ++ [])) (front ++ (other ++ [])) (λ x. length front + x) 0 (0 + length other) =
-    same_part [] other [] front [] (λ x. length front + x) (λ x fits. let z : 0 + x ≡ x = omega arith in ap (λ (m : ℕ). length front + m) z) in
+    same_part [] other [] front [] (λ x. length front + x) (λ x fits. let z : 0 + x
+    ≡ x = omega arith in ap (λ (m : ℕ). length front + m) z) in
     let at : 0 + length other ≡ length other = omega arith in
     subst (λ (n : ℕ). SamePart other (front ++ other) (λ x. length front + x) 0 n) at
     (subst (λ (t : List ℕ). SamePart t (front ++ other) (λ x. length front + x) 0 (0 + length other)) (append-nil other)

@@ -9,6 +9,9 @@ pub mod MediaForms
 pub mod RuleOrder
 pub mod MadeRules
 pub mod LoneRules
+pub mod ShutFronts
+pub mod PartTexts
+pub mod PlaceFronts
 pub mod AddedRules
 pub mod Fronts
 pub mod PassedPieces

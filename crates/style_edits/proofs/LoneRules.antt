@@ -1,6 +1,6 @@
 -- A text that is one style rule, but for white space and comments, has just that rule.
-use Rattle.std.proofs.Common.{◌≡◌, ℕ, zero, suc, ◌+◌, ◌<◌, ◌≤◌, Bool, true, false, not, cond, List, [], ◌∷◌, ◌++◌, map, length}
-use Rattle.std.proofs.Common.{Option, Some, None, refl, sym, ap, subst, ◌∙◌, append_assoc, arith}
+use Rattle.std.proofs.Common.{◌≡◌, ℕ, ◌<◌, Bool, true, false, not, cond, List, [], ◌∷◌, ◌++◌, map, length}
+use Rattle.std.proofs.Common.{Option, Some, None, refl, sym, ap, subst, ◌∙◌, arith}
 use Rattle.std.specs.Prelude.{is_some, option_to_list}
 use Rattle.std.specs.Str.{IsUtf8}
 use Rattle.css_tokens.specs.declared.token.Range.{Range}
@@ -9,12 +9,11 @@ use Rattle.css_tokens.specs.Pieces.{pieces}
 use Rattle.selectors.specs.Words.{words_after}
 use Rattle.selectors.specs.Ranges.{AreTiles}
 use Rattle.selectors.proofs.RangeForms.{tiles_whole, tiles_order, tiles_cut}
-use Rattle.sheet_reader.specs.declared.lone.LoneRule.{LoneRule}
 use Rattle.sheet_reader.specs.declared.lone.LoneRule.TheVariants.{Other, Dropped, Style}
 use Rattle.sheet_reader.specs.Forms.{range, RuleForm}
 use Rattle.sheet_reader.specs.Parts.{EndingForm, text_end, semicolon, block, PartForm, passed, at_rule, qualified, part_pieces, parts}
-use Rattle.sheet_reader.specs.Layout.{media_form, Laid, laid, level_of, laid_out, AreLaid, none_laid, part_laid}
-use Rattle.sheet_reader.specs.Lone.{is_blank_piece, is_blank_part, is_closed_ending, is_closed_rule, solid_parts, lone_by, lone_of, lone_rule}
+use Rattle.sheet_reader.specs.Layout.{media_form, Laid, laid, level_of, AreLaid, none_laid, part_laid}
+use Rattle.sheet_reader.specs.Lone.{is_blank_piece, solid_parts, lone_by, lone_of, lone_rule}
 use Rattle.sheet_reader.specs.Sheets.{rule_of, rules_in, sheet_of}
 use Rattle.sheet_reader.proofs.GrammarForms.{parts_spelled}
 use Rattle.sheet_reader.proofs.LayoutForms.{laid_only}

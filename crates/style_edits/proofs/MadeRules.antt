@@ -1,7 +1,7 @@
 -- The style rules that edits made are there.
 use Rattle.std.proofs.Common.{◌≡◌, ℕ, zero, suc, ◌+◌, nat_eq, Bool, true, false, cond, All, List, [], ◌∷◌, map, length}
 use Rattle.std.proofs.Common.{Option, Some, None, Ok, Err, refl, sym, ap, subst, ◌∙◌}
-use Rattle.std.specs.Prelude.{slice_get, option_and_then, IsSome, IsSomeAnd, is_some}
+use Rattle.std.specs.Prelude.{slice_get, option_and_then, IsSome, IsSomeAnd}
 use Rattle.std.specs.Str.{IsUtf8}
 use Rattle.std.specs.List.{find}
 use Rattle.std.proofs.lemmas.Bool.{eqb-true}
@@ -22,18 +22,17 @@ use Rattle.sheet_reader.specs.Sealing.{is_sealed}
 use Rattle.sheet_reader.specs.Sheets.{sheet_of}
 use Rattle.sheet_reader.proofs.MovedLaw.{moved_holds}
 use Rattle.style_edits.specs.declared.edits.StyleEdit.{StyleEdit}
-use Rattle.style_edits.specs.declared.faults.SheetFault.{SheetFault}
 use Rattle.style_edits.specs.declared.faults.SheetFault.TheVariants.{BadText, TooBig}
 use Rattle.style_edits.specs.declared.rule_places.RulePlace.{RulePlace}
 use Rattle.style_edits.specs.declared.splice.Splice.{Splice}
-use Rattle.style_edits.specs.Splices.{spliced, spliced_entry, back_in, after_splice, back_splice, TakesSplice}
-use Rattle.style_edits.specs.Edits.{HasText, Found, EditsOutcome, is_at, splice_at, placed_text, body_at, style_by, style_in, mutable}
-use Rattle.style_edits.specs.Edits.{client_by, client_sheet, found_by, style_splice, edited, with_back, go_on, styles_edited}
+use Rattle.style_edits.specs.Splices.{spliced, spliced_entry, back_in, after_splice, back_splice}
+use Rattle.style_edits.specs.Edits.{HasText, Found, EditsOutcome, is_at, splice_at, body_at, style_by, style_in, mutable}
+use Rattle.style_edits.specs.Edits.{client_by, found_by, style_splice, edited, with_back, go_on, styles_edited}
 use Rattle.style_edits.specs.EditedRules.{rules_before, place_by, edited_rule, rules_on, edited_rules, rule_at, IsRuleThere, made_rule}
 use Rattle.style_edits.specs.EditedRules.{new_range, MakesBody}
-use Rattle.style_edits.proofs.BookForms.{entry_id, entry_again}
+use Rattle.style_edits.proofs.BookForms.{entry_again}
 use Rattle.style_edits.proofs.SpliceForms.{made, stored_after}
-use Rattle.style_edits.proofs.FoundForms.{stored_of, sealed_takes, style_found}
+use Rattle.style_edits.proofs.FoundForms.{stored_of, style_found}
 use Rattle.style_edits.proofs.RuleOrder.{own_place}
 
 -- ---- where a splice leads
@@ -248,7 +247,8 @@ styles_stay (x ∷ xs) book new backs p h there =
         → IsRuleThere new p
     by (Err f) is k more = absurd (cc)
     by (Ok s) is k more =
-        rest s (styles_edited xs (after_splice s book)) refl k (style_stays x book s p is there) (λ bs e t. more (after_splice s book) bs e t)
+        rest s (styles_edited xs (after_splice s book)) refl k (style_stays x book s p is there) (λ bs e t. more
+        (after_splice s book) bs e t)
 
 pub is_there : (o : Option RuleForm) (P : RuleForm → Type 0) → IsSomeAnd o P → IsSome o
 is_there None P there = absurd there

@@ -3,7 +3,6 @@ use Rattle.std.proofs.Common.{◌≡◌, ℕ, zero, suc, ◌+◌, ◌<◌, ◌�
 use Rattle.std.proofs.Common.{Option, Some, None, refl, sym, ap, subst, ◌∙◌, append_assoc, arith}
 use Rattle.std.specs.Prelude.{slice_get, option_to_list}
 use Rattle.std.specs.Str.{IsUtf8}
-use Rattle.std.specs.List.{prefix_len}
 use Rattle.std.proofs.lemmas.Bool.Decides.{nat_tests}
 use Rattle.std.proofs.lemmas.List.Elements.{All-head, All-tail}
 use Rattle.css_tokens.specs.declared.token.Range.{Range}
@@ -69,7 +68,8 @@ prelude_before text utf8 k r e =
     let behind = q.brace ∷ (q.body ++ (option_to_list q.close ++ f.more)) in
     let own = path_prelude text r q None 0 ps ls f.rs f.xs f.more f.path in
     let cut_is : pieces text ≡ (own.front ++ q.prelude) ++ behind =
-    (flat_of (level_of None) ps (pieces text) (parts_spelled (level_of None) (pieces text))).0 ∙ path_flat text r q None 0 ps ls f.rs f.xs f.more f.path
+    (flat_of (level_of None) ps (pieces text) (parts_spelled (level_of None) (pieces text))).0
+    ∙ path_flat text r q None 0 ps ls f.rs f.xs f.more f.path
     ∙ ap (λ (ys : List Token). ys ++ behind) own.parted in
     let whole = tiles_cut text 0 (length text) (own.front ++ q.prelude) behind
     (subst (AreTiles text 0 (length text)) cut_is (tiles_whole text utf8)) in

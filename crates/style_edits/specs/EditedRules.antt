@@ -1,14 +1,12 @@
 -- Which style rules a client's edits make: each by its place among the style rules of its sheet.
-use Rattle.std.specs.Prelude.{◌≡◌, ℕ, ◌+◌, ◌<◌, ◌≤◌, nat_lt, true, All, List, [], ◌∷◌, ◌++◌, length, take, slice_get, Option, Some, None, option_and_then}
+use Rattle.std.specs.Prelude.{◌≡◌, ℕ, ◌+◌, ◌<◌, ◌≤◌, nat_lt, All, List, [], ◌∷◌, length, slice_get, Option, Some, None, option_and_then}
 use Rattle.std.specs.Prelude.{IsSome, IsSomeAnd, Result, Ok, Err}
-use Rattle.std.specs.List.{prefix_len, list_all}
-use Rattle.css_tokens.specs.Codes.{is_white}
+use Rattle.std.specs.List.{prefix_len}
 use Rattle.sheet_reader.specs.declared.book.SheetEntry.{SheetEntry}
 use Rattle.css_tokens.specs.declared.token.Range.{Range}
 use Rattle.sheet_reader.specs.Forms.{range, RuleForm}
 use Rattle.sheet_reader.specs.Sheets.{sheet_of}
 use Rattle.sheet_reader.specs.Books.{IsStored, entry_of}
-use Rattle.sheet_reader.specs.Joins.{is_shut_text}
 use Rattle.sheet_reader.specs.Rereads.{HasBody}
 use Rattle.style_edits.specs.declared.edits.StyleEdit.{StyleEdit}
 use Rattle.style_edits.specs.declared.faults.SheetFault.{SheetFault}
@@ -69,21 +67,9 @@ pub record StandsIn (part : Range) (r : RuleForm) : Type 0 where
   pub starts : part.start ≤ r.prelude.start
   pub ends : r.body.end < part.end
 
--- a text that ends with the `}` of a rule at top level, or an empty one, and white space behind it
-pub record EndsBehindRule (text : List ℕ) : Type 0 where
-  pub front : List ℕ
-  pub white : List ℕ
-  pub is : text ≡ front ++ white
-  pub shut : is_shut_text front ≡ true
-  pub blank : list_all is_white white ≡ true
-
--- what stands before the splice is no more than white space, up to the `}` of a rule at top level or the start of the sheet
-abbrev pub IsBehindRule : List SheetEntry → Splice → Type 0
-IsBehindRule book s = IsSomeAnd (entry_of s.sheet book) (λ e. EndsBehindRule (take s.start e.text))
-
--- there is a style rule, and it stands in the splice's text, where that is put at the start or behind a rule
+-- there is a style rule, and it stands in the splice's text
 abbrev pub MakesRule : List SheetEntry → Splice → Type 0
-MakesRule book s = IsBehindRule book s → IsSomeAnd (made_rule book s) (StandsIn (new_range s))
+MakesRule book s = IsSomeAnd (made_rule book s) (StandsIn (new_range s))
 
 -- so for each splice that an edit comes to in a book
 abbrev pub EachMakes : (List SheetEntry → Splice → Type 0) → (List SheetEntry → Found) → Type 0

@@ -34,9 +34,9 @@ pub fn edits_law()
     ensures lead_back { (xs : List StyleEdit) → All HasText xs → LeadBack xs }
 {}
 
-/// The style rule that an edit made is there: `edited_rule` answers the place of the rule whose body is the edit's text, no more and no
-/// less; and of the rule that was added, where it was put at the start of a sheet or behind the `}` of a rule at top level. And where
-/// bodies are edited one after the other, each such rule is at its place after all the edits.
+/// The style rule that an edit made is there. `edited_rule` answers, for a new body, the place of the rule whose body is the edit's
+/// text, no more and no less; and for a rule that was added, that of one that stands in the edit's text. And where bodies are edited
+/// one after the other, each such rule is at its place after all the edits.
 pub fn rules_law()
     ensures style { (x : StyleEdit) → IsUtf8 x.text → EachMakes MakesBody (style_splice x) }
     ensures rule { (id : ℕ) (lines : LineRange) (text : List ℕ) → IsUtf8 text → EachMakes MakesRule (rule_splice id lines text) }

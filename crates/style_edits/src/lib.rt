@@ -11,8 +11,9 @@
 //! Way in: `set_styles`, `set_selector`, `set_text`, `add_rule` and `set_media`; `put_back` makes a splice; `add_sheet` and `drop_sheet`
 //! for a script.
 //!
-//! Laws: `splice_law` and `edits_law` (src/laws.rt), splicing back, the last one first, gives the book before. What each edit
-//! comes to stands in specs/Edits, splices in specs/Splices.
+//! Laws: `splice_law` and `edits_law` (src/laws.rt), splicing back, the last one first, gives the book before; `rules_law`, the style
+//! rule that an edit made is there, but for an edit of a prelude. What each edit comes to stands in specs/Edits, splices in
+//! specs/Splices.
 #![tactic(auto)]
 
 mod drafts;

@@ -1,6 +1,5 @@
 use Rattle.style_edits.proofs.MadeRules.{style_made, styles_made}
 use Rattle.style_edits.proofs.AddedRules.{rule_made}
-use Rattle.style_edits.proofs.PassedPieces.{piece_front}
 use Rattle.style_edits.proofs.laws.rules_law.Goals as goal
 
 pub returns : goal.returns
