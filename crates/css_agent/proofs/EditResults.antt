@@ -48,6 +48,7 @@ use Rattle.css_agent.specs.Edits.{number_named, line_range, style_edit, found_at
 use Rattle.css_agent.specs.Edits.{empty_media, media_told, media_done, css_edited, splices_on, style_splices, css_splices}
 use Rattle.css_agent.specs.EditLaws.{HasEditTexts, css_edit_name, edit_count, TellsStyles, IsDone, EditsAreDone}
 use Rattle.css_agent.proofs.SheetNames.{rules-named}
+use Rattle.css_agent.proofs.RulesTold.{rules-told}
 use Rattle.css_agent.proofs.TellableStyles.{both, sheet-number, IsTold, prelude-fits, style-fits, rule-fits, rule-utf8, stored-told}
 use Rattle.css_agent.proofs.StyleLemmas.{all-at}
 use Rattle.css_agent.proofs.TellableStyles.{entry-stored, rule-at, media-fits, media-utf8}
@@ -303,4 +304,5 @@ edits-done book x d all texts h =
       plain = told.plain;
       answers = told.answers;
       styles = told.styles;
+      rules = rules-told x book d all texts h;
     }

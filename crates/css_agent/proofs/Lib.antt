@@ -9,5 +9,6 @@ pub mod SheetNames
 pub mod TellableStyles
 pub mod DoneLemmas
 pub mod EditLemmas
+pub mod RulesTold
 pub mod EditResults
 pub mod ClassLaws

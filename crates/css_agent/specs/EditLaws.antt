@@ -1,5 +1,5 @@
 -- What always holds of a client's edit of sheets that has no fault.
-use Rattle.std.specs.Prelude.{◌≡◌, ℕ, List, [], ◌∷◌, All, length, true, Ok, ⊤}
+use Rattle.std.specs.Prelude.{◌≡◌, ℕ, List, [], ◌∷◌, All, map, length, Some, true, Ok, ⊤}
 use Rattle.std.specs.Str.{IsUtf8}
 use Rattle.cdp_json.specs.Kinds.{is_counted}
 use Rattle.cdp_messages.specs.declared.command.Command.TheVariants.{EditCss}
@@ -11,11 +11,13 @@ use Rattle.cdp_messages.specs.Laws.{answers}
 use Rattle.client_views.specs.Moves.{IsPlainReply}
 use Rattle.sheet_reader.specs.declared.book.SheetEntry.{SheetEntry}
 use Rattle.sheet_reader.specs.Books.{IsStored}
+use Rattle.style_edits.specs.declared.rule_places.RulePlace.{RulePlace}
 use Rattle.style_edits.specs.declared.splice.Splice.{Splice}
 use Rattle.style_edits.specs.Splices.{after_splice, back_splice, after_splices, TakesSplice}
+use Rattle.style_edits.specs.EditedRules.{edited_rule, edited_rules}
 use Rattle.cdp_messages.specs.declared.css_edit.CssEdit.{CssEdit}
 use Rattle.cdp_messages.specs.declared.css_edit.CssEdit.TheVariants as edit
-use Rattle.css_agent.specs.Edits.{CssDone, css_edited, css_splices}
+use Rattle.css_agent.specs.Edits.{style_edit, found_at, told_at, CssDone, css_edited, css_splices}
 
 -- ---- of the command
 
@@ -74,6 +76,24 @@ TellsStyles n (body.Rule rule) = ⊤
 TellsStyles n (body.Media media) = ⊤
 TellsStyles n (body.Matched matched) = ⊤
 
+-- what is told of that place is the style rule that stands there
+abbrev pub IsRuleTold : List SheetEntry → RulePlace → Type 0
+IsRuleTold book p = found_at book p ≡ Some (told_at book p)
+
+-- the style rule that a splice made is told as it stands in the book that the splice left
+abbrev pub TellsMade : List SheetEntry → Splice → Type 0
+TellsMade book s = IsRuleTold (after_splice s book) (edited_rule (after_splice s book) (back_splice s book))
+
+-- What is told of style rules is so: of those whose bodies are edited, each as it stands after all of these edits; and of one that is
+-- added
+abbrev pub TellsRules : List SheetEntry → CssEdit → CssDone → Type 0
+TellsRules book (edit.SetStyleTexts edits) d = All (IsRuleTold d.book) (edited_rules (map style_edit edits) book)
+TellsRules book (edit.SetRuleSelector sheet range selector) d = ⊤
+TellsRules book (edit.SetStyleSheetText sheet text) d = ⊤
+TellsRules book (edit.AddRule sheet rule_text location) d =
+    All (TellsMade book) (css_splices book (edit.AddRule sheet rule_text location))
+TellsRules book (edit.SetMediaText sheet range text) d = ⊤
+
 -- ---- of an edit
 
 -- what was done is what the edit's splices do, and is answered by a result of the edit's method that a message can spell
@@ -94,6 +114,8 @@ pub record IsDone (book : List SheetEntry) (x : CssEdit) (d : CssDone) : Type 0 
   pub answers : answers (css_edit_name x) d.body ≡ true
   -- and tells one style for each edit, where it tells styles
   pub styles : TellsStyles (edit_count x) d.body
+  -- the rules that it tells of are there
+  pub rules : TellsRules book x d
 
 -- what was done is so for each edit of a book whose sheets are as a book has them
 abbrev pub EditsAreDone : Type 0

@@ -63,7 +63,7 @@ empty_rule sheet = record {
   media = [];
 }
 
--- the style rule that an edit made, as it is told. That it is there follows from how texts are sealed; the definition does not rest on it.
+-- the style rule that an edit made, as it is told. That it is there after an edit of bodies, and where a rule is added, is in `IsDone`.
 abbrev pub told_at : List SheetEntry → RulePlace → Rule
 told_at book p = unwrap_or (found_at book p) (empty_rule p.sheet)
 
@@ -76,8 +76,7 @@ found_media book sheet place = option_and_then (λ e. option_map (told_media e.i
 abbrev pub empty_media : ℕ → Media
 empty_media sheet = record { range = record { start_line = 0; start_column = 0; end_line = 0; end_column = 0 }; sheet = sheet; text = [] }
 
--- the media rule whose prelude an edit made, as it is told. That it is there follows as for style rules; the definition does not rest
--- on it.
+-- the media rule whose prelude an edit made, as it is told
 abbrev pub media_told : List SheetEntry → Splice → Media
 media_told book back = unwrap_or (found_media book back.sheet (edited_media book back)) (empty_media back.sheet)
 

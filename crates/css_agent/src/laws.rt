@@ -6,7 +6,7 @@ ghost use Rattle.css_agent.specs.MediaAround.{EachIsAround};
 ghost use Rattle.css_agent.specs.EditLaws.{EditsAreDone};
 
 /// What a client's edit of sheets that has no fault comes to: splices that can be made one after the other, those that lead back,
-/// and a result of the edit's method.
+/// and a result of the edit's method, which tells of style rules that stand in the book, where bodies are edited or a rule is added.
 pub fn edit_law()
     ensures done { EditsAreDone }
 {}

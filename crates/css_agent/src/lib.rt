@@ -6,8 +6,9 @@
 //!
 //! Way in: `CssAgent`, one for each client; `told_header` and `sheet_named` for who tells of sheets.
 //!
-//! Law: `edit_law` (src/laws.rt, specs/EditLaws): an edit that has no fault is one splice for each of its edits, and its reply
-//! is of its method. What each command comes to stands in specs/Asks and specs/Edits, matched styles in specs/MatchedStyles.
+//! Law: `edit_law` (src/laws.rt, specs/EditLaws): an edit that has no fault is one splice for each of its edits, its reply is of its
+//! method, and a rule that it tells of is there, but for an edit of a prelude. What each command comes to stands in specs/Asks and
+//! specs/Edits, matched styles in specs/MatchedStyles.
 #![tactic(auto)]
 
 mod agent;

@@ -42,7 +42,7 @@ use Rattle.style_edits.proofs.SpliceForms.{leads_back, stored_after}
 no_splice : (f : SheetFault) (s : Splice) → ◌≡◌ {A = Found} (Err f) (Ok s) → ⊥
 no_splice f s e = absurd (cc)
 
-stored_of : (id : ℕ) (book : List SheetEntry) (e : SheetEntry) → entry_of id book ≡ Some e → All IsStored book → IsStored e
+pub stored_of : (id : ℕ) (book : List SheetEntry) (e : SheetEntry) → entry_of id book ≡ Some e → All IsStored book → IsStored e
 stored_of id [] e h all = let wrong : ◌≡◌ {A = Option SheetEntry} None (Some e) = h in absurd (cc)
 stored_of id (x ∷ book) e h all = by (nat_eq id x.id) h (All-head IsStored x book all)
     (λ k. stored_of id book e k (All-tail IsStored x book all))
@@ -74,7 +74,7 @@ placed_takes book e part text s found stored r utf8 h = by (nat_le (length (spli
         subst (λ (x : Splice). TakesSplice x book) same own
     by false is k = absurd (no_splice TooBig s k)
 
-sealed_takes : (b : Bool) (rest : Found) (f : SheetFault) (s : Splice) → ◌≡◌ {A = Found} (cond b rest (Err f)) (Ok s) → rest ≡ Ok s
+pub sealed_takes : (b : Bool) (rest : Found) (f : SheetFault) (s : Splice) → ◌≡◌ {A = Found} (cond b rest (Err f)) (Ok s) → rest ≡ Ok s
 sealed_takes true rest f s e = e
 sealed_takes false rest f s e = absurd (no_splice f s e)
 

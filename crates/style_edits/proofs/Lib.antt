@@ -6,3 +6,12 @@ pub mod SpliceForms
 pub mod FoundForms
 pub mod RuleForms
 pub mod MediaForms
+pub mod RuleOrder
+pub mod MadeRules
+pub mod LoneRules
+pub mod ShutFronts
+pub mod PartTexts
+pub mod PlaceFronts
+pub mod AddedRules
+pub mod Fronts
+pub mod PassedPieces

@@ -104,12 +104,12 @@ entry_back s e own r =
     ap (λ (text : List ℕ). with_text e text) same ∙ (λ i. record { id = e.id; origin = e.origin; text = e.text; reading = sym own.read i })
 
 -- where a splice leads, told of the sheet that is found
-record Made (s : Splice) (book : List SheetEntry) (e : SheetEntry) : Type 0 where
-  after : after_splice s book ≡ book_changed (spliced_entry s e) book
-  back : back_splice s book ≡ back_in s e
-  there : entry_of s.sheet (book_changed (spliced_entry s e) book) ≡ Some (spliced_entry s e)
+pub record Made (s : Splice) (book : List SheetEntry) (e : SheetEntry) : Type 0 where
+  pub after : after_splice s book ≡ book_changed (spliced_entry s e) book
+  pub back : back_splice s book ≡ back_in s e
+  pub there : entry_of s.sheet (book_changed (spliced_entry s e) book) ≡ Some (spliced_entry s e)
 
-made : (s : Splice) (book : List SheetEntry) (e : SheetEntry) → entry_of s.sheet book ≡ Some e → Made s book e
+pub made : (s : Splice) (book : List SheetEntry) (e : SheetEntry) → entry_of s.sheet book ≡ Some e → Made s book e
 made s book e found =
     let id = entry_id s.sheet book e found in
     record {

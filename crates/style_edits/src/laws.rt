@@ -9,6 +9,7 @@ ghost use Rattle.style_edits.specs.declared.splice.Splice.{Splice};
 ghost use Rattle.style_edits.specs.Splices.{TakesSplice, FitsSplice, after_splice, back_splice};
 ghost use Rattle.style_edits.specs.Edits.{HasText, FindsSplices, LeadBack, style_splice, selector_splice, text_splice, rule_splice};
 ghost use Rattle.style_edits.specs.MediaEdits.{media_splice};
+ghost use Rattle.style_edits.specs.EditedRules.{EachMakes, MakesBody, MakesRule, AllStay};
 
 /// A splice that can be made in a book can be taken back: the splice that leads back can be made in the book that it leaves,
 /// leads to the book before it, and is itself taken back by the splice again.
@@ -31,4 +32,13 @@ pub fn edits_law()
     ensures rule { (id : ℕ) (lines : LineRange) (text : List ℕ) → IsUtf8 text → FindsSplices (rule_splice id lines text) }
     ensures media { (id : ℕ) (lines : LineRange) (text : List ℕ) → IsUtf8 text → FindsSplices (media_splice id lines text) }
     ensures lead_back { (xs : List StyleEdit) → All HasText xs → LeadBack xs }
+{}
+
+/// The style rule that an edit made is there. `edited_rule` answers, for a new body, the place of the rule whose body is the edit's
+/// text, no more and no less; and for a rule that was added, that of one that stands in the edit's text. And where bodies are edited
+/// one after the other, each such rule is at its place after all the edits.
+pub fn rules_law()
+    ensures style { (x : StyleEdit) → IsUtf8 x.text → EachMakes MakesBody (style_splice x) }
+    ensures rule { (id : ℕ) (lines : LineRange) (text : List ℕ) → IsUtf8 text → EachMakes MakesRule (rule_splice id lines text) }
+    ensures styles { (xs : List StyleEdit) → All HasText xs → AllStay xs }
 {}

@@ -11,8 +11,9 @@
 //! Way in: `set_styles`, `set_selector`, `set_text`, `add_rule` and `set_media`; `put_back` makes a splice; `add_sheet` and `drop_sheet`
 //! for a script.
 //!
-//! Laws: `splice_law` and `edits_law` (src/laws.rt), splicing back, the last one first, gives the book before. What each edit
-//! comes to stands in specs/Edits, splices in specs/Splices.
+//! Laws: `splice_law` and `edits_law` (src/laws.rt), splicing back, the last one first, gives the book before; `rules_law`, the style
+//! rule that an edit made is there, but for an edit of a prelude. What each edit comes to stands in specs/Edits, splices in
+//! specs/Splices.
 #![tactic(auto)]
 
 mod drafts;
@@ -27,7 +28,7 @@ mod splice;
 
 pub use edits::{StyleEdit, add_rule, set_selector, set_styles, set_styles_noting, set_text};
 pub use faults::{SheetErr, SheetFault};
-pub use laws::{edits_law, splice_law};
+pub use laws::{edits_law, rules_law, splice_law};
 pub use lines::LineRange;
 pub use media_edits::{edited_media, set_media};
 pub use rule_places::{RulePlace, edited_rule};

@@ -1,0 +1,295 @@
+-- What a text in front of another says, where the other is read as it is alone.
+use Rattle.std.proofs.Common.{◌≡◌, ℕ, ◌+◌, ◌<◌, Bool, true, false, ◌&&◌, ◌==◌, All, List, [], ◌∷◌, ◌++◌, map, length, take}
+use Rattle.std.proofs.Common.{Option, Some, None, inl, inr, refl, sym, ap, subst, ◌∙◌, append_assoc, append-nil, length-append, arith}
+use Rattle.std.proofs.Math.Seq.{take-append_seam}
+use Rattle.std.specs.List.{list_all}
+use Rattle.std.specs.Prelude.{option_to_list}
+use Rattle.std.proofs.lemmas.List.Elements.{All-nil}
+use Rattle.css_tokens.specs.declared.token.Token.{Token}
+use Rattle.css_tokens.specs.declared.token.TokenKind.{TokenKind}
+use Rattle.css_tokens.specs.declared.token.TokenKind.TheVariants.{Comment, WhiteSpace}
+use Rattle.css_tokens.specs.Codes.{is_white, begins}
+use Rattle.css_tokens.specs.Forms.{Units, no_units, unit_and, CommentUnit, comment_code, CommentForm, ClosesWith}
+use Rattle.css_tokens.specs.Rows.{piece, first_piece, comment}
+use Rattle.css_tokens.specs.Pieces.{pieces}
+use Rattle.css_tokens.specs.Seams.{IsWholeBefore, no_more, piece_and}
+use Rattle.css_tokens.proofs.SeamPieces.{pieces_at}
+use Rattle.css_tokens.proofs.RowForms.{comment_row_law, white_row_law, passes_cut, begins_all}
+use Rattle.sheet_reader.specs.Forms.{RuleForm}
+use Rattle.sheet_reader.specs.Parts.{is_passed, PartForm, passed, part_pieces, parts}
+use Rattle.sheet_reader.specs.Grammar.{IsPart, passed_part}
+use Rattle.sheet_reader.specs.Layout.{media_form, laid, level_of, laid_out, AreLaid, part_laid}
+use Rattle.sheet_reader.specs.Moves.{placed_rule}
+use Rattle.sheet_reader.specs.Sheets.{rule_of, rules_in, sheet_of}
+use Rattle.sheet_reader.proofs.GrammarForms.{parts_only, parts_spelled}
+use Rattle.sheet_reader.proofs.LayoutForms.{laid_spelled, laid_only}
+use Rattle.sheet_reader.proofs.Raised.{raised, raised_part, raised_laid, flat}
+use Rattle.sheet_reader.proofs.PartMoves.{flat_of, flat_parts}
+use Rattle.sheet_reader.proofs.WordMoves.{SamePart}
+use Rattle.sheet_reader.proofs.ReadMoves.{AllTokens, rules_same}
+use Rattle.sheet_reader.proofs.TextMoves.{pieces_from, same_part}
+use Rattle.sheet_reader.proofs.LaidMoves.{laid_in, laid_again, flat_raised, flat_again, any_moved}
+use Rattle.sheet_reader.proofs.JoinedLaw.{all_there, whole_alone}
+
+-- ---- rules that stand further back
+
+-- a rule stands n bytes behind another
+pub record Moved (n : ℕ) (r moved : RuleForm) : Type 0 where
+  pub prelude : moved.prelude.start ≡ n + r.prelude.start
+  pub start : moved.body.start ≡ n + r.body.start
+  pub end : moved.body.end ≡ n + r.body.end
+
+-- and so do rules, in their order
+abbrev pub AreMoved : ℕ → List RuleForm → List RuleForm → Type 0
+AreMoved n [] [] = Unit {0}
+AreMoved n [] (q ∷ qs) = ⊥
+AreMoved n (r ∷ rs) [] = ⊥
+AreMoved n (r ∷ rs) (q ∷ qs) = Moved n r q × AreMoved n rs qs
+
+pub map_moved : (n : ℕ) (g : RuleForm → RuleForm) → ((r : RuleForm) → Moved n r (g r)) → (rs : List RuleForm) → AreMoved n rs (map g rs)
+map_moved n g each [] = tt
+map_moved n g each (r ∷ rs) = (each r, map_moved n g each rs)
+
+-- what stands n and m bytes behind, and what stands m bytes behind
+moved_less : (n m k : ℕ) (rs qs xs : List RuleForm) → n + m ≡ k → AreMoved m rs qs → AreMoved k rs xs → AreMoved n qs xs
+moved_less n m k [] [] [] sum a b = tt
+moved_less n m k [] [] (x ∷ xs) sum a b = absurd b
+moved_less n m k [] (q ∷ qs) xs sum a b = absurd a
+moved_less n m k (r ∷ rs) [] xs sum a b = absurd a
+moved_less n m k (r ∷ rs) (q ∷ qs) [] sum a b = absurd b
+moved_less n m k (r ∷ rs) (q ∷ qs) (x ∷ xs) sum a b = (
+  record {
+    prelude = omega (arith, sum, a.0.prelude, b.0.prelude);
+    start = omega (arith, sum, a.0.start, b.0.start);
+    end = omega (arith, sum, a.0.end, b.0.end);
+  },
+  moved_less n m k rs qs xs sum a.1 b.1,
+)
+
+pub moved_more : (n m k : ℕ) (rs qs xs : List RuleForm) → n + m ≡ k → AreMoved m rs qs → AreMoved n qs xs → AreMoved k rs xs
+moved_more n m k [] [] [] sum a b = tt
+moved_more n m k [] [] (x ∷ xs) sum a b = absurd b
+moved_more n m k [] (q ∷ qs) xs sum a b = absurd a
+moved_more n m k (r ∷ rs) [] xs sum a b = absurd a
+moved_more n m k (r ∷ rs) (q ∷ qs) [] sum a b = absurd b
+moved_more n m k (r ∷ rs) (q ∷ qs) (x ∷ xs) sum a b = (
+  record {
+    prelude = omega (arith, sum, a.0.prelude, b.0.prelude);
+    start = omega (arith, sum, a.0.start, b.0.start);
+    end = omega (arith, sum, a.0.end, b.0.end);
+  },
+  moved_more n m k rs qs xs sum a.1 b.1,
+)
+
+-- ---- texts in front
+
+-- the body of a rule starts before a place
+abbrev pub StartsBefore : ℕ → RuleForm → Type 0
+StartsBefore n r = r.body.start < n
+
+-- a text in front of another has rules, whose bodies start in it, and behind them stand those of the other
+pub record Fronts (front other : List ℕ) : Type 0 where
+  pub own : List RuleForm
+  pub starts : All (StartsBefore (length front)) own
+  pub rest : List RuleForm
+  pub is : (sheet_of (front ++ other)).rules ≡ own ++ rest
+  pub moved : AreMoved (length front) (sheet_of other).rules rest
+
+-- a text in front of another has no rules, and behind it stand those of the other
+abbrev pub IsPassedFront : List ℕ → List ℕ → Type 0
+IsPassedFront front other = AreMoved (length front) (sheet_of other).rules (sheet_of (front ++ other)).rules
+
+-- so such a text is in front of it
+pub passed_fronts : (front other : List ℕ) → IsPassedFront front other → Fronts front other
+passed_fronts front other moved = record {
+  own = [];
+  starts = All-nil (StartsBefore (length front));
+  rest = (sheet_of (front ++ other)).rules;
+  is = refl;
+  moved = moved;
+}
+
+-- nothing in front of a text
+pub nothing_front : (other : List ℕ) → IsPassedFront [] other
+nothing_front other = each (sheet_of other).rules
+  where
+    each : (rs : List RuleForm) → AreMoved 0 rs rs
+    each [] = tt
+    each (r ∷ rs) = (record { prelude = omega arith; start = omega arith; end = omega arith }, each rs)
+
+-- the other in the whole text
+pub behind_same : (front other : List ℕ) → SamePart other (front ++ other) (λ x. length front + x) 0 (length other)
+behind_same front other =
+    let both : SamePart ([] ++ (other ++ [])) (front ++ (other ++ [])) (λ x. length front + x) 0 (0 + length other) =
+    same_part [] other [] front [] (λ x. length front + x) (λ x fits. let z : 0 + x
+    ≡ x = omega arith in ap (λ (m : ℕ). length front + m) z) in
+    let at : 0 + length other ≡ length other = omega arith in
+    subst (λ (n : ℕ). SamePart other (front ++ other) (λ x. length front + x) 0 n) at
+    (subst (λ (t : List ℕ). SamePart t (front ++ other) (λ x. length front + x) 0 (0 + length other)) (append-nil other)
+    (subst (λ (t : List ℕ). SamePart (other ++ []) (front ++ t) (λ x. length front + x) 0 (0 + length other)) (append-nil other) both))
+
+-- a whole part that is no rule has none, and what stands behind it is read as it is alone
+pub part_front : (front other : List ℕ) (p : PartForm) → IsWholeBefore other 0 front (part_pieces p)
+    → ((rest : List Token) → IsPart (level_of None) p rest) → media_form (front ++ other) p ≡ None → rule_of (front ++ other) None p ≡ None
+    → IsPassedFront front other
+unfolding rules_in
+part_front front other p is_whole is_part no_media no_rule =
+    let n = length front in
+    let whole = front ++ other in
+    let f = λ (x : ℕ). n + x in
+    let ps = parts (level_of None) (pieces other) in
+    let ls = laid_out other None 0 (pieces other) in
+    let more = map (raised_part f) ps in
+    let both = flat_of (level_of None) ps (pieces other) (parts_spelled (level_of None) (pieces other)) in
+    let tokens : pieces whole ≡ part_pieces p ++ flat more =
+    pieces_at other front (part_pieces p) is_whole
+    ∙ ap (λ (ts : List Token). part_pieces p ++ ts)
+    (pieces_from n other ∙ ap (map (raised f)) both.0 ∙ sym (flat_raised f ps)) in
+    let new_parts : p ∷ more ≡ parts (level_of None) (pieces whole) =
+    parts_only (level_of None) (p ∷ more) (part_pieces p ++ flat more)
+    (flat_parts (level_of None) (p ∷ more) (is_part (flat more), flat_again (level_of None) f ps both.1))
+    ∙ ap (parts (level_of None)) (sym tokens) in
+    let all : AllTokens 0 (length other) (flat ps) = subst (AllTokens 0 (length other)) both.0 (all_there [] other (whole_alone other)) in
+    let same = behind_same front other in
+    let are = laid_spelled other None 0 (pieces other) in
+    let there = laid_again other whole f 0 (length other) same None 0 ps ls are all in
+    let new_laid : laid None p ∷ map (raised_laid f) ls ≡ laid_out whole None 0 (pieces whole) =
+    laid_only whole None 0 (pieces whole) (laid None p ∷ map (raised_laid f) ls)
+    (subst (λ (qs : List PartForm). AreLaid whole None 0 qs (laid None p ∷ map (raised_laid f) ls)) new_parts
+    (part_laid p more (map (raised_laid f) ls) no_media there)) in
+    subst (AreMoved n (sheet_of other).rules)
+    (sym (rules_same other whole f 0 (length other) same ls (laid_in 0 (length other) other None 0 ps ls are all)
+    (any_moved other whole f (sym (length-append front other)) ls))
+    ∙ sym (ap (λ (o : Option RuleForm). option_to_list o ++ rules_in whole (map (raised_laid f) ls)) no_rule)
+    ∙ ap (rules_in whole) new_laid)
+    (map_moved n (placed_rule f) (λ r. record { prelude = refl; start = refl; end = refl }) (sheet_of other).rules)
+
+-- a piece that is passed over is such a part
+pub passed_front : (front other : List ℕ) (kind : TokenKind) → first_piece (front ++ other) ≡ Some (piece kind (length front))
+    → is_passed (level_of None) kind ≡ true → IsPassedFront front other
+unfolding rule_of media_form
+passed_front front other kind found over =
+    let t : Token = record { kind = kind; start = 0; end = 0 + length front } in
+    part_front front other (passed t) (piece_and (piece kind (length front)) front [] (sym (append-nil front)) refl found no_more)
+    (λ rest. passed_part t over) refl refl
+
+-- ---- white space
+
+no_comment : (c : ℕ) (text : List ℕ) → is_white c ≡ true → comment (c ∷ text) ≡ None
+no_comment c text white = by (comment (c ∷ text)) refl
+  where
+    by : (o : _) → comment (c ∷ text) ≡ o → comment (c ∷ text) ≡ None
+    by None e = e
+    by (Some p) e =
+        let k = comment_row_law.form (c ∷ text) p e in
+        let same : c ∷ text ≡ 47 ∷ (42 ∷ ((k.form.body ++ k.form.close) ++ k.rest)) = k.is ∙ ap (λ (x : List ℕ). x ++ k.rest) k.form.is in
+        let slash : c ≡ 47 = cc in
+        let not_white : is_white 47 ≡ true = ap is_white (sym slash) ∙ white in
+        absurd (cc)
+
+-- a run of white space is one piece
+white_piece : (front other : List ℕ) → list_all is_white front ≡ true → 0 < length front → begins is_white other ≡ false
+    → first_piece (front ++ other) ≡ Some (piece WhiteSpace (length front))
+unfolding first_piece
+white_piece [] other all some stops = absurd (omega arith)
+white_piece (c ∷ front) other all some stops =
+    let first = begins_all is_white (c ∷ front) other some all in
+    let own = white_row_law.only WhiteSpace (c ∷ front) other (record { named = refl; some = some; run = (all, stops) }) in
+    rw (no_comment c (front ++ other) first, own) refl
+
+all_both : (xs ys : List ℕ) → list_all is_white xs ≡ true → list_all is_white ys ≡ true → list_all is_white (xs ++ ys) ≡ true
+all_both [] ys a b = b
+all_both (x ∷ xs) ys a b = by (is_white x) a (λ h. all_both xs ys h b)
+  where
+    by : (t : Bool) → (t && list_all is_white xs) ≡ true → (list_all is_white xs ≡ true → list_all is_white (xs ++ ys) ≡ true)
+        → (t && list_all is_white (xs ++ ys)) ≡ true
+    by true h rest = rest h
+    by false h rest = cc
+
+-- white space has no rules, whatever stands behind it
+pub white_front : (front other : List ℕ) → list_all is_white front ≡ true → 0 < length front → IsPassedFront front other
+white_front front other all some =
+    let k = passes_cut is_white other in by k.front k.rest k.is k.form.0 k.form.1
+  where
+    by : (w rest : List ℕ) → other ≡ w ++ rest → list_all is_white w ≡ true → begins is_white rest ≡ false → IsPassedFront front other
+    by [] rest same white stops =
+        passed_front front other WhiteSpace (white_piece front other all some (ap (begins is_white) same ∙ stops)) refl
+    by (c ∷ w) rest same white stops =
+        let both = front ++ c ∷ w in
+        let sum : length front + length (c ∷ w) ≡ length both = sym (length-append front (c ∷ w)) in
+        let whole = passed_front both rest WhiteSpace
+        (white_piece both rest (all_both front (c ∷ w) all white) (omega (arith, some, sum)) stops) refl in
+        let own = passed_front (c ∷ w) rest WhiteSpace (white_piece (c ∷ w) rest white (omega arith) stops) refl in
+        subst (IsPassedFront front) (sym same)
+        (moved_less (length front) (length (c ∷ w)) (length both) (sheet_of rest).rules (sheet_of ((c ∷ w) ++ rest)).rules
+        (sheet_of (front ++ ((c ∷ w) ++ rest))).rules sum own
+        (subst (λ (t : List ℕ). AreMoved (length both) (sheet_of rest).rules (sheet_of t).rules) (append_assoc front (c ∷ w) rest) whole))
+
+-- ---- comments
+
+-- what is in a comment is in it before any text that begins with `*/`
+units_before : (body rest other : List ℕ) → Units CommentUnit body (42 ∷ 47 ∷ rest) → Units CommentUnit body (42 ∷ 47 ∷ other)
+units_before body rest other no_units = no_units
+units_before body rest other (unit_and {first = first} {others = others} is unit more) =
+    unit_and is (one first others unit) (units_before others rest other more)
+  where
+    one : (first others : List ℕ) → CommentUnit first (others ++ 42 ∷ 47 ∷ rest) → CommentUnit first (others ++ 42 ∷ 47 ∷ other)
+    one _ [] (comment_code apart) = comment_code apart
+    one _ (d ∷ others) (comment_code apart) = comment_code apart
+
+-- the codes of a comment up to its end hold no `*/`
+no_mark : (body front rest : List ℕ) → Units CommentUnit body rest → body ≡ front ++ 42 ∷ 47 ∷ [] → ⊥
+no_mark body [] rest no_units e = absurd (cc)
+no_mark body (c ∷ front) rest no_units e = absurd (cc)
+no_mark body front rest (unit_and {others = others} is (comment_code {c = c} apart) more) e =
+    by front (sym is ∙ e) (λ xs h. no_mark others xs rest more h)
+  where
+    by : (front : List ℕ) → c ∷ others ≡ front ++ 42 ∷ 47 ∷ [] → ((xs : List ℕ) → others ≡ xs ++ 42 ∷ 47 ∷ [] → ⊥) → ⊥
+    by [] same again =
+        let star : c ≡ 42 = cc in
+        let slash : others ≡ 47 ∷ [] = cc in
+        let wrong : (42 == 42 && begins (λ d. d == 47) ((47 ∷ []) ++ rest)) ≡ false =
+        (λ i. sym star i == 42 && begins (λ d. d == 47) (sym slash i ++ rest)) ∙ apart in
+        absurd (cc)
+    by (x ∷ front) same again = again front (cc)
+
+-- what begins with `/*` has the piece that the first row gives
+is_first : (inside other front : List ℕ) → front ≡ 47 ∷ 42 ∷ inside → comment (front ++ other) ≡ Some (piece Comment (length front))
+    → first_piece (front ++ other) ≡ Some (piece Comment (length front))
+unfolding first_piece
+is_first inside other front e row = rw row refl
+
+inside : {xs ys : List ℕ} → ◌≡◌ {A = List ℕ} (47 ∷ 42 ∷ xs) (47 ∷ 42 ∷ ys) → xs ≡ ys
+inside e = cc
+
+cut_off : (xs ys end : List ℕ) → xs ++ end ≡ ys ++ end → xs ≡ ys
+cut_off xs ys end e =
+    let size : length xs ≡ length ys = omega (arith, ap length e, length-append xs end, length-append ys end) in
+    sym (take-append_seam xs end) ∙ (λ i. take (size i) (e i)) ∙ take-append_seam ys end
+
+-- what is in such a comment
+comment_units : (k : TokenKind) (front rest inner : List ℕ) → CommentForm k front rest → front ≡ 47 ∷ 42 ∷ (inner ++ 42 ∷ 47 ∷ [])
+    → Units CommentUnit inner (42 ∷ 47 ∷ rest)
+comment_units k front rest inner f is = by f.body f.close (inside (sym f.is ∙ is)) f.units f.closed
+  where
+    by : (body close : List ℕ) → body ++ close ≡ inner ++ 42 ∷ 47 ∷ [] → Units CommentUnit body (close ++ rest)
+        → ClosesWith (42 ∷ 47 ∷ []) close rest → Units CommentUnit inner (42 ∷ 47 ∷ rest)
+    by body close held units (inl closed) =
+        subst (λ (x : List ℕ). Units CommentUnit x (42 ∷ 47 ∷ rest))
+        (cut_off body inner (42 ∷ 47 ∷ []) (ap (λ (x : List ℕ). body ++ x) (sym closed) ∙ held))
+        (subst (λ (x : List ℕ). Units CommentUnit body (x ++ rest)) closed units)
+    by body close held units (inr none) =
+        absurd (no_mark body inner (close ++ rest) units (sym (append-nil body) ∙ ap (λ (x : List ℕ). body ++ x) (sym none.0) ∙ held))
+
+-- a comment with its `*/` is one piece, whatever stands behind it
+pub comment_piece : (k : TokenKind) (front rest other inner : List ℕ) → CommentForm k front rest
+    → front ≡ 47 ∷ 42 ∷ (inner ++ 42 ∷ 47 ∷ []) → first_piece (front ++ other) ≡ Some (piece Comment (length front))
+comment_piece k front rest other inner f is =
+    is_first (inner ++ 42 ∷ 47 ∷ []) other front is (comment_row_law.only Comment front other (record {
+      named = refl;
+      body = inner;
+      close = 42 ∷ 47 ∷ [];
+      is = is;
+      units = units_before inner rest other (comment_units k front rest inner f is);
+      closed = inl refl;
+    }))
