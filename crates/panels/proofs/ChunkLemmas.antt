@@ -118,8 +118,8 @@ three_parts start stop text order =
     ∙ take-append-drop start text
 
 pub cut_mended : (text part : List ℕ) (start stop : ℕ) (front new rest chunks : List Chunk) → start ≤ stop
-    → part ≡ take (stop - start) (drop start text) → AreChunks (take start text) front → AreChunks part new → AreChunks (drop stop text) rest
-    → chunks ≡ front ++ (new ++ rest) → AreChunks text chunks
+    → part ≡ take (stop - start) (drop start text) → AreChunks (take start text) front → AreChunks part new
+    → AreChunks (drop stop text) rest → chunks ≡ front ++ (new ++ rest) → AreChunks text chunks
 cut_mended text part start stop front new rest chunks order is before mid behind made =
     subst (λ x. AreChunks x chunks) (three_parts start stop text order)
     (subst (AreChunks (take start text ++ (take (stop - start) (drop start text) ++ drop stop text))) (sym made)

@@ -2,10 +2,10 @@
 use Rattle.std.proofs.Common.{◌≡◌, ℕ, zero, suc, ◌+◌, ◌-◌, ◌<◌, ◌≤◌, ◌==◌, ◌&&◌, cond}
 use Rattle.std.proofs.Common.{nat_le, Bool, true, false, List, [], ◌∷◌, ◌++◌, length, take, drop, count_by}
 use Rattle.std.proofs.Common.{get_or, refl, sym, ap, ◌∙◌, arith, append_assoc, length-append, length-drop, take-append-drop, drop-drop}
-use Rattle.std.proofs.Common.{take_all, take_at, drop_at}
+use Rattle.std.proofs.Common.{take_all, take_at, drop_at, take-add}
 use Rattle.std.specs.List.{list_all, concat, replace_range}
 use Rattle.std.proofs.lemmas.Bool.Decides.{nat_tests}
-use Rattle.std.proofs.lemmas.List.Sums.{sum_by-cons}
+use Rattle.std.proofs.lemmas.List.Sums.{sum_by-cons, sum_by-append, count_by-le-length}
 use Rattle.panels.specs.Lines.{is_line}
 use Rattle.panels.specs.Chunks.{is_feed, lines_length}
 
@@ -136,6 +136,74 @@ end_turn bytes start end len k at less here none_before =
     ap (λ l. lines_length 1 l) behind ∙ one
     in
     omega (arith, at, add, last)
+
+-- ---- how many lines end in a text
+
+count_cons : (x : ℕ) (xs : List ℕ) → count_by is_feed (x ∷ xs) ≡ cond (is_feed x) 1 0 + count_by is_feed xs
+count_cons x xs = sum_by-cons (λ b. cond (is_feed b) 1 0) x xs
+
+count_parts : (start : ℕ) (text : List ℕ) → count_by is_feed text ≡ count_by is_feed (take start text) + count_by is_feed (drop start text)
+count_parts start text =
+    ap (λ (l : List ℕ). count_by is_feed l) (sym (take-append-drop start text))
+    ∙ sum_by-append (λ b. cond (is_feed b) 1 0) (take start text) (drop start text)
+
+one_feed : (text : List ℕ) (i : ℕ) → i < length text → (get_or text i 0 == 10) ≡ true
+    → ((j : ℕ) → j < i → (get_or text j 0 == 10) ≡ true → ⊥) → count_by is_feed (take (suc i) text) ≡ 1
+one_feed [] i less here none_before = absurd (omega arith)
+one_feed (x ∷ xs) zero less here none_before = count_cons x [] ∙ ap (λ t. cond t 1 0 + 0) here
+one_feed (x ∷ xs) (suc i) less here none_before =
+    let other : is_feed x ≡ false = not_true (is_feed x) (λ e. none_before 0 (omega arith) e) in
+    let h = one_feed xs i (omega arith) here (λ j low. none_before (suc j) (omega arith)) in
+    count_cons x (take (suc i) xs) ∙ (λ j. cond (other j) 1 0 + h j)
+
+no_feed : (text : List ℕ) → ((j : ℕ) → j < length text → (get_or text j 0 == 10) ≡ true → ⊥) → count_by is_feed text ≡ 0
+no_feed [] none_there = refl
+no_feed (x ∷ xs) none_there =
+    let other : is_feed x ≡ false = not_true (is_feed x) (λ e. none_there 0 (omega arith) e) in
+    let h = no_feed xs (λ j low. none_there (suc j) (omega arith)) in
+    count_cons x xs ∙ (λ j. cond (other j) 1 0 + h j)
+
+-- one more
+pub count_turn : (bytes : List ℕ) (start len lines : ℕ) → lines ≡ count_by is_feed (take start bytes)
+    → len < length (take (length bytes - start) (drop start bytes))
+    → (get_or (take (length bytes - start) (drop start bytes)) len 0 == 10) ≡ true
+    → ((j : ℕ) → 0 ≤ j → j < len → (get_or (take (length bytes - start) (drop start bytes)) j 0 == 10) ≡ true → ⊥)
+    → lines + 1 ≡ count_by is_feed (take (start + (len + 1)) bytes)
+count_turn bytes start len lines before less here none_before =
+    let rest = take (length bytes - start) (drop start bytes) in
+    let one : count_by is_feed (take (suc len) (drop start bytes)) ≡ 1 =
+    ap (λ (l : List ℕ). count_by is_feed (take (suc len) l)) (sym (rest_is bytes start))
+    ∙ one_feed rest len less here (λ j low. none_before j (omega arith) low)
+    in
+    let s : start + (len + 1) ≡ start + suc len = omega arith in
+    let sum : count_by is_feed (take (start + (len + 1)) bytes)
+    ≡ count_by is_feed (take start bytes) + count_by is_feed (take (suc len) (drop start bytes)) =
+    ap (λ n. count_by is_feed (take n bytes)) s
+    ∙ ap (λ (l : List ℕ). count_by is_feed l) (take-add start (suc len) bytes)
+    ∙ sum_by-append (λ b. cond (is_feed b) 1 0) (take start bytes) (take (suc len) (drop start bytes))
+    in
+    omega (arith, before, one, sum)
+
+-- and none is left
+pub count_end : (bytes : List ℕ) (start lines : ℕ) → lines ≡ count_by is_feed (take start bytes)
+    → ((j : ℕ) → 0 ≤ j → j < length (take (length bytes - start) (drop start bytes))
+    → (get_or (take (length bytes - start) (drop start bytes)) j 0 == 10) ≡ true → ⊥)
+    → lines ≡ count_by is_feed bytes
+count_end bytes start lines before none_there =
+    let rest : count_by is_feed (drop start bytes) ≡ 0 =
+    ap (λ (l : List ℕ). count_by is_feed l) (sym (rest_is bytes start))
+    ∙ no_feed (take (length bytes - start) (drop start bytes)) (λ j low. none_there j (omega arith) low)
+    in
+    let parts = count_parts start bytes in
+    omega (arith, before, rest, parts)
+
+-- or all bytes were line feeds
+pub count_all : (bytes : List ℕ) (start lines : ℕ) → lines ≡ count_by is_feed (take start bytes) → length bytes ≤ lines
+    → length bytes ≡ count_by is_feed bytes
+count_all bytes start lines before past =
+    let most = count_by-le-length is_feed bytes in
+    let parts = count_parts start bytes in
+    omega (arith, before, past, most, parts)
 
 -- where the slice that is searched ends
 pub end_within : (bytes : List ℕ) (end len : ℕ) → end ≤ length bytes → len < length (take (length bytes - end) (drop end bytes))

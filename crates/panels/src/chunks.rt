@@ -3,7 +3,7 @@ ghost use Rattle.std.specs.Prelude.{◌≡◌, ◌+◌, ◌<◌, ◌≤◌, ◌+
 ghost use Rattle.std.specs.List.{count_by};
 ghost use Rattle.panels.specs.Chunks.{is_feed, AreChunks, IsEdge, lines_length};
 
-use memchr::{memchr, memchr_iter};
+use memchr::memchr;
 use std::alloc::{AllocError, Global};
 
 /// How many bytes a chunk has: so many or up to twice as many where it is cut, some hundred lines.
@@ -23,6 +23,21 @@ pub(crate) struct Edge {
     pub(crate) byte: usize,
 }
 
+/// How many lines end in these bytes.
+#[tactic(auto, using(crate::proofs::TextLemmas::count_turn, crate::proofs::TextLemmas::count_end, crate::proofs::TextLemmas::count_all))]
+fn line_count(bytes: &[u8]) -> usize
+    ensures { result ≡ count_by is_feed bytes.now }
+{
+    let mut start = 0;
+    for lines in 0..bytes.len() {
+        let Some(len) = memchr(10, &bytes[start..]) else {
+            return lines;
+        };
+        start += len + 1;
+    }
+    bytes.len()
+}
+
 /// The chunk of these bytes.
 fn chunk_of(bytes: &[u8]) -> Chunk
     ensures bytes { result.bytes ≡ length bytes.now }
@@ -30,7 +45,7 @@ fn chunk_of(bytes: &[u8]) -> Chunk
 {
     Chunk {
         bytes: bytes.len(),
-        lines: memchr_iter(10, bytes).count(),
+        lines: line_count(bytes),
     }
 }
 

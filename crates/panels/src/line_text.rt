@@ -52,8 +52,8 @@ fn splice(
 ) -> Result<bool, AllocError>
     requires cut { AreChunks (string_bytes text.old) chunks.old.items }
     ensures cut { OnOk result (AreChunks (string_bytes text.new) chunks.new.items) }
-    ensures text { (lines : List (List ℕ)) → string_bytes text.old ≡ concat lines → list_all is_line lines ≡ true → place + count ≤ length lines
-        → IfOk result (λ done. done ≡ true
+    ensures text { (lines : List (List ℕ)) → string_bytes text.old ≡ concat lines → list_all is_line lines ≡ true
+        → place + count ≤ length lines → IfOk result (λ done. done ≡ true
         → string_bytes text.new ≡ concat (take place lines) ++ (more.now ++ concat (drop (place + count) lines))) }
 {
     let Some(span) = span_of(text.as_bytes(), chunks.as_slice(), place, count) else {
@@ -128,7 +128,8 @@ impl LineText {
         more: &str,
     ) -> Result<bool, AllocError>
         ensures { (lines : List (List ℕ)) → self.old ≡ concat lines → list_all is_line lines ≡ true → place + count ≤ length lines
-            → IfOk result (λ done. done ≡ true → self.new ≡ concat (take place lines) ++ (more.now ++ concat (drop (place + count) lines))) }
+            → IfOk result (λ done. done ≡ true
+            → self.new ≡ concat (take place lines) ++ (more.now ++ concat (drop (place + count) lines))) }
     {
         let alloc = self.alloc;
         let LineText {
