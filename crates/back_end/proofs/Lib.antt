@@ -43,4 +43,5 @@ pub mod UndoSeats
 pub mod NoteCounts
 pub mod AskCounts
 pub mod StartLemmas
+pub mod KeptSearches
 mod DomainLemmas

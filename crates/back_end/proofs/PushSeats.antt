@@ -111,9 +111,9 @@ or-parts false b e = (refl, e)
 none-above : (s : ℕ) (n : Nodes PageRow) → has row_serial s n ≡ false → ancestors_down s n ≡ []
 none-above s none e = refl
 none-above s (node r c t) e =
-    let rest = or-parts (has row_serial s c) (has row_serial s t)
-    (or-parts (r.serial == s) (has row_serial s c || has row_serial s t) e).1 in
-    ap (λ b. cond b (record { row = r; children = c } ∷ ancestors_down s c) (ancestors_down s t)) rest.0 ∙ none-above s t rest.1
+    let parts = or-parts ((r.serial == s) || has row_serial s c) (has row_serial s t) e in
+    let below = (or-parts (r.serial == s) (has row_serial s c) parts.0).1 in
+    ap (λ b. cond b (record { row = r; children = c } ∷ ancestors_down s c) (ancestors_down s t)) below ∙ none-above s t parts.1
 
 -- the client is not shown what is not found in the page as the agent shows it
 pub hidden-now : (d : Desk) (s : PageSide) (state : State) (serial : ℕ) (page : PageValue) (mode : Mode) → DeskStandsFor d s state

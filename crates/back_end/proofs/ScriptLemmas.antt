@@ -93,7 +93,7 @@ edit-stands d d1 s s1 state e stands can texts ids serials sheets page_is sheets
       medium_is = ap (λ (b : NumberedBook). b.medium) sheets_is ∙ stands.medium_is;
       on_is = on_is ∙ stands.on_is;
       css_is = css_is ∙ stands.css_is;
-      mode_is = ap (λ (b : BindingValue). b.mode) agent_now ∙ shown_edit_keeps_mode mode e page d.agent ∙ stands.mode_is;
+      mode_is = ap (λ (b : BindingValue). b.mode) agent_now ∙ shown_edit_keeps_mode mode page e d.agent ∙ stands.mode_is;
       watches_are = watches_is ∙ left-is e d.agent.mode s.page d.watches state stands.mode_is same stands.watches_are;
       searches_are = searches_is ∙ stands.searches_are;
       stands = subst (λ a. Stands (alone (shown_page mode (after e page)).tree) (shown_session_edited mode e page w).state a)

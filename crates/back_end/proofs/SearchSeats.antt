@@ -1,10 +1,10 @@
 -- A desk that answers what is asked of searches stands for the state of the step, and sends its moves.
 use Rattle.std.proofs.Common.{◌≡◌, ℕ, Bool, true, false, cond, not, ◌&&◌, ◌||◌, List, [], ◌∷◌, ◌++◌, length, Option, Some, None}
 use Rattle.std.proofs.Common.{Result, Ok, Err, refl, sym, ap, subst, ◌∙◌, append-nil}
-use Rattle.std.specs.Prelude.{is_some}
+use Rattle.std.specs.Prelude.{filter, is_some}
 use Rattle.std.specs.FinMap as table
 use Rattle.page_tree.specs.Pages.{PageValue}
-use Rattle.node_binding.specs.Bindings.{Stands, opened_in}
+use Rattle.node_binding.specs.Bindings.{BindingValue, Stands, opened_in}
 use Rattle.node_binding.specs.Sessions.{is_open}
 use Rattle.pipe_frames.specs.Frames.{framed}
 use Rattle.cdp_messages.specs.declared.command.Command.{Command}

@@ -52,12 +52,12 @@ one-kept true x front rest = append_assoc front (x ∷ []) rest
 one-kept false x front rest = append_assoc front [] rest
 
 -- the element at a place, where it passes, and then those behind it that pass
-pub kept-turn : (p : ℕ → Bool) (xs : List ℕ) (i x : ℕ) (before after : List ℕ) → i < length xs → x ≡ get_or xs i x
+pub kept-turn : (p : ℕ → Bool) (xs : List ℕ) (i x : ℕ) (before after : List ℕ) → i < length xs → x ≡ get_or xs i 0
     → after ≡ before ++ cond (p x) (x ∷ []) []
     → after ++ filter p (drop (i + 1) xs) ≡ before ++ filter p (drop i xs)
 kept-turn p xs i x before after inside is e =
     ap (λ (l : List ℕ). l ++ filter p (drop (i + 1) xs)) e ∙ one-kept (p x) x before (filter p (drop (i + 1) xs))
-    ∙ sym (ap (λ (l : List ℕ). before ++ filter p l) (drop_more xs i x inside ∙ ap (λ (y : ℕ). y ∷ drop (i + 1) xs) (sym is)))
+    ∙ sym (ap (λ (l : List ℕ). before ++ filter p l) (drop_more xs i 0 inside ∙ ap (λ (y : ℕ). y ∷ drop (i + 1) xs) (sym is)))
 
 -- the number of the next search can be told
 number-fits : (n : ℕ) → n + 1 < 2 ^ 50 → is_search (n + 1) ≡ true

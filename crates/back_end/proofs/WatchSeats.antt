@@ -1,7 +1,7 @@
 -- A seat's answer to the two commands on watches is the step of the state.
 use Rattle.std.proofs.Common.{◌≡◌, ℕ, ◌++◌, List, true, false, not, ◌&&◌, Option, Some, None, sym, ◌∙◌, ap, subst}
 use Rattle.std.specs.FinMap as map
-use Rattle.node_binding.specs.Bindings.{Stands}
+use Rattle.node_binding.specs.Bindings.{BindingValue, Stands}
 use Rattle.cdp_messages.specs.declared.command.Why.TheVariants.{UnknownNode}
 use Rattle.client_views.specs.Moves.{frames_of_moves}
 use Rattle.dom_breakpoints.specs.Watched.{Watched}

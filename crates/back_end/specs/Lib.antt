@@ -7,3 +7,4 @@ pub mod Steps
 pub mod Laws
 pub mod Seats
 pub mod Starts
+pub mod SearchLaws

@@ -1,5 +1,6 @@
 // The laws of steps, which make no call.
 ghost use Rattle.back_end.specs.Laws.{FramesStepWell, TurnsStepWell, UndoRestores};
+ghost use Rattle.back_end.specs.SearchLaws.{EditsKeepFound, AsksKeepFound, FoundIsForgotten};
 ghost use Rattle.back_end.specs.Starts.{StartIsState, NewSeatsStand, SheetNumbersDiffer};
 
 /// After each step the state is valid, its history too, its moves lead from what the client saw to what it sees then, a frame is
@@ -21,4 +22,12 @@ pub fn start_law()
     ensures valid { StartIsState }
     ensures stands { NewSeatsStand }
     ensures numbers { SheetNumbersDiffer }
+{}
+
+/// What a search found stays as it is through edits of the tree and of sheets, whoever makes them, and through what is asked of nodes;
+/// it goes with DOM and with the page. A node that is gone or hidden is answered by 0 then.
+pub fn search_law()
+    ensures edits { EditsKeepFound }
+    ensures asks { AsksKeepFound }
+    ensures forgets { FoundIsForgotten }
 {}

@@ -33,7 +33,7 @@ mod trees;
 mod undoing;
 
 pub use faults::ActFault;
-pub use laws::{start_law, step_law, undo_law};
+pub use laws::{search_law, start_law, step_law, undo_law};
 pub use page_forms::{Act, ActErr, PageForm, SheetForm, read_act, read_page};
 pub use page_tree::EditFault;
 pub use seat::Seat;

@@ -17,6 +17,7 @@ mod page_rows;
 mod row_parts;
 mod script_rows;
 mod selector_rows;
+mod session_rows;
 mod sheet_rows;
 mod style_rows;
 mod styles_rows;
@@ -68,6 +69,7 @@ fn tell_row(alloc: Global, line: &str, answer: &mut Answer) -> Result<(), AllocE
         "message" => message_rows::told(alloc, row, answer),
         "page" => page_rows::told(alloc, row, answer),
         "script" => script_rows::told(alloc, row, answer),
+        "session" => session_rows::told(alloc, row, answer),
         "undo" => undo_rows::told(alloc, row, answer),
         _ => tell_call(alloc, module, row, answer),
     }

@@ -26,5 +26,5 @@ reply_told text id body u e c f h =
     ap (option_and_then message_in) (json_is text d u r) ∙ message_again (reply id (body_data body)) (reply_fits id body c)
 
 -- the tokens of a value, where none is left behind it
-pub nothing_behind : {d : Data} {old left : List Token} → left ≡ [] → old ≡ data_tokens d ++ left → old ≡ data_tokens d
-nothing_behind {d = d} e whole = whole ∙ ap (λ ts. data_tokens d ++ ts) e ∙ append-nil (data_tokens d)
+pub nothing_behind : (d : Data) {old left : List Token} → left ≡ [] → old ≡ data_tokens d ++ left → old ≡ data_tokens d
+nothing_behind d e whole = whole ∙ ap (λ ts. data_tokens d ++ ts) e ∙ append-nil (data_tokens d)

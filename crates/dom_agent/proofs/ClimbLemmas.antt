@@ -163,8 +163,9 @@ of-live tree s live = of-find tree s (zipper_at s tree) (at_some s tree (find_zi
   where
     there : (o : Option Zipper) → find_zipper s tree ≡ o → is_some (option_map (λ z. z.branch) o) ≡ true
     there (Some z) e = refl
-    there None e = absurd (let none_there : None ≡ find_in s tree = sym (branch-found s [] [] (alone tree) ∙ ap (λ (p : Option Zipper). option_map (λ z. z.branch) p) e) in
-        is_none (find_in s tree) none_there live)
+    there None e =
+        absurd (is_none (find_in s tree)
+        (sym (branch-found s [] [] (alone tree) ∙ ap (λ (p : Option Zipper). option_map (λ z. z.branch) p) e)) live)
       where
         is_none : (p : Option (Branch PageRow)) → None ≡ p → IsSome p → ⊥
         is_none None f h = absurd (cc)

@@ -47,7 +47,8 @@ started_room page valid d b b1 begun room =
     omega (
       arith,
       ap (λ (m : BindingValue). m.next) begun,
-      bound-next (known (above d (alone page.tree)) (alone page.tree)) (containers_opened (containers_within d (alone page.tree)) (cleared b)),
+      bound-next (known (above d (alone page.tree)) (alone page.tree))
+          (containers_opened (containers_within d (alone page.tree)) (cleared b)),
       opened-next (containers_within d (alone page.tree)) (cleared b),
       length-known (above d (alone page.tree)) (alone page.tree),
       count-alone page valid,

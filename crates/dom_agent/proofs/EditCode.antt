@@ -1,9 +1,8 @@
 -- What the code of an edit comes to.
-use Rattle.std.proofs.Common.{◌≡◌, ℕ, suc, ◌+◌, ◌-◌, ◌<◌, ◌≤◌, ◌==◌, true, false, cond, List, [], ◌∷◌, ◌++◌, Option, Some, None, IsSome}
+use Rattle.std.proofs.Common.{◌≡◌, ℕ, suc, ◌-◌, ◌≤◌, ◌==◌, true, false, cond, List, [], ◌∷◌, ◌++◌, Option, Some, None, IsSome}
 use Rattle.std.proofs.Common.{is_some, unwrap_or, Result, Ok, Err, refl, sym, ap, subst, ◌∙◌, arith}
 use Rattle.std.proofs.lemmas.Bool.{eq-eqb}
-use Rattle.std.specs.Result.{OnOk, IfOk, IsOkAnd}
-use Rattle.std.specs.declared.alloc.AllocError.{AllocError}
+use Rattle.std.specs.Result.{OnOk}
 use Rattle.std.specs.FinMap as map
 use Rattle.node_tree.specs.Nodes.{Nodes, none, node, Branch, alone, width}
 use Rattle.node_tree.proofs.KeyLemmas.{Stands, find-stands, stands-below}
@@ -11,10 +10,7 @@ use Rattle.node_tree.proofs.ChangeLemmas.{at-new}
 use Rattle.page_tree.specs.Pages.{PageRow, PageValue, IsValid, row_serial, find_in, node_at, parent_at}
 use Rattle.page_tree.specs.Edits.{after, after_tree, with_child, children_at}
 use Rattle.page_tree.specs.EditFaults.{CanApply, CanAttach, first_fault}
-use Rattle.page_tree.specs.declared.edits.TreeEdit.{TreeEdit}
 use Rattle.page_tree.specs.declared.edits.TreeEdit.TheVariants.{Attach, Detach}
-use Rattle.page_tree.specs.declared.edit_faults.EditErr.{EditErr}
-use Rattle.cdp_messages.specs.declared.down.Event.{Event}
 use Rattle.page_tree.proofs.ChildLemmas.{Inserted, front, behind, inserted-before, inserted-taken, stands-inserted}
 use Rattle.page_tree.proofs.WholeLemmas.{whole-valid}
 use Rattle.page_tree.proofs.EditLemmas.{serial-live, whole-after, valid-after}
@@ -24,8 +20,7 @@ use Rattle.node_binding.specs.Bindings.{BindingValue, opened_in, id_in, with_bou
 use Rattle.pipe_frames.specs.Frames.{framed}
 use Rattle.client_views.specs.Moves.{inserts, removes, counts, Move, change, frames_of_moves}
 use Rattle.dom_agent.specs.Keepers.{Keeper, binding_keeper}
-use Rattle.dom_agent.specs.Edits.{Edited, id_before, unopened, told_count, family, insertion, child_came, edited, event_frames}
-use Rattle.dom_agent.specs.EditLaws.{binding_edited}
+use Rattle.dom_agent.specs.Edits.{Edited, id_before, unopened, told_count, family, insertion, child_came, edited}
 use Rattle.dom_agent.proofs.EditsShown as seen
 
 -- ---- results
@@ -33,19 +28,6 @@ use Rattle.dom_agent.proofs.EditsShown as seen
 pub on_ok : {T E P Q : Type 0} (r : Result T E) → OnOk r P → (P → Q) → OnOk r Q
 on_ok (Ok x) p f = f p
 on_ok (Err e) p f = tt
-
--- an event that was made before the edit, and sent after it
-pub event_sent : {T : Type 0} (r : Result T EditErr) (event : Result (Option Event) AllocError) (out out2 frames wanted : List ℕ)
-    → OnOk r (IsOkAnd event (λ told. out2 ≡ out ++ event_frames told)) → IfOk event (λ told. event_frames told ≡ frames) → frames ≡ wanted
-    → OnOk r (out2 ≡ out ++ wanted)
-event_sent (Ok x) (Ok told) out out2 frames wanted sent is same = sent ∙ ap (λ l. out ++ l) (is ∙ same)
-event_sent (Ok x) (Err e) out out2 frames wanted sent is same = absurd sent
-event_sent (Err e) event out out2 frames wanted sent is same = tt
-
--- the same edit, by the agent's value
-pub by_agent : (page : PageValue) (b self : BindingValue) (e edit : TreeEdit) → b ≡ self → edit ≡ e
-    → binding_edited e page b ≡ binding_edited edit page self
-by_agent page b self e edit value_is edit_is = λ k. binding_edited (sym edit_is k) page (value_is k)
 
 -- ---- the sibling before
 

@@ -1,21 +1,21 @@
 -- What was foreseen of an edit and told after it is what the edit comes to.
-use Rattle.std.proofs.Common.{◌≡◌, ℕ, ◌+◌, ◌≤◌, ◌<◌, true, false, List, [], ◌++◌, Option, Some, None, IfSome, IsSome, refl, sym, ap, subst}
+use Rattle.std.proofs.Common.{◌≡◌, ℕ, ◌+◌, ◌≤◌, ◌<◌, true, false, List, ◌++◌, Option, Some, None, IfSome, IsSome, refl, sym, ap, subst}
 use Rattle.std.proofs.Common.{◌∙◌, arith}
 use Rattle.node_tree.specs.Numbers.{drawn_before_call, drawn_before_nodes}
 use Rattle.std.proofs.lemmas.Bool.{not-false}
 use Rattle.node_tree.specs.Nodes.{Branch, none, alone}
 use Rattle.page_tree.specs.Pages.{PageRow, PageValue, IsValid, find_in, parent_at}
-use Rattle.page_tree.specs.Edits.{after, label_at, children_at}
+use Rattle.page_tree.specs.Edits.{after, label_at}
 use Rattle.page_tree.specs.EditFaults.{CanApply, edit_faults, first_fault}
 use Rattle.page_tree.proofs.EditLemmas.{clear, serial-live}
 use Rattle.page_tree.specs.declared.edits.TreeEdit.{TreeEdit}
 use Rattle.page_tree.specs.declared.edits.TreeEdit.TheVariants.{SetAttr, DropAttr, SetText, Attach, Detach}
 use Rattle.shown_pages.specs.declared.modes.Mode.{Mode}
 use Rattle.shown_pages.specs.declared.sights.TextSight.{TextSight}
-use Rattle.shown_pages.specs.declared.sights.TextSight.TheVariants.{Unseen, Comes as shows_itself, Goes, Stays}
+use Rattle.shown_pages.specs.declared.sights.TextSight.TheVariants.{Comes as shows_itself, Stays}
 use Rattle.shown_pages.specs.Modes.{hidden_in}
-use Rattle.shown_pages.specs.ShownPages.{shown_branch, shown_page}
-use Rattle.shown_pages.specs.ShownEdits.{shown_from, shown_edit, shown_text_edit, sight_at, after_some}
+use Rattle.shown_pages.specs.ShownPages.{shown_page}
+use Rattle.shown_pages.specs.ShownEdits.{shown_edit, shown_text_edit, sight_at, after_some}
 use Rattle.shown_pages.proofs.ShownTrees.{shown-valid}
 use Rattle.shown_pages.proofs.ShownSteps.{shown-steps}
 use Rattle.node_binding.specs.Bindings.{BindingValue}
@@ -26,7 +26,7 @@ use Rattle.dom_agent.specs.declared.foresight.Foreseen.TheVariants.{Tells, Comes
 use Rattle.dom_agent.specs.Keepers.{binding_keeper}
 use Rattle.dom_agent.specs.Edits.{Edited, told_where_known, event_frames}
 use Rattle.dom_agent.specs.ModeEdits.{shown_binding_edited}
-use Rattle.dom_agent.specs.Foresight.{foreseen_edited, IsComing, IsForeseen, IsAttachForeseen, HasCome, came_below, kept_after}
+use Rattle.dom_agent.specs.Foresight.{foreseen_edited, IsComing, IsForeseen, HasCome, came_below, kept_after}
 use Rattle.dom_agent.specs.Foresight.{frames_after}
 use Rattle.dom_agent.proofs.EditCode.{came_parent, came_child, came_same}
 use Rattle.dom_agent.proofs.EditsShown.{live3}
@@ -170,15 +170,3 @@ pub text_stays : (mode : Mode) (page : PageValue) (serial : ℕ) (value : List �
     → IsForeseen (Tells event) (shown_edit mode (SetText serial value) page.tree) (shown_page mode page) b b
 text_stays mode page serial value event b is told_so =
     foreseen_as _ _ (Tells event) (shown_page mode page) b b (text_seen mode page serial value Stays is) (told_so, refl)
-
--- a tree comes below its parent, if it is not hidden
-pub attach_foreseen : (mode : Mode) (page : PageValue) (p before : ℕ) (w : Branch PageRow) (f : Foreseen) (b : BindingValue)
-    → IsAttachForeseen f mode p w → IsForeseen f (shown_edit mode (Attach p before w) page.tree) (shown_page mode page) b b
-attach_foreseen mode page p before w (Comes parent serial) b is =
-    let shown_so : shown_edit mode (Attach p before w) page.tree
-    ≡ Some (Attach p (shown_from mode before (children_at p page.tree)) (shown_branch mode w)) = rw is.0 refl in
-    foreseen_as _ _ (Comes parent serial) (shown_page mode page) b b shown_so ((is.1, is.2), refl)
-attach_foreseen mode page p before w (Tells event) b is =
-    let none_so : shown_edit mode (Attach p before w) page.tree ≡ None = rw is.0 refl in
-    subst (λ (e : Option Event). IsForeseen (Tells e) (shown_edit mode (Attach p before w) page.tree) (shown_page mode page) b b)
-    (sym is.1) (nothing_foreseen _ (shown_page mode page) b none_so)

@@ -43,9 +43,8 @@ use Rattle.dom_agent.specs.Laws.{FindsInside, session_outcome, binding_outcome, 
 use Rattle.dom_agent.proofs.OpeningsLemmas.{AreOpenings, AreContainers, opened_all, request-are, pushing-are}
 use Rattle.dom_agent.proofs.StepLemmas.{Goes, goes-pushed}
 use Rattle.dom_agent.proofs.OutcomeLemmas.{containers-page, known-found, root-opened, document-left}
-use Rattle.dom_agent.proofs.QueryLemmas.{query-live, known_query, first-there}
+use Rattle.dom_agent.proofs.QueryLemmas.{query-live}
 use Rattle.dom_agent.specs.Queries.{Query, query_of, first_matching, all_matching}
-use Rattle.select_match.specs.Matches.{list_matches}
 use Rattle.cdp_messages.specs.declared.command.Why.{Why}
 use Rattle.dom_agent.proofs.KnownLemmas.{opened_after, pushed-known, path-there}
 
@@ -250,7 +249,8 @@ module _ (page : PageValue) (valid : IsValid page) where
     request_alike : (id : ℕ) (depth : Option ℤ) (pierce : Option Bool) (o : Option (ℕ → Bool)) (pushed : List ℕ) (since : ℕ)
         (b : BindingValue) → IsSession m (record { opened = o; pushed = pushed; since = since })
         → Stands m (record { opened = o; pushed = pushed; since = since }) b
-        → AlikeOutcomes m (session_outcome page whole (RequestChildNodes id depth pierce) (record { opened = o; pushed = pushed; since = since }))
+        → AlikeOutcomes m
+        (session_outcome page whole (RequestChildNodes id depth pierce) (record { opened = o; pushed = pushed; since = since }))
         (binding_outcome page whole (RequestChildNodes id depth pierce) b)
     request_alike id depth pierce None pushed since b session stands =
         subst (λ (serial : Option ℕ). AlikeOutcomes m
@@ -392,7 +392,8 @@ module _ (page : PageValue) (valid : IsValid page) where
 
     document_alike : (depth : Option ℤ) (pierce : Option Bool) (w : Session) (b : BindingValue)
         → is_spent (levels_of (unwrap_or depth (pos 1))) ≡ false → Stands m w b
-        → AlikeOutcomes m (session_outcome page whole (GetDocument depth pierce) w) (binding_outcome page whole (GetDocument depth pierce) b)
+        → AlikeOutcomes m (session_outcome page whole (GetDocument depth pierce) w)
+        (binding_outcome page whole (GetDocument depth pierce) b)
     document_alike depth pierce w b left stands =
         let d : Option ℕ = levels_of (unwrap_or depth (pos 1)) in
         let e : Option ℕ = capped most_told d in

@@ -5,11 +5,10 @@ use Rattle.std.proofs.Common.{◌+◌, ◌≤◌, arith}
 use Rattle.node_tree.specs.Nodes.{Nodes, Branch, alone}
 use Rattle.node_tree.specs.Keys.{has}
 use Rattle.node_tree.specs.Labels.{is_element}
-use Rattle.page_tree.specs.Pages.{PageRow, row_serial, PageValue, node_at, parent_at}
+use Rattle.page_tree.specs.Pages.{PageRow, row_serial, PageValue, node_at}
 use Rattle.page_tree.specs.Edits.{after_tree, children_at}
 use Rattle.page_tree.specs.declared.edits.TreeEdit.{TreeEdit}
 use Rattle.page_tree.specs.declared.edits.TreeEdit.TheVariants.{SetAttr, DropAttr, SetText, Attach, Detach}
-use Rattle.shown_pages.specs.declared.modes.Mode.{Mode}
 use Rattle.shown_pages.specs.ShownPages.{shown_page}
 use Rattle.shown_pages.specs.ShownEdits.{shown_edit}
 use Rattle.node_binding.specs.Cuts.{known}
@@ -20,7 +19,6 @@ use Rattle.node_binding.specs.Deals.{capped, dealt, more_told}
 use Rattle.node_binding.proofs.BoundLemmas.{bound-mode, opened-mode}
 use Rattle.node_binding.proofs.ForgetLemmas.{forgotten-mode, forgotten-next}
 use Rattle.node_tree.specs.Levels.{most_told}
-use Rattle.cdp_messages.specs.declared.dom_ask.DomAsk.{DomAsk}
 use Rattle.cdp_messages.specs.declared.dom_ask.DomAsk.TheVariants.{GetDocument, RequestChildNodes, PushByPath, PushBySerials, QuerySelector}
 use Rattle.cdp_messages.specs.declared.dom_ask.DomAsk.TheVariants.{QuerySelectorAll, GetAttributes, DescribeNode}
 use Rattle.cdp_messages.specs.declared.command.Why.{Why}
@@ -28,11 +26,11 @@ use Rattle.cdp_messages.specs.declared.command.Why.TheVariants.{NotPushed, NotEl
 use Rattle.cdp_messages.specs.declared.down.ReplyBody.TheVariants.{Attributes}
 use Rattle.dom_agent.specs.Keepers.{Keeper, binding_keeper}
 use Rattle.dom_agent.specs.Paths.{node_at_path}
-use Rattle.dom_agent.specs.Queries.{Query, query_of, first_matching, all_matching}
+use Rattle.dom_agent.specs.Queries.{Query, first_matching, all_matching}
 use Rattle.dom_agent.specs.Requests.{Opening, Outcome, refused, all_opened, pushed, and_id, all_pushed, with_first, of_query, of_children}
 use Rattle.dom_agent.specs.Requests.{of_path, of_attributes, of_description, only_replied, first_asked}
 use Rattle.dom_agent.specs.Requests.{all_asked, with_ids, pushing, state_after, requested}
-use Rattle.dom_agent.specs.Edits.{Family, family, Edited, child_came, edited, insertion, told_count}
+use Rattle.dom_agent.specs.Edits.{Family, family, Edited, child_came, insertion, told_count}
 use Rattle.dom_agent.specs.EditLaws.{binding_edited}
 use Rattle.dom_agent.specs.ModeEdits.{edited_if, ShownEditKeepsMode}
 use Rattle.dom_agent.specs.Laws.{CommandKeepsMode, PushKeepsMode}

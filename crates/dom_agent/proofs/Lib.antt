@@ -17,7 +17,6 @@ pub mod RepliedLemmas
 pub mod QueryLemmas
 pub mod PushLemmas
 pub mod PathLemmas
-pub mod StartedLemmas
 pub mod DocumentLemmas
 pub mod SetLemmas
 pub mod SetsLemmas

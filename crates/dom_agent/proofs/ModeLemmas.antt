@@ -1,6 +1,6 @@
 -- An edit of the page for a client in a mode: the lemmas on edits of a page, of the shown page.
 use Rattle.std.proofs.Common.{◌≡◌, ◌+◌, ◌≤◌, true, false, cond, List, [], length, Option, Some, None, IfSome, refl, sym, subst, arith}
-use Rattle.node_tree.specs.Nodes.{Nodes, none, node, alone, node_count}
+use Rattle.node_tree.specs.Nodes.{Nodes, none, node, alone}
 use Rattle.page_tree.specs.Pages.{PageRow, PageValue, IsValid}
 use Rattle.page_tree.specs.Edits.{after}
 use Rattle.page_tree.specs.EditFaults.{CanApply}

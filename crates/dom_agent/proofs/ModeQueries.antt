@@ -1,8 +1,9 @@
 -- What a query finds in a page stands in the shown page: it is an element, and no mode hides one.
-use Rattle.std.proofs.Common.{◌≡◌, ◌⊎◌, ℕ, ◌&&◌, ◌||◌, not, Bool, true, false, cond, List, [], ◌∷◌, reverse, find, Option, Some, None, IsSome}
+use Rattle.std.proofs.Common.{◌≡◌, ℕ, not, Bool, true, false, cond, List, [], ◌∷◌, reverse, find}
+use Rattle.std.proofs.Common.{Option, Some, None, IsSome}
 use Rattle.std.proofs.Common.{option_map, inl, inr, subst, refl, sym, ap, ◌∙◌}
 use Rattle.std.proofs.lemmas.Bool.{and_parts}
-use Rattle.node_tree.specs.Nodes.{Branch, alone}
+use Rattle.node_tree.specs.Nodes.{alone}
 use Rattle.node_tree.specs.Keys.{has}
 use Rattle.node_tree.specs.Labels.{holds, is_element}
 use Rattle.node_tree.specs.declared.Kind.{Kind}

@@ -1,5 +1,5 @@
 -- What openings make known.
-use Rattle.std.proofs.Common.{◌≡◌, ℕ, ◌+◌, ◌<◌, ◌≤◌, ◌==◌, Bool, true, false, cond, not, ◌&&◌, List, [], ◌∷◌, ◌++◌, append-nil}
+use Rattle.std.proofs.Common.{◌≡◌, ℕ, ◌+◌, ◌<◌, ◌==◌, Bool, true, false, cond, not, ◌&&◌, List, [], ◌∷◌, ◌++◌, append-nil}
 use Rattle.std.proofs.Common.{append_assoc, refl, sym, ap, ◌∙◌, arith}
 use Rattle.std.specs.List.{filter}
 use Rattle.node_tree.specs.Nodes.{Nodes, none, node, Branch, alone}
@@ -48,10 +48,6 @@ filter_append p (x ∷ xs) ys = ap (λ l. cond (p x) (x ∷ l) l) (filter_append
 
 as_often : (s : ℕ) (xs ys : List ℕ) → times s xs ≡ times s ys → not (stands_in s xs) ≡ not (stands_in s ys)
 as_often s xs ys e = ap (λ m. not (not (m == 0))) e
-
-times-if : (b : Bool) (s : ℕ) (xs : List ℕ) → times s (cond b xs []) ≤ times s xs
-times-if true s xs = omega arith
-times-if false s xs = omega arith
 
 if_none : (g : Bool) (k : ℕ) → k ≡ 0 → cond {A = ℕ} g k 0 ≡ 0
 if_none true k e = e

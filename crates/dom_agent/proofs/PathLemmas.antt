@@ -129,13 +129,6 @@ walk_nowhere n path named index name (Some text) first second missing =
     ∙ ap (λ ps. option_and_then (λ steps. node_by steps n) (steps_of ps))
     (sym (first ∙ ap (λ ps. index ∷ ps) second ∙ ap (λ ps. index ∷ name ∷ ps) more.1.1))
 
-pub walk_here : (n : Nodes PageRow) (path named index name : List ℕ) (child : Branch PageRow) → parts_of path ≡ index ∷ parts_of named
-    → parts_of named ≡ name ∷ [] → Some child ≡ option_and_then (λ step. child_by step n) (step_of index name)
-    → Some child ≡ option_and_then (λ steps. node_by steps n) (steps_of (parts_of path))
-walk_here n path named index name child first second found =
-    found ∙ sym (walk_last n (step_of index name)) ∙ ap (λ ps. option_and_then (λ steps. node_by steps n) (steps_of ps))
-    (sym (first ∙ ap (λ ps. index ∷ ps) second))
-
 pub walk_further : (n : Nodes PageRow) (path named index name text : List ℕ) (child : Branch PageRow) (result : Option (Branch PageRow))
     → parts_of path ≡ index ∷ parts_of named → parts_of named ≡ name ∷ parts_of text
     → Some child ≡ option_and_then (λ step. child_by step n) (step_of index name)

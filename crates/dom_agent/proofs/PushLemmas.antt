@@ -15,10 +15,6 @@ pub given : {A : Type 0} (there : Bool) (found all : List A) → Some found ≡ 
 given true found all e = (refl, cc)
 given false found all e = absurd (cc)
 
-pub not_given : {A : Type 0} (there : Bool) (all : List A) → None ≡ cond there (Some all) None → there ≡ false
-not_given true all e = absurd (cc)
-not_given false all e = refl
-
 pub listed_above : (os : List Opening) (o : ℕ → Bool) (s : ℕ) (x y : Branch PageRow) → x ≡ y
     → Some os ≡ cond (has row_serial s (alone x)) (Some (pushing o s (alone x))) None
     → (has row_serial s (alone y) ≡ true) × (os ≡ pushing o s (alone y))

@@ -1,5 +1,5 @@
 -- What a query finds stands in the page.
-use Rattle.std.proofs.Common.{◌≡◌, ℕ, ◌<◌, Bool, true, false, cond, List, [], ◌∷◌, find, Option, Some, None, IsSome, option_map, unwrap_or}
+use Rattle.std.proofs.Common.{◌≡◌, ℕ, ◌<◌, Bool, true, false, cond, List, [], ◌∷◌, Option, Some, None, IsSome, option_map, unwrap_or}
 use Rattle.std.proofs.Common.{Result, Ok, Err, refl, sym, ap, subst, ◌∙◌, arith}
 use Rattle.std.proofs.lemmas.Bool.{eq-eqb}
 use Rattle.node_tree.specs.Nodes.{Nodes, Branch, alone}
@@ -10,7 +10,7 @@ use Rattle.page_tree.specs.Pages.{PageRow, row_serial, find_in}
 use Rattle.page_tree.specs.Members.{IsIn, at_head, in_tail}
 use Rattle.page_tree.specs.Zippers.{Generation, Zipper, generation_of, serial_of, all_in, below, root_of, has_serial, find_zipper}
 use Rattle.page_tree.specs.Zippers.{zipper_at}
-use Rattle.page_tree.proofs.ZipperLemmas.{IsIn-find, times, branch-found, count-found}
+use Rattle.page_tree.proofs.ZipperLemmas.{times, branch-found, count-found}
 use Rattle.node_binding.proofs.AnewLemmas.{found-tally}
 use Rattle.selectors.specs.Forms.{SelectorForm}
 use Rattle.selectors.specs.Reading.{selectors_of}
@@ -90,10 +90,3 @@ found-there s tree x e None k there is = cc
 found-there s tree x e (Some z) k there is =
     let same : serial_of z ≡ k = cc in
     subst (λ (m : ℕ). keys.has row_serial m (alone tree) ≡ true) same (below-there s tree x e z (there z refl))
-
--- the first node below a node of the page that passes a test
-pub first-there : (p : Zipper → Bool) (tree : Branch PageRow) {s : ℕ} → Below tree s → (k : ℕ)
-    → option_map serial_of (find p (below (zipper_at s tree))) ≡ Some k → keys.has row_serial k (alone tree) ≡ true
-first-there p tree {s} b k is =
-    found-there s tree b.node_there b.found (find p (below (zipper_at s tree))) k
-    (λ z found. IsIn-find p (below (zipper_at s tree)) z found) is

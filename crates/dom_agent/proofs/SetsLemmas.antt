@@ -246,7 +246,8 @@ first_found_opens page whole id text w q s valid begun asked found t =
     let n : Nodes PageRow = alone page.tree in
     let P : Outcome Session → Type 0 = λ y. (is_open (state_after w y).opened t ≡ true)
     ↔ ((is_open w.opened t ≡ true) ⊎ IsAncestor page.tree s t) in
-    subst (λ (r : Result Query Why). P (of_query (session_keeper n) page.tree (first_asked (session_keeper n) page.tree whole) r w)) (sym asked)
+    subst (λ (r : Result Query Why). P (of_query (session_keeper n) page.tree (first_asked (session_keeper n) page.tree whole) r w))
+    (sym asked)
     (subst (λ (f : Option ℕ). P (with_first (session_keeper n) page.tree f w)) (sym found)
     (path_by page valid w.opened w.pushed w.since s begun t))
 

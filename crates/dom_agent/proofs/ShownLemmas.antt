@@ -171,10 +171,6 @@ module _ (o : ℕ → Bool) (i : ℕ → ℕ) (before : ℕ) (x : Branch PageRow
       by true = head_is_x p (node r c t)
       by false = ap (λ b. cond {A = ℕ} b p (prior (i r.serial) t)) (ne_eqb r.serial x.row.serial other)
 
-  -- no root is x
-  AreOthers : Nodes PageRow → Type 0
-  AreOthers n = tally row_serial x.row.serial n ≡ 0
-
   other_first : (r : PageRow) (c t : Nodes PageRow) → tally row_serial x.row.serial (node r c t) ≡ 0 → r.serial ≡ x.row.serial → ⊥
   other_first r c t h same = omega (arith, self_times x.row.serial, ap (λ (s : ℕ). cond {A = ℕ} (s == x.row.serial) 1 0) same)
 

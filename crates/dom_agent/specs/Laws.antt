@@ -1,5 +1,5 @@
 -- What serves a session by its binding is the step of the session.
-use Rattle.std.specs.Prelude.{◌≡◌, ℕ, ◌+◌, ◌≤◌, ◌<◌, ◌^◌, Bool, true, List, map, length, ⊤, Some, IsSome}
+use Rattle.std.specs.Prelude.{◌≡◌, ℕ, ◌+◌, ◌≤◌, ◌<◌, Bool, true, List, map, length, ⊤, Some, IsSome}
 use Rattle.node_tree.specs.Numbers.{counted_limit}
 use Rattle.cdp_json.specs.Kinds.{is_counted}
 use Rattle.node_tree.specs.Nodes.{Nodes, none, node, Branch, alone, node_count}

@@ -27,7 +27,9 @@ DocumentOpens = (page : PageValue) (whole : Branch PageRow) (depth : Option ℤ)
 
 -- a request for the children of the known node x opens each container at or below it at a distance below the depth
 abbrev pub RequestOpens : Type 0
-RequestOpens = (page : PageValue) (whole : Branch PageRow) (id : ℕ) (depth : Option ℤ) (pierce : Option Bool) (w : Session) (x : Branch PageRow) → IsValid page
+RequestOpens =
+    (page : PageValue) (whole : Branch PageRow) (id : ℕ) (depth : Option ℤ) (pierce : Option Bool) (w : Session) (x : Branch PageRow)
+    → IsValid page
     → known_node (session_keeper (alone page.tree)) page.tree w (serial_at w (alone page.tree) id) ≡ Some x
     → OpensAlso w (state_after w (session_outcome page whole (RequestChildNodes id depth pierce) w)) (IsReached (levels_asked depth) x)
 
@@ -43,7 +45,9 @@ known_in_turn page (x ∷ xs) w =
 
 -- the nodes that become known by a request for children get the next ids, in the order of its openings
 abbrev pub RequestPushes : Type 0
-RequestPushes = (page : PageValue) (whole : Branch PageRow) (id : ℕ) (depth : Option ℤ) (pierce : Option Bool) (w : Session) (x : Branch PageRow) → IsValid page
+RequestPushes =
+    (page : PageValue) (whole : Branch PageRow) (id : ℕ) (depth : Option ℤ) (pierce : Option Bool) (w : Session) (x : Branch PageRow)
+    → IsValid page
     → IsSession (alone page.tree) w
     → known_node (session_keeper (alone page.tree)) page.tree w (serial_at w (alone page.tree) id) ≡ Some x
     → (state_after w (session_outcome page whole (RequestChildNodes id depth pierce) w)).pushed
@@ -71,8 +75,8 @@ shut_ancestors page w s = filter (λ (x : Branch PageRow). not (is_open w.opened
 
 -- the nodes that become known by a push by path get the next ids: the children of each ancestor that it opens, from the top down
 abbrev pub PathPushes : Type 0
-PathPushes = (page : PageValue) (whole : Branch PageRow) (path : List ℕ) (w : Session) (x : Branch PageRow) → IsValid page → IsSession (alone page.tree) w
-    → is_open w.opened page.tree.row.serial ≡ true → node_at_path path page.tree ≡ Some x
+PathPushes = (page : PageValue) (whole : Branch PageRow) (path : List ℕ) (w : Session) (x : Branch PageRow) → IsValid page
+    → IsSession (alone page.tree) w → is_open w.opened page.tree.row.serial ≡ true → node_at_path path page.tree ≡ Some x
     → (state_after w (session_outcome page whole (PushByPath path) w)).pushed
     ≡ w.pushed ++ children_in_turn (shut_ancestors page w x.row.serial)
 
@@ -84,7 +88,8 @@ pub record IsAncestorOfOne (document : Branch PageRow) (serials : List ℕ) (t :
 
 -- once the document is opened, a push by serials opens the proper ancestors of each node that has one of them
 abbrev pub SerialsOpen : Type 0
-SerialsOpen = (page : PageValue) (whole : Branch PageRow) (serials : List ℕ) (w : Session) → IsValid page → is_open w.opened page.tree.row.serial ≡ true
+SerialsOpen = (page : PageValue) (whole : Branch PageRow) (serials : List ℕ) (w : Session) → IsValid page
+    → is_open w.opened page.tree.row.serial ≡ true
     → OpensAlso w (state_after w (session_outcome page whole (PushBySerials serials) w)) (IsAncestorOfOne page.tree serials)
 
 -- what a query asks by this text, below the known node of this id

@@ -42,7 +42,9 @@ shown_by_outcome (refused why) = []
 
 -- each event of a request for the children of the known node x tells a container's children, to the levels that are left
 abbrev pub RequestTells : Type 0
-RequestTells = (page : PageValue) (whole : Branch PageRow) (id : ℕ) (depth : Option ℤ) (pierce : Option Bool) (w : Session) (x : Branch PageRow) → IsValid page
+RequestTells =
+    (page : PageValue) (whole : Branch PageRow) (id : ℕ) (depth : Option ℤ) (pierce : Option Bool) (w : Session) (x : Branch PageRow)
+    → IsValid page
     → IsSession (alone page.tree) w
     → known_node (session_keeper (alone page.tree)) page.tree w (serial_at w (alone page.tree) id) ≡ Some x
     → All (TellsLevels (levels_asked depth) x w) (shown_by_outcome (session_outcome page whole (RequestChildNodes id depth pierce) w))

@@ -8,7 +8,8 @@
 //! ids (`outcome`, specs/Requests), for the session and for the tables alike.
 //!
 //! Laws, in src/laws.rt: `serve_law` (each command is a list of moves from the client's view before to that after, what is
-//! opened is a set over the tree, the tables follow the session) and `edit_law` (the same of an edit of the page).
+//! opened is a set over the tree, the tables follow the session), `edit_law` (the same of an edit of the page) and `mode_law`
+//! (the same of an edit for a client that is shown what a mode shows).
 #![tactic(auto)]
 
 mod agent;

@@ -52,17 +52,18 @@ impl From<AllocError> for FrameErr {
     }
 }
 
-// What follows the id of a reply with a document, and with matched styles.
+// What follows the id of a reply with a document.
 const DOCUMENT: &str = ",\"result\":{\"root\":";
 
+// What follows the id of a reply with matched styles.
 const MATCHED: &str = ",\"result\":{\"inherited\":";
 
 /// Whether a text begins as a reply with such a result does, so that no other text is tried as one.
-fn begins_reply(text: &str, result: &str) -> bool {
+fn begins_reply(text: &str, body: &str) -> bool {
     match text.strip_prefix("{\"id\":") {
         Some(rest) => rest
             .trim_start_matches(|c: char| c.is_ascii_digit())
-            .starts_with(result),
+            .starts_with(body),
         None => false,
     }
 }

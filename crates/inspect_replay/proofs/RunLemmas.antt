@@ -32,12 +32,12 @@ use Rattle.node_tree.specs.Nodes.{alone}
 use Rattle.page_tree.specs.Pages.{PageValue}
 use Rattle.back_end.specs.declared.faults.ActFault.{ActFault}
 use Rattle.page_forms.specs.declared.acts.Act.{Act}
-use Rattle.node_binding.specs.Bindings.{Stands}
+use Rattle.node_binding.specs.Bindings.{BindingValue, Stands}
 use Rattle.node_binding.specs.Sessions.{begun}
 use Rattle.node_binding.proofs.StandsLemmas.{Stands-begun}
 use Rattle.back_end.specs.declared.seat.Seat.{Seat}
 use Rattle.back_end.specs.declared.side.PageSide.{PageSide}
-use Rattle.back_end.specs.States.{loaded_state, page_nodes, book_in, sheets_shown, view_of}
+use Rattle.back_end.specs.States.{loaded_state, page_nodes, nodes_shown, book_in, sheets_shown, view_of}
 use Rattle.back_end.specs.Steps.{acts}
 use Rattle.inspect_world.specs.RunStates.{RunState, run_step, run_turn}
 use Rattle.node_tree.specs.Watches.{watch_name}
@@ -752,10 +752,11 @@ stands-first page seat side can texts new =
         medium_is = new.medium_is;
         on_is = new.off;
         css_is = new.css;
+        mode_is = ap (λ (b : BindingValue). b.mode) new.agent_is;
         watches_are = new.watches_are;
         searches_are = new.searches_are;
-        stands = subst (λ b. Stands (page_nodes (loaded_state page)) begun b) (sym new.agent_is)
-            (Stands-begun (page_nodes (loaded_state page)));
+        stands = subst (λ b. Stands (nodes_shown (loaded_state page)) begun b) (sym new.agent_is)
+            (Stands-begun (nodes_shown (loaded_state page)));
       };
       kept = record { edits = new.history_is; history = is.history };
     }

@@ -1,3 +1,4 @@
 pub mod TagLemmas
 pub mod TextLemmas
 pub mod RouteLemmas
+pub mod AnswerTexts

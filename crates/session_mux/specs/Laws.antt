@@ -8,7 +8,7 @@ use Rattle.session_mux.specs.declared.targets.Target.{Target}
 use Rattle.session_mux.specs.Sessions.{Sessions, session_text}
 use Rattle.session_mux.specs.Targets.{target_named}
 use Rattle.session_mux.specs.Routes.{Request, request_of, routing}
-use Rattle.session_mux.specs.Tags.{message_text, with_session, session_frame}
+use Rattle.session_mux.specs.Tags.{message_text, message_frames, AreMessages, with_session, session_frame}
 use Rattle.session_mux.specs.TaggedTexts.{session_end, tagged_frame}
 
 -- the bytes are a request that names the attached session
@@ -45,6 +45,10 @@ AnsweredAtOnce = (bytes : List ℕ) (s : Sessions) → (routing bytes s).routed 
 -- one message answers such a frame
 abbrev pub OneAnswer : Type 0
 OneAnswer = (bytes : List ℕ) (s : Sessions) → (routing bytes s).routed ≡ Answered → (m : Message) × ((routing bytes s).said ≡ m ∷ [])
+
+-- such an answer can be given a session itself
+abbrev pub AnswersAreMessages : Type 0
+AnswersAreMessages = (bytes : List ℕ) (s : Sessions) → AreMessages (message_frames (routing bytes s).said)
 
 -- every other frame is left to a session: nothing is said, and nothing changes
 abbrev pub OthersLeft : Type 0

@@ -1,12 +1,15 @@
 // The laws of two sessions on one pipe, which make no call.
-ghost use Rattle.session_mux.specs.Laws.{AttachedByName, AnsweredAtOnce, OneAnswer, OthersLeft, NumbersGoOn, TagsStandLast, TagsComeOff};
+ghost use Rattle.session_mux.specs.Laws.{AttachedByName, AnsweredAtOnce, OneAnswer, AnswersAreMessages, OthersLeft, NumbersGoOn};
+ghost use Rattle.session_mux.specs.Laws.{TagsStandLast, TagsComeOff};
 
 /// A frame is the attached session's exactly where it names that session, and is answered at once exactly where it names another
-/// or asks for one of the two methods; all others change nothing. A number never comes again.
+/// or asks for one of the two methods, by one message, which `tag` takes as well; all others change nothing. A number never comes
+/// again.
 pub fn route_law()
     ensures attached { AttachedByName }
     ensures answered { AnsweredAtOnce }
     ensures answer { OneAnswer }
+    ensures messages { AnswersAreMessages }
     ensures others { OthersLeft }
     ensures numbers { NumbersGoOn }
 {}

@@ -1,7 +1,7 @@
-use Rattle.std.proofs.Common.{◌≡◌, ℕ, ◌≤◌, Option, IsSome, refl, ap, subst, sym, ◌∙◌}
+use Rattle.std.proofs.Common.{◌≤◌, Option, IsSome, refl, ap, subst, sym, ◌∙◌}
 use Rattle.std.specs.Option.{unwrap_or}
 use Rattle.node_tree.specs.Nodes.{Branch, width}
-use Rattle.page_tree.specs.Pages.{PageRow, PageValue, IsValid, find_in, node_at, parent_at}
+use Rattle.page_tree.specs.Pages.{PageRow, find_in, node_at}
 use Rattle.shown_pages.specs.declared.modes.Mode.{Mode}
 use Rattle.shown_pages.specs.ShownPages.{shown_page}
 use Rattle.shown_pages.proofs.ShownTrees.{shown-valid}

@@ -1,4 +1,4 @@
-use Rattle.std.proofs.Common.{◌+◌, ◌*◌, ◌<◌, ◌++◌, ◌&&◌, not, map, sym, ap, ◌∙◌, subst, arith}
+use Rattle.std.proofs.Common.{◌+◌, ◌*◌, ◌<◌, ◌&&◌, not, map, sym, ap, ◌∙◌, subst, arith}
 use Rattle.node_tree.specs.Nodes.{node_count, branch_count}
 use Rattle.node_tree.specs.Labels.{holds}
 use Rattle.node_binding.specs.Bindings.{opened_in}

@@ -14,7 +14,7 @@ returns-clause-stands c = λ state stands.
     (performed-stands c.args.self.now c.args.side.now state c.args.id c.args.query.now c.page-page.result.now c.in_ok-serials.serials.items
     stands c.page-page.ensures
     (c.in_ok-serials.ensures ∙ shown-found c.args.self.now.agent.mode c.mode.result c.page-page.result.now c.args.query.now
-    c.in_ok-all.all.items c.mode.ensures c.in_ok-all.ensures)
+    c.as_slice.result.now c.mode.ensures (c.as_slice.ensures.value ∙ c.in_ok-all.ensures))
     (record { alloc = _; is_on = _; css = _; agent = _; watches = _; searches = _ }) refl refl refl c.in_ok-search.ensures.kept refl)
 
 pub returns-clause-sent : goal.returns-clause-sent
@@ -23,6 +23,5 @@ returns-clause-sent c = λ state stands.
     (performed-sent c.args.self.now c.args.side.now state c.args.id c.args.query.now c.page-page.result.now c.in_ok-serials.serials.items
     stands c.page-page.ensures
     (c.in_ok-serials.ensures ∙ shown-found c.args.self.now.agent.mode c.mode.result c.page-page.result.now c.args.query.now
-    c.in_ok-all.all.items c.mode.ensures
-    c.in_ok-all.ensures) c.in_ok-search.search c.len-count.result c.args.out.now.items c.write_reply.new.out.items
+    c.as_slice.result.now c.mode.ensures (c.as_slice.ensures.value ∙ c.in_ok-all.ensures)) c.in_ok-search.search c.len-count.result c.args.out.now.items c.write_reply.new.out.items
     c.in_ok-search.ensures.number (omega (arith, c.len-count.ensures, c.in_ok-serials.serials.ok)))

@@ -23,7 +23,7 @@ returns-in_default-clause-sent c = λ state stands begun.
 
 pub push-requires-clause-shown : goal.push-requires-clause-shown
 push-requires-clause-shown c =
-    found-some c.in-Some.x _ (c.in-Some.ensures ∙ (λ i. find_in c.args.node (shown_page (c.mode.ensures i)
+    found-some c.in-Some.field-0 _ (c.in-Some.ensures ∙ (λ i. find_in c.args.node (shown_page (c.mode.ensures i)
     ((c.page.ensures ∙ sym c.page-2.ensures) i)).tree))
 
 pub returns-clause-id : goal.returns-clause-id

@@ -19,8 +19,8 @@ ask_agent-requires-clause-ask c = subst (λ (x : Command). fits_command x ≡ tr
 pub ask_agent-requires-clause-standing : goal.ask_agent-requires-clause-standing
 ask_agent-requires-clause-standing c = ∥∥₁_map c.requires.standing (λ p. (p.0, p.1.stands))
 
-pub enable-requires-clause-standing : goal.enable-requires-clause-standing
-enable-requires-clause-standing c = ∥∥₁_map c.requires.standing (λ p. (p.0, p.1.stands))
+pub enable-requires : goal.enable-requires
+enable-requires c = record { standing = ∥∥₁_map c.requires.standing (λ p. (p.0, p.1.stands)) }
 
 pub returns-in-DomEnable-clause-stands : goal.returns-in-DomEnable-clause-stands
 returns-in-DomEnable-clause-stands c = λ state both.
