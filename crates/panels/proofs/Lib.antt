@@ -6,6 +6,7 @@ pub mod RootLemmas
 pub mod NumberLemmas
 pub mod NumberTexts
 pub mod TextLemmas
+pub mod ChunkLemmas
 pub mod LineLemmas
 pub mod SpliceLemmas
 pub mod CountLemmas

@@ -6,11 +6,12 @@
 //! Way in: `OutlinePanel`, `CountsPanel` and `WatchPanel`, to be boxed by the caller and handed to a front end.
 #![tactic(auto)]
 
+mod chunks;
 mod counts;
+mod line_text;
 mod lines;
 mod numbers;
 mod outline;
-mod texts;
 mod watch;
 
 pub use counts::CountsPanel;

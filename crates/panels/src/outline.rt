@@ -11,8 +11,8 @@ ghost use Rattle.front_mirror.specs.declared.panels.Change.TheVariants as change
 ghost use Rattle.front_mirror.specs.declared.panels.PanelKind.TheVariants as kind;
 ghost use Rattle.panels.specs.Lines.{outline_line, place_left, TextTurned};
 
+use crate::line_text::LineText;
 use crate::lines::{all_lines, line_on, push_lines, push_node};
-use crate::texts::splice;
 use front_mirror::{Change, Mirror, Panel, PanelKind};
 use std::alloc::{AllocError, Global};
 
@@ -42,43 +42,48 @@ fn lines_of(alloc: Global, mirror: &Mirror, id: u64) -> Result<String, AllocErro
 }
 
 /// The node of that id was opened: its line gives way to those of all below it too. Tells whether the text is the one after.
-fn open(alloc: Global, text: &mut String, node: u64, mirror: &Mirror) -> Result<bool, AllocError>
-    ensures { TextTurned (change.Opened node) (string_bytes text.old) (string_bytes text.new) mirror.now result }
+fn open(alloc: Global, text: &mut LineText, node: u64, mirror: &Mirror) -> Result<bool, AllocError>
+    ensures { TextTurned (change.Opened node) text.old text.new mirror.now result }
 {
     if !mirror.known(node) {
         return Ok(false);
     }
     let more = lines_of(alloc, mirror, node)?;
-    splice(text, mirror.rank(node), 1, more.as_str())
+    text.splice(mirror.rank(node), 1, more.as_str())
 }
 
 /// The node of that id came in: it has one line more.
 fn insert(
     alloc: Global,
-    text: &mut String,
+    text: &mut LineText,
     parent: u64,
     node: u64,
     mirror: &Mirror,
 ) -> Result<bool, AllocError>
-    ensures { TextTurned (change.Inserted parent node) (string_bytes text.old) (string_bytes text.new) mirror.now result }
+    ensures { TextTurned (change.Inserted parent node) text.old text.new mirror.now result }
 {
     let _parent = parent;
     if !mirror.known(node) {
         return Ok(false);
     }
     let line = line_on(alloc, mirror, node, mirror.level(node))?;
-    splice(text, mirror.rank(node), 0, line.as_str())
+    text.splice(mirror.rank(node), 0, line.as_str())
 }
 
 /// The node of that id has another line.
-fn replace(alloc: Global, text: &mut String, node: u64, mirror: &Mirror) -> Result<bool, AllocError>
-    ensures { TextTurned (change.Changed node) (string_bytes text.old) (string_bytes text.new) mirror.now result }
+fn replace(
+    alloc: Global,
+    text: &mut LineText,
+    node: u64,
+    mirror: &Mirror,
+) -> Result<bool, AllocError>
+    ensures { TextTurned (change.Changed node) text.old text.new mirror.now result }
 {
     if !mirror.known(node) {
         return Ok(false);
     }
     let line = line_on(alloc, mirror, node, mirror.level(node))?;
-    splice(text, mirror.rank(node), 1, line.as_str())
+    text.splice(mirror.rank(node), 1, line.as_str())
 }
 
 /// Where the lines of the child that stood at that place began; `None` where no child can have stood there.
@@ -99,14 +104,14 @@ fn place_of_child(mirror: &Mirror, parent: u64, place: usize) -> Option<usize>
 
 /// The node of that id left, with so many known nodes: their lines go.
 fn remove(
-    text: &mut String,
+    text: &mut LineText,
     parent: u64,
     place: usize,
     node: u64,
     known: usize,
     mirror: &Mirror,
 ) -> Result<bool, AllocError>
-    ensures { TextTurned (change.Removed parent place node known) (string_bytes text.old) (string_bytes text.new) mirror.now result }
+    ensures { TextTurned (change.Removed parent place node known) text.old text.new mirror.now result }
 {
     let _node = node;
     if !mirror.known(parent) {
@@ -115,18 +120,18 @@ fn remove(
     let Some(start) = place_of_child(mirror, parent, place) else {
         return Ok(false);
     };
-    splice(text, start, known, "")
+    text.splice(start, known, "")
 }
 
 /// Changes those lines that the change touches. Tells whether the text is the one after: it is not where all begins afresh.
 fn turn(
     alloc: Global,
-    text: &mut String,
+    text: &mut LineText,
     change: &Change,
     mirror: &Mirror,
 ) -> Result<bool, AllocError>
-    ensures { (before : Nodes Seen) → Turns before change.now mirror.now → MayShow change.now kind.Outline (string_bytes text.old) before
-        → IfOk result (λ done. done ≡ true → string_bytes text.new ≡ outline_text seen_line mirror.now) }
+    ensures { (before : Nodes Seen) → Turns before change.now mirror.now → MayShow change.now kind.Outline text.old before
+        → IfOk result (λ done. done ≡ true → text.new ≡ outline_text seen_line mirror.now) }
 {
     match *change {
         Change::Cleared | Change::Document => Ok(false),
@@ -146,28 +151,27 @@ fn turn(
 #[derive(Drop)]
 pub struct OutlinePanel {
     alloc: Global,
-    text: String,
+    text: LineText,
 }
 
 impl OutlinePanel {
     /// A panel that shows the empty text, until it is told of a change.
     pub fn new(alloc: Global) -> OutlinePanel
-        ensures { string_bytes result.text ≡ [] }
+        ensures { result.text ≡ [] }
     {
         OutlinePanel {
             alloc,
-            text: String::new(alloc),
+            text: LineText::new(alloc),
         }
     }
 }
 
 impl Panel for OutlinePanel {
-    ghost use Rattle.std.specs.Prelude.{string_bytes};
     ghost use Rattle.front_mirror.specs.declared.panels.PanelKind.TheVariants as kind;
 
     ghost kind_of = { λ _. kind.Outline };
 
-    ghost shown = { λ p. string_bytes p.text };
+    ghost shown = { λ p. p.text };
 
     fn kind(&self) -> PanelKind {
         PanelKind::Outline
@@ -177,7 +181,7 @@ impl Panel for OutlinePanel {
         if turn(self.alloc, &mut self.text, change, mirror)? {
             return Ok(());
         }
-        self.text = outline_of(self.alloc, mirror)?;
+        self.text = LineText::of(self.alloc, outline_of(self.alloc, mirror)?)?;
         Ok(())
     }
 
