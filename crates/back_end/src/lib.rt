@@ -7,9 +7,9 @@
 //! `Seat::script` for an act, `Seat::load` for another page.
 //!
 //! Laws, in src/laws.rt: `step_law` (after each step the state is valid, its moves lead from what the client saw to what it
-//! sees, a frame is answered once under its id) and `undo_law` (an undo leads to the very tree and texts that were saved, a redo
-//! to those after). A state stands in specs/States, each step in specs/Steps, when a seat stands for a state in specs/Seats,
-//! room in specs/Laws.
+//! sees, a frame is answered once under its id), `undo_law` (an undo leads to the very tree and texts that were saved, a redo
+//! to those after) and `search_law` (no edit changes what a search found). A state stands in specs/States, each step in
+//! specs/Steps, when a seat stands for a state in specs/Seats, room in specs/Laws.
 #![tactic(auto)]
 
 mod breakpoints;
