@@ -1,6 +1,5 @@
 -- What a frame asks has its parameters in their ranges, and a refusal an id in its range.
 use Rattle.std.proofs.Common.{◌≡◌, ℕ, Bool, true, List, Option, Some, None, refl, sym, ◌∙◌, ap, Result, Ok, Err}
-use Rattle.std.specs.Prelude.{IfSome}
 use Rattle.serde_json.specs.Data.{Data, Num, unsigned, negative, float, Members}
 use Rattle.serde_json.specs.Find.{as_number, as_object}
 use Rattle.std.specs.Prelude.{codes}

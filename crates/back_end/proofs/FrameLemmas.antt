@@ -2,9 +2,7 @@
 use Rattle.std.proofs.Common.{◌≡◌, codes, ℕ, ◌+◌, ◌≤◌, Bool, true, false, not, ◌&&◌, ◌||◌, cond, List, [], ◌∷◌, ◌++◌, length, Option, Some}
 use Rattle.std.proofs.Common.{None, unwrap_or, pos, Result, Ok, Err, refl, sym, ◌∙◌, ap, subst, arith}
 use Rattle.std.specs.List.{flat_map}
-use Rattle.serde_json.specs.Data.{Data}
 use Rattle.cdp_json.specs.Kinds.{is_counted, holds_of_some}
-use Rattle.cdp_json.specs.Plain.{HasUtf8}
 use Rattle.node_tree.specs.Nodes.{Branch, Nodes, none, node_count, alone}
 use Rattle.node_tree.specs.Levels.{most_told}
 use Rattle.page_tree.specs.Pages.{PageRow, PageValue, IsValid}
@@ -19,23 +17,17 @@ use Rattle.cdp_messages.specs.declared.command.Command.TheVariants.{ReplayLoad, 
 use Rattle.cdp_messages.specs.declared.command.Asked.{Asked}
 use Rattle.cdp_messages.specs.declared.command.Refused.{Refused}
 use Rattle.cdp_messages.specs.declared.command.Why.{Why}
-use Rattle.cdp_messages.specs.declared.command.Why.TheVariants.{DomOff, CssOff, NoMethod, UnknownNode}
-use Rattle.node_tree.specs.declared.watches.WatchKind.{WatchKind}
+use Rattle.cdp_messages.specs.declared.command.Why.TheVariants.{DomOff, CssOff, UnknownNode}
 use Rattle.cdp_messages.specs.declared.dom_ask.DomAsk.{DomAsk}
 use Rattle.cdp_messages.specs.declared.dom_ask.DomAsk.TheVariants as ask
 use Rattle.cdp_messages.specs.declared.down.ReplyBody.TheVariants.{Nothing}
 use Rattle.cdp_messages.specs.Asked.{asked, method_name, fits_command}
-use Rattle.cdp_messages.specs.DomAsks.{ask_name}
 use Rattle.client_views.specs.Views.{ShownSheet}
 use Rattle.client_views.specs.Moves.{replied, all_off, failed, CanBeTold, Course, ends, goes}
 use Rattle.cdp_messages.specs.declared.search_ask.SearchAsk.{SearchAsk}
 use Rattle.cdp_messages.specs.declared.search_ask.SearchAsk.TheVariants as search
 use Rattle.cdp_messages.specs.SearchIds.{search_in}
 use Rattle.cdp_messages.specs.declared.css_ask.CssAsk.{CssAsk}
-use Rattle.cdp_messages.specs.declared.css_ask.CssAsk.TheVariants as css
-use Rattle.cdp_messages.specs.declared.css_edit.CssEdit.{CssEdit}
-use Rattle.cdp_messages.specs.declared.css_edit.CssEdit.TheVariants as style
-use Rattle.css_agent.specs.EditLaws.{HasEditTexts, css_edit_name}
 use Rattle.dom_agent.specs.Laws.{session_outcome, CanTell, has_depth, IsReplyTo, session_view as seen_by}
 use Rattle.dom_agent.specs.Keepers.{session_keeper}
 use Rattle.dom_agent.specs.Requests.{Outcome, shows_root, served, refused, known_node, named_serial, state_after, moves_of}
@@ -49,7 +41,6 @@ use Rattle.cdp_messages.specs.declared.dom_edit.DomEdit.TheVariants as tree
 use Rattle.cdp_messages.specs.declared.method.Domains.{Domains}
 use Rattle.cdp_messages.specs.Methods.{needs_both}
 use Rattle.cdp_messages.proofs.MethodRows.{styles-need-both}
-use Rattle.back_end.specs.Texts.{HasTreeTexts}
 use Rattle.back_end.proofs.TreeSteps.{AsksFor, tree-edit-answered}
 use Rattle.shown_pages.specs.declared.modes.Mode.TheVariants.{All}
 use Rattle.shown_pages.specs.ShownPages.{shown_page}
@@ -59,9 +50,9 @@ use Rattle.back_end.specs.States.{State, page_shown, nodes_shown, book_in, sheet
 use Rattle.back_end.specs.OwnMethods.{load_asked, act_asked}
 use Rattle.back_end.specs.Steps.{Step, with_client, refusing, mode_asked, client_on, client_off, moves_come, Turn, acts, loads, turn_step}
 use Rattle.back_end.specs.Steps.{ask_needs_on}
-use Rattle.back_end.specs.Steps.{needs_on, needs_css, turns_on, client_served, agent_step, css_step, serial_now, watch_step}
+use Rattle.back_end.specs.Steps.{needs_on, needs_css, turns_on, client_served, agent_step, serial_now, watch_step}
 use Rattle.back_end.specs.Steps.{results_asked, results_step, search_step}
-use Rattle.back_end.specs.Steps.{own_step, sheet_edit_step, served_step, command_step, asked_step}
+use Rattle.back_end.specs.Steps.{own_step, served_step, command_step, asked_step}
 use Rattle.back_end.specs.Texts.{HasServedTexts}
 use Rattle.back_end.specs.Laws.{reply_ids, MayAnswer, HasRoom, StepsWell, KeepsAtMost, most_splices, most_edits, edits_asked, MayAnswerAll}
 use Rattle.back_end.specs.Laws.{text_asked, TellTextOf, IsAnswered, IsTurn, FramesStepWell}

@@ -1,10 +1,7 @@
 -- What a search found stays as it is, step by step.
-use Rattle.std.proofs.Common.{◌≡◌, ℕ, Bool, true, false, cond, List, [], ◌∷◌, Option, Some, None, Result, Ok, Err, refl, ◌∙◌, map, length}
-use Rattle.node_tree.specs.Nodes.{Branch}
-use Rattle.page_tree.specs.Pages.{PageRow}
+use Rattle.std.proofs.Common.{◌≡◌, ℕ, Bool, true, false, cond, List, [], ◌∷◌, Option, Some, None, Result, Ok, Err, refl, ◌∙◌}
 use Rattle.page_tree.specs.declared.edits.TreeEdit.{TreeEdit}
 use Rattle.page_tree.specs.declared.edit_faults.EditFault.{EditFault}
-use Rattle.page_forms.specs.declared.acts.Act.{Act}
 use Rattle.node_binding.specs.Sessions.{Session}
 use Rattle.dom_agent.specs.Requests.{Outcome, shows_root, served, refused}
 use Rattle.dom_agent.specs.Laws.{session_outcome}
@@ -13,8 +10,6 @@ use Rattle.dom_breakpoints.specs.Pauses.{pause_of}
 use Rattle.cdp_messages.specs.declared.command.Why.{Why}
 use Rattle.cdp_messages.specs.declared.command.Why.TheVariants.{Crossed}
 use Rattle.cdp_messages.specs.declared.dom_ask.DomAsk.{DomAsk}
-use Rattle.cdp_messages.specs.declared.dom_edit.DomEdit.{DomEdit}
-use Rattle.cdp_messages.specs.declared.css_edit.CssEdit.{CssEdit}
 use Rattle.css_agent.specs.Edits.{CssEdited, css_edited, css_splices}
 use Rattle.style_edits.specs.declared.splice.Splice.{Splice}
 use Rattle.undo_marks.specs.Marks.{Marks, undone, redone}
@@ -29,9 +24,9 @@ use Rattle.back_end.specs.States.{State, page_shown, book_in}
 use Rattle.back_end.specs.Plans.{Deed, edits, restyles, shows_on, act_fault, act_plan, node_edit_fault, node_edit_plan, node_put}
 use Rattle.back_end.specs.Steps.{Step, refusing, idle, answering, with_page, edit_step, edit_steps, push_step, push_steps, pause_step}
 use Rattle.back_end.specs.Steps.{script_step, script_steps, sheet_step, sheet_steps, splice_step, splice_steps, kept_step, kept_steps}
-use Rattle.back_end.specs.Steps.{taken_step, undo_edits, redo_edits, undo_step, redo_step, deed_step, planned_step, act_step, agent_step}
-use Rattle.back_end.specs.Steps.{put_answer, planned_by_client, unless_fault, node_edit_step, edit_named, serial_now, lowered, tree_edit_step}
-use Rattle.back_end.specs.Steps.{restyled_step, sheet_edit_step, client_served, with_client}
+use Rattle.back_end.specs.Steps.{taken_step, undo_edits, redo_edits, deed_step, planned_step}
+use Rattle.back_end.specs.Steps.{put_answer, planned_by_client, unless_fault, node_edit_step, edit_named, serial_now, lowered}
+use Rattle.back_end.specs.Steps.{restyled_step, client_served}
 use Rattle.back_end.specs.SearchLaws.{KeepsFound, EditsKeepFound, AsksKeepFound, FoundIsForgotten}
 
 edits-keep : (es : List TreeEdit) (state : State) → KeepsFound state (edit_steps es state)

@@ -1,13 +1,12 @@
 -- A desk that answers what is asked of searches stands for the state of the step, and sends its moves.
 use Rattle.std.proofs.Common.{◌≡◌, ℕ, Bool, true, false, cond, not, ◌&&◌, ◌||◌, List, [], ◌∷◌, ◌++◌, length, Option, Some, None}
-use Rattle.std.proofs.Common.{Result, Ok, Err, refl, sym, ap, subst, ◌∙◌, append-nil}
+use Rattle.std.proofs.Common.{Result, Err, refl, sym, ap, subst, ◌∙◌, append-nil}
 use Rattle.std.specs.Prelude.{filter, is_some}
 use Rattle.std.specs.FinMap as table
 use Rattle.page_tree.specs.Pages.{PageValue}
 use Rattle.node_binding.specs.Bindings.{BindingValue, Stands, opened_in}
 use Rattle.node_binding.specs.Sessions.{is_open}
 use Rattle.pipe_frames.specs.Frames.{framed}
-use Rattle.cdp_messages.specs.declared.command.Command.{Command}
 use Rattle.cdp_messages.specs.declared.command.Command.TheVariants.{AskDom, AskSearch}
 use Rattle.cdp_messages.specs.declared.command.Why.{Why}
 use Rattle.cdp_messages.specs.declared.command.Why.TheVariants.{NotPushed, NoSearch}
@@ -24,13 +23,13 @@ use Rattle.dom_agent.specs.Laws.{binding_outcome}
 use Rattle.dom_agent.specs.Requests.{state_after, answer}
 use Rattle.dom_search.specs.declared.searches.SearchFault.{SearchFault}
 use Rattle.dom_search.specs.Found.{found_in}
-use Rattle.dom_search.specs.Searches.{Kept as Searched, next_search, with_search, without_search, slice_of}
+use Rattle.dom_search.specs.Searches.{Kept as Searched, next_search, with_search, without_search}
 use Rattle.page_tree.specs.Pages.{find_in}
 use Rattle.shown_pages.specs.declared.modes.Mode.{Mode}
 use Rattle.shown_pages.specs.ShownPages.{shown_page}
 use Rattle.back_end.specs.declared.desk.Desk.{Desk}
 use Rattle.back_end.specs.declared.side.PageSide.{PageSide}
-use Rattle.back_end.specs.States.{State, page_shown, nodes_shown}
+use Rattle.back_end.specs.States.{State, nodes_shown}
 use Rattle.back_end.specs.Steps.{Step, found_now, refusing, idle, answering, with_searches, perform_step, results_in, or_why, results_asked}
 use Rattle.back_end.specs.Steps.{results_step, discard_step, agent_step, search_step, needs_on, needs_css, command_step}
 use Rattle.back_end.specs.Seats.{DeskStandsFor}

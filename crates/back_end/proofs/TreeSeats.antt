@@ -1,38 +1,33 @@
 -- What a seat does on a client's edit of the tree is the step of the state.
-use Rattle.std.proofs.Common.{◌≡◌, map as mapped, ℕ, ◌+◌, ◌<◌, ◌&&◌, Bool, true, false, not, List, ◌++◌, Option, Some, None, Result, Ok}
-use Rattle.std.proofs.Common.{Err, refl, sym, ◌∙◌, ap, subst, append-nil, append_assoc, arith}
+use Rattle.std.proofs.Common.{◌≡◌, map as mapped, ℕ, ◌&&◌, Bool, true, false, not, List, ◌++◌, Option, Some, None, Result, Ok}
+use Rattle.std.proofs.Common.{Err, refl, sym, ◌∙◌, ap, subst, append-nil, append_assoc}
 use Rattle.std.specs.FinMap as map
 use Rattle.std.proofs.lemmas.List.Concat.{flat_map-append}
 use Rattle.std.specs.Prelude.{OnOk, IsSome, is_some}
-use Rattle.node_tree.specs.Nodes.{none, Branch, alone}
-use Rattle.node_tree.specs.Keys.{has, tally, tally_in}
-use Rattle.node_tree.proofs.KeyLemmas.{tally-at, has-there, tally_row}
-use Rattle.page_tree.specs.Pages.{PageRow, row_serial, PageValue, IsValid, find_in, node_at}
+use Rattle.node_tree.specs.Nodes.{Branch, alone}
+use Rattle.page_tree.specs.Pages.{PageRow, PageValue, IsValid, find_in, node_at}
 use Rattle.sheet_reader.specs.declared.book.SheetEntry.{SheetEntry}
 use Rattle.undo_marks.specs.Marks.{Marks, noted, noted_singly}
 use Rattle.undo_marks.specs.Changes.{back_all}
 use Rattle.undo_marks.specs.SavedEdits.{saved_of, page_after, way_back}
 use Rattle.undo_marks.specs.declared.inverse_lists.Inverse.{Inverse}
 use Rattle.undo_marks.specs.declared.inverse_lists.Inverse.TheVariants.{Tree}
-use Rattle.page_tree.specs.Edits.{after, back_tree, after_tree, drawn, form_at, numbered_branch, with_child, moved_before}
-use Rattle.page_tree.specs.EditFaults.{CanApply, edit_faults, is_live, is_live_or_0, move_fault, copy_fault}
+use Rattle.page_tree.specs.Edits.{back_tree, drawn, form_at, numbered_branch, moved_before}
+use Rattle.page_tree.specs.EditFaults.{CanApply, move_fault, copy_fault}
 use Rattle.page_tree.specs.declared.edits.TreeEdit.{TreeEdit}
 use Rattle.page_tree.specs.declared.edits.TreeEdit.TheVariants.{Attach, Detach}
 use Rattle.page_tree.specs.declared.edit_faults.EditFault.{EditFault}
-use Rattle.page_tree.proofs.EditLemmas.{clear, changed, serial-live}
-use Rattle.page_tree.proofs.ChildLemmas.{inserted-before, tally-inserted}
 use Rattle.page_tree.proofs.FaultLemmas.{move_live}
 use Rattle.page_tree.proofs.InsertLemmas.{copy-leads}
-use Rattle.page_tree.proofs.MoveLemmas.{move-leads}
 use Rattle.cdp_messages.specs.declared.command.Why.{Why}
 use Rattle.client_views.specs.Moves.{Move as Told, frames_of_moves, move_text}
 use Rattle.pipe_frames.specs.Frames.{framed}
 use Rattle.cdp_messages.specs.declared.dom_edit.DomEdit.{DomEdit}
 use Rattle.back_end.specs.declared.node_edits.TreeWish.{TreeWish}
-use Rattle.back_end.specs.declared.node_edits.TreeWish.TheVariants.{One, MoveNode, CopyNode}
+use Rattle.back_end.specs.declared.node_edits.TreeWish.TheVariants.{MoveNode, CopyNode}
 use Rattle.back_end.specs.declared.desk.Desk.{Desk}
 use Rattle.back_end.specs.declared.side.PageSide.{PageSide}
-use Rattle.back_end.specs.States.{State, HoldsNow}
+use Rattle.back_end.specs.States.{State}
 use Rattle.back_end.specs.OwnMethods.{edit_why}
 use Rattle.back_end.specs.Plans.{node_edit_fault, node_edit_plan, node_put}
 use Rattle.cdp_messages.specs.declared.command.Command.TheVariants.{EditDom}

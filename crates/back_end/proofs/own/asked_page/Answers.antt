@@ -1,8 +1,7 @@
 -- A load is refused as its fault says, and its texts are those of its JSON.
-use Rattle.std.proofs.Common.{Result, Err, sym, ap, subst, ◌∙◌}
+use Rattle.std.proofs.Common.{Err, sym, ap, subst, ◌∙◌}
 use Rattle.serde_json.specs.View.{view}
 use Rattle.page_tree.specs.declared.faults.LoadErr.{LoadErr}
-use Rattle.page_forms.specs.declared.pages.PageForm.{PageForm}
 use Rattle.page_forms.specs.Pages.{loaded_page, ReadsPage}
 use Rattle.back_end.proofs.OwnLemmas.{refused_with, load-refused}
 use Rattle.back_end.proofs.own.asked_page.Goals as goal

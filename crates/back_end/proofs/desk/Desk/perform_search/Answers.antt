@@ -23,5 +23,6 @@ returns-clause-sent c = λ state stands.
     (performed-sent c.args.self.now c.args.side.now state c.args.id c.args.query.now c.page-page.result.now c.in_ok-serials.serials.items
     stands c.page-page.ensures
     (c.in_ok-serials.ensures ∙ shown-found c.args.self.now.agent.mode c.mode.result c.page-page.result.now c.args.query.now
-    c.as_slice.result.now c.mode.ensures (c.as_slice.ensures.value ∙ c.in_ok-all.ensures)) c.in_ok-search.search c.len-count.result c.args.out.now.items c.write_reply.new.out.items
+    c.as_slice.result.now c.mode.ensures (c.as_slice.ensures.value ∙ c.in_ok-all.ensures))
+    c.in_ok-search.search c.len-count.result c.args.out.now.items c.write_reply.new.out.items
     c.in_ok-search.ensures.number (omega (arith, c.len-count.ensures, c.in_ok-serials.serials.ok)))

@@ -1,5 +1,5 @@
 -- A push by the agent is the step of the state; a node that is hidden is not pushed.
-use Rattle.std.proofs.Common.{refl, sym, ap, ◌∙◌}
+use Rattle.std.proofs.Common.{refl, sym, ◌∙◌}
 use Rattle.page_tree.specs.Pages.{find_in}
 use Rattle.shown_pages.specs.ShownPages.{shown_page}
 use Rattle.back_end.proofs.SeatLemmas.{on_ok}

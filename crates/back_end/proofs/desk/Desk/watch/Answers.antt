@@ -1,5 +1,5 @@
 -- The watches of a known node are changed; the command is refused while DOM is off, and where the node is unknown.
-use Rattle.std.proofs.Common.{ℕ, refl, ap, ◌∙◌}
+use Rattle.std.proofs.Common.{ℕ, refl}
 use Rattle.node_tree.specs.declared.watches.WatchKind.{WatchKind}
 use Rattle.dom_breakpoints.specs.Watched.{with_watch}
 use Rattle.cdp_messages.specs.declared.command.Command.TheVariants.{SetBreakpoint}
