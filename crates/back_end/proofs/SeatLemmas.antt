@@ -143,11 +143,6 @@ served-searches c (shows_root b p) client = refl
 served-searches c (served p body) client = refl
 served-searches c (refused why) client = refl
 
-served-session : (c : DomAsk) (o : Outcome Session) (client : Client) → state_after client.session o ≡ (client_served c o client).session
-served-session c (shows_root b p) client = refl
-served-session c (served p body) client = refl
-served-session c (refused why) client = refl
-
 served-mode : (c : DomAsk) (o : Outcome Session) (client : Client) → client.mode ≡ (client_served c o client).mode
 served-mode c (shows_root b p) client = refl
 served-mode c (served p body) client = refl

@@ -152,10 +152,6 @@ not-true : (b : Bool) → not b ≡ false → b ≡ true
 not-true true e = refl
 not-true false e = absurd cc
 
-first-both : (a b : Bool) → (a && b) ≡ true → a ≡ true
-first-both true b e = refl
-first-both false b e = absurd cc
-
 -- after a plan something is opened, where it was before
 pub can-push : (state : State) (e : TreeWish) → HasBegun state → HasBegun (plan_step (node_edit_plan e state.side.page) state).state
 can-push state e begun =
