@@ -50,7 +50,7 @@ selects query z = some_selects (selectors_of query) z
 abbrev pub finds : List ℕ → Zipper → Bool
 finds query z = has_text (lowered query) z || selects query z
 
--- the shown nodes of a page but the document, in document order
+-- the nodes of a page but the document, in document order
 abbrev pub searched_nodes : Branch PageRow → List Zipper
 searched_nodes document = below (root_of document)
 
