@@ -8,7 +8,8 @@ use Rattle.std.proofs.lemmas.List.Elements.{All-head, All-tail}
 use Rattle.std.proofs.lemmas.Bool.Decides.{Decides-eqb}
 use Rattle.std.proofs.lemmas.Slice.Eq.{bytes_eq-Decides}
 use Rattle.css_tokens.specs.Codes.{begins, is_newline}
-use Rattle.css_tokens.specs.Escapes.{newline_len, escape_tail, escape_value, escape_bytes, unescaped, unescaped_after, hex_len, hex_value, character_of}
+use Rattle.css_tokens.specs.Escapes.{newline_len, escape_tail, escape_value, escape_bytes, unescaped, unescaped_after, hex_len, hex_value}
+use Rattle.css_tokens.specs.Escapes.{character_of}
 use Rattle.css_tokens.specs.Rows.{letter_len}
 use Rattle.css_tokens.specs.Spelling.{spells, begins_line}
 use Rattle.css_tokens.proofs.Ends.{and_true}
@@ -166,7 +167,8 @@ pub name_over : (name word rest left : List ℕ) (b : Bool) → length rest < 1 
     → ((length left ≡ 0) → b ≡ true) → (b ≡ true → length left ≡ 0) → b ≡ spells name word
 unfolding unescaped_after
 name_over name word (c ∷ rest) left b over so_far when_none when_true = absurd (omega (arith, over))
-name_over name word [] [] b over so_far when_none when_true = when_none refl ∙ sym ((bytes_eq-Decides (lower (unescaped name)) word).1 (so_far.back refl))
+name_over name word [] [] b over so_far when_none when_true = when_none refl
+    ∙ sym ((bytes_eq-Decides (lower (unescaped name)) word).1 (so_far.back refl))
 name_over name word [] (l ∷ ls) b over so_far when_none when_true = by b refl
   where
     by : (x : Bool) → b ≡ x → b ≡ spells name word

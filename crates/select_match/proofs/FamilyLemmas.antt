@@ -1,5 +1,6 @@
 -- What is counted of siblings, from one to the next.
-use Rattle.std.proofs.Common.{◌≡◌, ℕ, zero, suc, ◌+◌, ◌-◌, ◌<◌, ◌≤◌, ◌^◌, Bool, true, false, cond, ◌&&◌, List, [], ◌∷◌, length, Option, Some, None}
+use Rattle.std.proofs.Common.{◌≡◌, ℕ, zero, suc, ◌+◌, ◌-◌, ◌<◌, ◌≤◌, ◌^◌, Bool, true, false, cond, ◌&&◌, List, [], ◌∷◌, length, Option}
+use Rattle.std.proofs.Common.{Some, None}
 use Rattle.std.proofs.Common.{IfSome, unwrap_or, refl, sym, ap, ◌∙◌, arith, subst}
 use Rattle.std.proofs.lemmas.Slice.Eq.{bytes_eq-Decides}
 use Rattle.std.specs.Str.{bytes_eq}
@@ -257,7 +258,8 @@ module _ (z : Zipper) (l : Line) (faces : LineFaces l z) (few_before : length (e
     last_child = Some last;
     of_type = None;
     last_of_type = None;
-  } → (l.before < 2 ^ 63 → child ≡ l.before + 1) → behind ≡ l.after - cond {A = ℕ} b 1 0 → (behind < 2 ^ 63 → last ≡ behind + 1) → KnowsPlaces p z
+  } → (l.before < 2 ^ 63 → child ≡ l.before + 1) → behind ≡ l.after - cond {A = ℕ} b 1 0 → (behind < 2 ^ 63
+      → last ≡ behind + 1) → KnowsPlaces p z
   line-places p child last behind is first less one kind = subst (λ (k : KnownPlaces). IfSome (place_known kind k) (λ n. n ≡ index kind z))
       (sym is) (each kind)
     where

@@ -1,5 +1,6 @@
 -- The steps of selectors: what holds around a node, from what holds at it.
-use Rattle.std.proofs.Common.{◌≡◌, ℕ, zero, suc, ◌+◌, ◌*◌, ◌-◌, ◌<◌, ◌≤◌, Bool, true, false, cond, not, ◌||◌, ◌&&◌, ◌==◌, List, [], ◌∷◌, ◌++◌, map, take, drop, length, reverse, replicate}
+use Rattle.std.proofs.Common.{◌≡◌, ℕ, zero, suc, ◌+◌, ◌*◌, ◌-◌, ◌<◌, ◌≤◌, Bool, true, false, cond, not, ◌||◌, ◌&&◌, ◌==◌, List, [], ◌∷◌}
+use Rattle.std.proofs.Common.{◌++◌, map, take, drop, length, reverse, replicate}
 use Rattle.std.proofs.Common.{get_or, Option, Some, None, refl, sym, ap, ◌∙◌, arith, subst}
 use Rattle.std.specs.List.{list_any, list_all, filter, slice_get}
 use Rattle.std.proofs.lemmas.Bool.{ne_eqb}
@@ -9,13 +10,15 @@ use Rattle.page_tree.specs.Pages.{PageRow}
 use Rattle.selectors.specs.declared.selector.Joint.{Joint}
 use Rattle.selectors.specs.declared.selector.Joint.TheVariants.{Descendant, Child, Next, Later}
 use Rattle.selectors.specs.Forms.{CompoundForm, SelectorForm}
-use Rattle.page_tree.specs.Zippers.{Generation, Zipper, ancestors, ancestors_in, earlier, next_of, previous_of, parent_of, first_child_of, generation_of}
+use Rattle.page_tree.specs.Zippers.{Generation, Zipper, ancestors, ancestors_in, earlier, next_of, previous_of, parent_of, first_child_of}
+use Rattle.page_tree.specs.Zippers.{generation_of}
 use Rattle.select_match.specs.declared.steps.Around.{Around}
 use Rattle.select_match.specs.declared.steps.Step.{Step}
 use Rattle.select_match.specs.Elements.{is_element_node, elements}
 use Rattle.select_match.specs.Matches.{compound_holds, left_holds, chain_holds, selector_matches, list_matches}
 use Rattle.select_match.specs.Steps.{StepForm, chains_in, any_ends, left_after, around_of, beside_of, inside_of, passed, entered, leads}
-use Rattle.select_match.specs.Steps.{left_of, leads_by, step_seen, around_by, nothing, steps_of_chain, steps_of_selector, steps_of, is_stepped, all_stepped}
+use Rattle.select_match.specs.Steps.{left_of, leads_by, step_seen, around_by, nothing, steps_of_chain, steps_of_selector, steps_of}
+use Rattle.select_match.specs.Steps.{is_stepped, all_stepped}
 use Rattle.select_match.specs.declared.families.Family.{Family}
 use Rattle.select_match.specs.Families.{Faces, FacesNext, FacesLast}
 use Rattle.select_match.proofs.WalkLemmas.{from, ancestors-from, earlier-from, walk-step}
@@ -122,7 +125,8 @@ module _ (z : Zipper) (steps : List StepForm) (s : StepForm) (rest : List StepFo
           beside_is =
               append_assoc b (passed a holds (is_element_node z) ∷ []) (map (beside_of z) (chains_in after rest))
               ∙ ap (λ (x : Around). b ++ (passed x holds (is_element_node z) ∷ map (beside_of z) (chains_in after rest))) own
-              ∙ ap (λ (x : Bool). b ++ (passed (around_of z chain) x (is_element_node z) ∷ map (beside_of z) (chains_in after rest))) is_held
+              ∙ ap
+              (λ (x : Bool). b ++ (passed (around_of z chain) x (is_element_node z) ∷ map (beside_of z) (chains_in after rest))) is_held
               ∙ ap (λ (x : Around). b ++ (x ∷ map (beside_of z) (chains_in after rest))) (passed-around z chain)
               ∙ v.beside_is;
           inside_is =
@@ -137,7 +141,8 @@ length-chains : (chain : List CompoundForm) (steps : List StepForm) → length (
 length-chains chain [] = refl
 length-chains chain (s ∷ steps) = ap (λ (n : ℕ). suc n) (length-chains (left_after chain s) steps)
 
-pub around-length : (z : Zipper) (steps : List Step) (around : List Around) → around ≡ map (around_of z) (chains_in [] (map step_seen steps))
+pub around-length : (z : Zipper) (steps : List Step) (around : List Around)
+    → around ≡ map (around_of z) (chains_in [] (map step_seen steps))
     → length around ≡ length steps
 around-length z steps around e =
     ap (λ (l : List Around). length l) e ∙ length-map (chains_in [] (map step_seen steps)) (around_of z)
@@ -153,7 +158,8 @@ pub visiting-at : (z : Zipper) (steps : List Step) (around : List Around) (i : �
     → (p : Around) → p ≡ passed a holds element → (q : Around) → q ≡ entered a holds → (b' : List Around) → b' ≡ b ++ p ∷ []
     → (k' : List Around) → k' ≡ k ++ q ∷ []
     → Visiting z (map step_seen steps) (map step_seen (drop (i + 1) steps)) (drop (i + 1) around) left' found' b' b0 k' k0
-visiting-at z steps around i d e left found b b0 k k0 lt same v s is_s a is_a holds element held el left' l found' f p is_p q is_q b' is_b k' is_k =
+visiting-at z steps around i d e left found b b0 k k0 lt same v s is_s a is_a holds element held el left' l found' f p is_p q is_q b' is_b
+    k' is_k =
     let v1 = subst (λ (l : List Step). Visiting z (map step_seen steps) (map step_seen l) (drop i around) left found b b0 k k0)
     (drop_more steps i d lt) v in
     let v2 = subst (λ (l : List Around). Visiting z (map step_seen steps) (step_seen (get_or steps i d) ∷ map step_seen (drop (i + 1) steps))
@@ -247,7 +253,8 @@ pub record IsNearest (z w : Zipper) (ws : List Zipper) : Type 0 where
   pub earlier_is : earlier w ≡ ws
   pub above_is : w.above ≡ z.above
 
-nearest : (z w : Zipper) (ws : List Zipper) (before : List (Branch PageRow)) → earlier (record z { before = before }) ≡ w ∷ ws → IsNearest z w ws
+nearest : (z w : Zipper) (ws : List Zipper) (before : List (Branch PageRow)) → earlier (record z { before = before }) ≡ w ∷ ws
+    → IsNearest z w ws
 nearest z w ws [] e = absurd (cc)
 nearest z w ws (b ∷ before) e =
     let here : Nodes PageRow = node z.branch.row z.branch.children z.after in

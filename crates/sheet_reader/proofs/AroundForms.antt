@@ -170,13 +170,15 @@ own_rules : (n : ℕ) (around : Option ℕ) (o : Option RuleForm) → ((r : Rule
     → All (λ r. IsBelow n r.media) (option_to_list o)
 own_rules n around None own below = All-nil (λ (r : RuleForm). IsBelow n r.media)
 own_rules n around (Some r) own below =
-    All-cons (λ (x : RuleForm). IsBelow n x.media) r [] (subst (IsBelow n) (sym (own r refl)) below) (All-nil (λ (x : RuleForm). IsBelow n x.media))
+    All-cons (λ (x : RuleForm). IsBelow n x.media) r [] (subst (IsBelow n) (sym (own r refl)) below)
+    (All-nil (λ (x : RuleForm). IsBelow n x.media))
 
 record Known (text : List ℕ) (k : ℕ) (ls : List Laid) : Type 0 where
   media : AreBelow k (media_in text ls)
   rules : All (λ r. IsBelow (k + length (media_in text ls)) r.media) (rules_in text ls)
 
-part_known : (text : List ℕ) (around : Option ℕ) (k n : ℕ) (p : PartForm) (ls : List Laid) → n ≡ k + length (media_in text (laid around p ∷ ls))
+part_known : (text : List ℕ) (around : Option ℕ) (k n : ℕ) (p : PartForm) (ls : List Laid)
+    → n ≡ k + length (media_in text (laid around p ∷ ls))
     → IsBelow k around → All (λ r. IsBelow n r.media) (rules_in text ls) → All (λ r. IsBelow n r.media) (rules_in text (laid around p ∷ ls))
 unfolding rules_in
 part_known text around k n p ls is below all =
@@ -221,5 +223,6 @@ sheet_there text =
     record {
       media = k.media;
       rules = rules_more (0 + length (media_in text (laid_out text None 0 (pieces text))))
-          (length (media_in text (laid_out text None 0 (pieces text)))) (rules_in text (laid_out text None 0 (pieces text))) (omega arith) k.rules;
+          (length (media_in text (laid_out text None 0 (pieces text)))) (rules_in text (laid_out text None 0 (pieces text)))
+          (omega arith) k.rules;
     }

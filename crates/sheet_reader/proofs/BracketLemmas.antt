@@ -4,11 +4,13 @@ use Rattle.std.proofs.Common.{◌∙◌, arith, add-one}
 use Rattle.std.proofs.Math.Seq.{drop-cons}
 use Rattle.std.proofs.lemmas.List.{drop_all}
 use Rattle.css_tokens.specs.declared.token.Token.{Token}
+use Rattle.css_tokens.specs.declared.token.TokenKind.{TokenKind}
+use Rattle.css_tokens.specs.declared.token.TokenKind.TheVariants as tokens
 use Rattle.sheet_reader.specs.declared.brackets.Bracket.{Bracket}
 use Rattle.sheet_reader.specs.declared.brackets.Stop.{Stop}
 use Rattle.sheet_reader.specs.declared.brackets.Nesting.{Nesting}
 use Rattle.sheet_reader.specs.declared.brackets.Nesting.TheVariants.{Stray}
-use Rattle.sheet_reader.specs.Brackets.{open_after, is_none_open, stops_at, until_in, is_stray, nesting_of, nesting_in}
+use Rattle.sheet_reader.specs.Brackets.{is_no_bracket, open_after, is_none_open, stops_at, until_in, is_stray, nesting_of, nesting_in}
 
 pub cut_at : (ts : List Token) (i : ℕ) (d : Token) → i < length ts → drop i ts ≡ get_or ts i d ∷ drop (i + 1) ts
 cut_at ts i d inside = drop-cons ts i d inside ∙ ap (λ (k : ℕ). get_or ts i d ∷ drop k ts) (sym (add-one i))
@@ -43,6 +45,23 @@ until_goes_on stop bs new ts i n total d inside e is_new so_far =
     let same = ap (λ (b : List Bracket). until_in stop b (drop (i + 1) ts)) is_new in
     omega (arith, more, same, so_far)
 
+-- a piece that is no bracket leaves what is open
+leaves_open : (bs : List Bracket) (kind : TokenKind) → is_no_bracket kind ≡ true → bs ≡ open_after bs kind
+leaves_open bs tokens.Function e = absurd (cc)
+leaves_open bs tokens.OpenRound e = absurd (cc)
+leaves_open bs tokens.OpenSquare e = absurd (cc)
+leaves_open bs tokens.OpenCurly e = absurd (cc)
+leaves_open bs tokens.CloseRound e = absurd (cc)
+leaves_open bs tokens.CloseSquare e = absurd (cc)
+leaves_open bs tokens.CloseCurly e = absurd (cc)
+leaves_open bs _ e = refl
+
+pub until_skips : (stop : Stop) (bs : List Bracket) (ts : List Token) (i n total : ℕ) (d : Token) → i < length ts
+    → (is_none_open bs && stops_at stop (get_or ts i d).kind) ≡ false → is_no_bracket (get_or ts i d).kind ≡ true
+    → n + until_in stop bs (drop i ts) ≡ total → n + 1 + until_in stop bs (drop (i + 1) ts) ≡ total
+until_skips stop bs ts i n total d inside e plain so_far =
+    until_goes_on stop bs bs ts i n total d inside e (leaves_open bs (get_or ts i d).kind plain) so_far
+
 pub until_ends : (stop : Stop) (bs : List Bracket) (ts : List Token) (i n total : ℕ) → length ts ≤ i
     → n + until_in stop bs (drop i ts) ≡ total → n ≡ total
 until_ends stop bs ts i n total past so_far =
@@ -73,6 +92,18 @@ pub nesting_goes_on : (bs new : List Bracket) (ts : List Token) (i : ℕ) (total
 nesting_goes_on bs new ts i total d inside e is_new so_far =
     ap (λ (b : List Bracket). nesting_in b (drop (i + 1) ts)) is_new ∙ sym (no_stray bs (get_or ts i d) (drop (i + 1) ts) e) ∙ sym
     (ap (nesting_in bs) (cut_at ts i d inside)) ∙ so_far
+
+-- a piece that is no bracket is no stray one
+never_stray : (bs : List Bracket) (kind : TokenKind) → is_no_bracket kind ≡ true → is_stray bs kind ≡ false
+never_stray bs tokens.CloseRound e = absurd (cc)
+never_stray bs tokens.CloseSquare e = absurd (cc)
+never_stray bs tokens.CloseCurly e = absurd (cc)
+never_stray bs _ e = refl
+
+pub nesting_skips : (bs : List Bracket) (ts : List Token) (i : ℕ) (total : Nesting) (d : Token) → i < length ts
+    → is_no_bracket (get_or ts i d).kind ≡ true → nesting_in bs (drop i ts) ≡ total → nesting_in bs (drop (i + 1) ts) ≡ total
+nesting_skips bs ts i total d inside plain so_far =
+    nesting_goes_on bs bs ts i total d inside (never_stray bs (get_or ts i d).kind plain) (leaves_open bs (get_or ts i d).kind plain) so_far
 
 pub nesting_ends : (bs : List Bracket) (ts : List Token) (i : ℕ) (total answer : Nesting) → length ts ≤ i → answer ≡ nesting_of bs
     → nesting_in bs (drop i ts) ≡ total → answer ≡ total

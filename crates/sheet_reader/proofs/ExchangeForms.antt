@@ -36,7 +36,8 @@ nested_on stop all rest inner bs (nested_and t close within ts b whole opened ow
     let sum = length-append within (close ∷ ts) in
     omega (arith, split, on, deeper, inside, last, back, others, size, sum)
 
-reach_by : (stop : Stop) (bs : List Bracket) (t : Token) (ys zs : List Token) (n : ℕ) (x : Bool) → (is_none_open bs && stops_at stop t.kind) ≡ x
+reach_by : (stop : Stop) (bs : List Bracket) (t : Token) (ys zs : List Token) (n : ℕ) (x : Bool)
+    → (is_none_open bs && stops_at stop t.kind) ≡ x
     → (n ≤ until_in stop (open_after bs t.kind) ys → n ≤ until_in stop (open_after bs t.kind) zs)
     → suc n ≤ until_in stop bs (t ∷ ys) → suc n ≤ until_in stop bs (t ∷ zs)
 reach_by stop bs t ys zs n true e more fits = let here = stop_here stop bs t ys e in absurd (omega (arith, here, fits))

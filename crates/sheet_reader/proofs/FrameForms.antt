@@ -1,23 +1,29 @@
 -- A sheet that is being read says in the end what it says before and after each part.
-use Rattle.std.proofs.Common.{◌≡◌, ℕ, suc, ◌+◌, ◌<◌, Bool, true, false, cond, List, [], ◌∷◌, ◌++◌, length, drop, All}
-use Rattle.std.proofs.Common.{Option, Some, None, get_or, refl, sym, ap, subst, ◌∙◌, append_assoc, append-nil, length-append, length-drop, arith}
+use Rattle.std.proofs.Common.{◌≡◌, ℕ, suc, ◌+◌, ◌<◌, Bool, true, false, cond, List, [], ◌∷◌, ◌++◌, length, take, drop, All}
+use Rattle.std.proofs.Common.{Option, Some, None, get_or, refl, sym, ap, subst, ◌∙◌, append_assoc, append-nil, length-append, length-drop}
+use Rattle.std.proofs.Common.{arith}
 use Rattle.std.specs.Prelude.{option_to_list, option_map}
 use Rattle.std.proofs.lemmas.List.Elements.{All-cons, All-head, All-tail, All-drop}
 use Rattle.css_tokens.specs.declared.token.Token.{Token}
+use Rattle.css_tokens.specs.declared.token.TokenKind.{TokenKind}
+use Rattle.css_tokens.specs.declared.token.TokenKind.TheVariants as tokens
 use Rattle.css_tokens.specs.Marks.{IsPieceOf}
 use Rattle.css_tokens.specs.Pieces.{pieces}
 use Rattle.selectors.proofs.Choices.{none_some, some_is}
+use Rattle.sheet_reader.specs.declared.brackets.Stop.TheVariants as stops
 use Rattle.sheet_reader.specs.declared.parts.Level.{Level}
 use Rattle.sheet_reader.specs.declared.parts.Level.TheVariants.{Top}
 use Rattle.sheet_reader.specs.declared.sheet.Sheet.{Sheet}
 use Rattle.sheet_reader.specs.declared.sheet.MediaRule.{MediaRule}
-use Rattle.sheet_reader.specs.Parts.{EndingForm, text_end, semicolon, block, PartForm, passed, at_rule, qualified, part_at, part_pieces, parts}
-use Rattle.sheet_reader.specs.Parts.{parts_after, ending_pieces}
+use Rattle.sheet_reader.specs.Parts.{EndingForm, text_end, semicolon, block, PartForm, passed, at_rule, qualified, part_at, part_pieces}
+use Rattle.sheet_reader.specs.Parts.{parts}
+use Rattle.sheet_reader.specs.Parts.{parts_after, ending_pieces, is_passed, ending_at, qualified_at, part_by}
+use Rattle.sheet_reader.specs.Brackets.{until}
 use Rattle.sheet_reader.specs.Layout.{MediaForm, names_media, media_by, media_form, media_rule, media_of, media_in, Laid, laid, level_of}
 use Rattle.sheet_reader.specs.Layout.{laid_behind, laid_to, laid_out}
 use Rattle.sheet_reader.specs.Sheets.{rule_of, place_of, rules_in, places_in, sheet_of}
 use Rattle.sheet_reader.specs.Frames.{FrameForm, frame, top_place, with_part, with_media, opened, laid_left, places_left, read_on}
-use Rattle.sheet_reader.specs.Frames.{left_size, AreLeftOf, empty_sheet}
+use Rattle.sheet_reader.specs.Frames.{left_size, left_at_top, AreLeftOf, empty_sheet}
 use Rattle.sheet_reader.proofs.PartLemmas.{part_front, part_some, parts_step, front_fits, front_all, all_left, all_right, block_inside}
 use Rattle.sheet_reader.proofs.LayoutForms.{media_short, block_laid, rest_of, laid_step}
 
@@ -202,7 +208,8 @@ part_stays text around k t ts fs o e all = by o e
 
 -- ---- an empty frame, the beginning and the end
 
-pub frame_over : (text : List ℕ) (around : Option ℕ) (s : Sheet) (fs : List FrameForm) → read_on text s fs ≡ read_on text s (frame around [] ∷ fs)
+pub frame_over : (text : List ℕ) (around : Option ℕ) (s : Sheet) (fs : List FrameForm)
+    → read_on text s fs ≡ read_on text s (frame around [] ∷ fs)
 unfolding laid_to media_in parts_after places_in
 frame_over text None s fs =
     let none : length s.media ≡ length s.media + 0 = omega arith in
@@ -257,9 +264,12 @@ pub part_done : (text : List ℕ) (around : Option ℕ) (level : Level) (left re
     → new_frames ≡ opened (length mid_sheet.media) (media_form text part) mid_frames
     → new_sheet ≡ with_media text around (media_form text part) mid_sheet
     → AreLeftOf text (frame around left ∷ fs) → Passed text (frame around left ∷ fs) s new_sheet new_frames
-part_done text around level [] rest d part n fs mid_frames new_frames s mid_sheet new_sheet some is_level is_part is_n is_rest is_mid_frames is_mid_sheet is_frames is_sheet all =
+part_done text around level [] rest d part n fs mid_frames new_frames s mid_sheet new_sheet some is_level is_part is_n is_rest is_mid_frames
+    is_mid_sheet is_frames is_sheet all =
     absurd (omega (arith, some))
-part_done text around level (t ∷ ts) rest d part n fs mid_frames new_frames s mid_sheet new_sheet some is_level is_part is_n is_rest is_mid_frames is_mid_sheet is_frames is_sheet all =
+part_done text around level
+    (t ∷ ts) rest d part n fs mid_frames new_frames s mid_sheet new_sheet some is_level is_part is_n is_rest is_mid_frames is_mid_sheet
+    is_frames is_sheet all =
     let p = part_at (level_of around) t ts in
     let part_is : part ≡ p = is_part ∙ ap (λ (l : Level). part_at l t ts) is_level in
     let rest_is : rest ≡ rest_of around t ts =
@@ -281,3 +291,47 @@ pub none_left : (text : List ℕ) (around : Option ℕ) (left : List Token) (s :
     → read_on text s fs ≡ read_on text s (frame around left ∷ fs)
 none_left text around [] s fs none = frame_over text around s fs
 none_left text around (t ∷ ts) s fs none = absurd (omega (arith, none))
+
+-- ---- parts at top level in front of all media rules
+
+plain_none : (text : List ℕ) (b : Bool) (t : Token) (ts : List Token) → media_form text (cond b (passed t) (qualified_at (t ∷ ts))) ≡ None
+unfolding media_form
+plain_none text true t ts = refl
+plain_none text false t ts = refl
+
+-- a part that does not begin with `media` is no media rule
+unnamed_by : (text : List ℕ) (level : Level) (kind : TokenKind) (t : Token) (ts : List Token) → names_media text t t.kind ≡ false
+    → media_form text (part_by level t ts kind) ≡ None
+unfolding media_form
+unnamed_by text level tokens.AtKeyword t ts e =
+    let prelude = take (until stops.BlockOrSemicolon ts) ts in
+    let ending = ending_at (drop (until stops.BlockOrSemicolon ts) ts) in
+    ap (λ (b : Bool). cond b (media_by t prelude ending) None) e
+unnamed_by text level kind t ts e = plain_none text (is_passed level kind) t ts
+
+unnamed : (text : List ℕ) (level : Level) (t : Token) (ts : List Token) → names_media text t t.kind ≡ false
+    → media_form text (part_at level t ts) ≡ None
+unfolding part_at
+unnamed text level t ts e = unnamed_by text level t.kind t ts e
+
+-- one part more of them
+pub front_more : (text : List ℕ) (left rest : List Token) (d : Token) (part : PartForm) (n : ℕ) (s new_sheet total : Sheet)
+    → 0 < length left → names_media text (get_or left 0 d) (get_or left 0 d).kind ≡ false
+    → part ≡ part_at Top (get_or left 0 d) (drop 1 left) → n ≡ length (part_pieces part) → rest ≡ drop n left
+    → new_sheet ≡ with_part text None part s → read_on text s (left_at_top left) ≡ total
+    → read_on text new_sheet (left_at_top rest) ≡ total
+front_more text [] rest d part n s new_sheet total some name is_part is_n is_rest is_sheet so_far = absurd (omega (arith, some))
+front_more text (t ∷ ts) rest d part n s new_sheet total some name is_part is_n is_rest is_sheet so_far =
+    let count = is_n ∙ ap (λ (x : PartForm). length (part_pieces x)) is_part in
+    let rest_is : rest ≡ rest_of None t ts = is_rest ∙ ap (λ (j : ℕ). drop j (t ∷ ts)) count in
+    let sheet_is : new_sheet ≡ with_part text None (part_at Top t ts) s =
+    is_sheet ∙ ap (λ (x : PartForm). with_part text None x s) is_part in
+    (λ i. read_on text (sheet_is i) (left_at_top (rest_is i)))
+    ∙ part_passes text None t ts [] s None (unnamed text Top t ts name) ∙ so_far
+
+-- what is said of the whole text, where this is left behind its front
+pub front_read : (text : List ℕ) (all left : List Token) (begun front : Sheet) → all ≡ pieces text → begun ≡ empty_sheet
+    → read_on text front (left_at_top left) ≡ read_on text begun (left_at_top all)
+    → read_on text front (left_at_top left) ≡ sheet_of text
+front_read text all left begun front is_all is_begun same =
+    same ∙ (λ i. read_on text (is_begun i) (left_at_top (is_all i))) ∙ read_begins text

@@ -112,7 +112,8 @@ record PartRead (level : Level) (p : PartForm) (all : List Token) : Type 0 where
   is : all ≡ part_pieces p ++ rest
   form : IsPart level p rest
 
-begins : (level : Level) (own rest : List Token) (t : Token) (ts : List Token) → t ∷ ts ≡ own ++ rest → 0 < length own → is_passed level t.kind ≡ false
+begins : (level : Level) (own rest : List Token) (t : Token) (ts : List Token) → t ∷ ts ≡ own ++ rest → 0 < length own
+    → is_passed level t.kind ≡ false
     → is_at_keyword t.kind ≡ false → BeginsQualified level own
 begins level [] rest t ts e some a b = absurd (omega (arith, some))
 begins level (u ∷ us) rest t ts e some a b =
@@ -139,7 +140,8 @@ at_rule_read level t ts e =
     let n = until stops.BlockOrSemicolon ts in
     record { rest = r.rest; is = ap (λ (xs : List Token). t ∷ xs) r.is; form = at_rule_part t (take n ts) (ending_at (drop n ts)) e r.rule }
 
-part_by_read : (level : Level) (kind : TokenKind) (t : Token) (ts : List Token) → t.kind ≡ kind → PartRead level (part_by level t ts kind) (t ∷ ts)
+part_by_read : (level : Level) (kind : TokenKind) (t : Token) (ts : List Token) → t.kind ≡ kind
+    → PartRead level (part_by level t ts kind) (t ∷ ts)
 part_by_read level tokens.AtKeyword t ts e = at_rule_read level t ts e
 part_by_read level kind t ts e = read_passed level (is_passed level kind) t ts (ap (is_passed level) e) (ap is_at_keyword e)
 
@@ -207,11 +209,13 @@ rule_again stop prelude ending rest all whole rule =
           (drop (length prelude)) is ∙ drop-append_seam prelude behind) ∙ ending_again ending rest rule.ends;
     }
 
-passed_again : (level : Level) (kind : TokenKind) (t : Token) (ts : List Token) → is_passed level kind ≡ true → part_by level t ts kind ≡ passed t
+passed_again : (level : Level) (kind : TokenKind) (t : Token) (ts : List Token) → is_passed level kind ≡ true
+    → part_by level t ts kind ≡ passed t
 passed_again level tokens.AtKeyword t ts e = absurd (cc)
 passed_again level kind t ts e = ap (λ (x : Bool). cond x (passed t) (qualified_at (t ∷ ts))) e
 
-qualified_again : (level : Level) (kind : TokenKind) (t : Token) (ts : List Token) → is_passed level kind ≡ false → is_at_keyword kind ≡ false
+qualified_again : (level : Level) (kind : TokenKind) (t : Token) (ts : List Token) → is_passed level kind ≡ false
+    → is_at_keyword kind ≡ false
     → part_by level t ts kind ≡ qualified_at (t ∷ ts)
 qualified_again level tokens.AtKeyword t ts e other = absurd (cc)
 qualified_again level kind t ts e other = ap (λ (x : Bool). cond x (passed t) (qualified_at (t ∷ ts))) e

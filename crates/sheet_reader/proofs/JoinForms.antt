@@ -25,7 +25,8 @@ use Rattle.sheet_reader.specs.Lone.{is_closed_ending}
 use Rattle.sheet_reader.specs.Joins.{is_shut_part, ends_shut, behind_rule, behind_media}
 use Rattle.sheet_reader.specs.Moves.{placed_property, placed_media, placed_rule}
 use Rattle.sheet_reader.specs.Sheets.{body_end, style_rule, rule_by, rule_of, place_of, rules_in, places_in}
-use Rattle.sheet_reader.specs.Grammar.{outside, AreValues, EndsBefore, IsEnding, at_text_end, at_semicolon, in_block, in_open_block, IsRule, IsPart}
+use Rattle.sheet_reader.specs.Grammar.{outside, AreValues, EndsBefore, IsEnding, at_text_end, at_semicolon, in_block, in_open_block, IsRule}
+use Rattle.sheet_reader.specs.Grammar.{IsPart}
 use Rattle.sheet_reader.specs.Grammar.{BeginsQualified, passed_part, at_rule_part, qualified_part, AreParts, AreShut}
 use Rattle.sheet_reader.proofs.Raised.{flat}
 use Rattle.sheet_reader.proofs.FrameForms.{media_append, media_cons}
@@ -50,7 +51,8 @@ closed_rest stop prelude ending rest other shut r = by r.ends r.values r.stopped
           (values_rest (outside stops.BlockEnd) within (close ∷ rest) (close ∷ other) (cons_follows close rest) own) closed;
     }
 
-pub shut_rest : (level : Level) (p : PartForm) (rest other : List Token) → is_shut_part p ≡ true → IsPart level p rest → IsPart level p other
+pub shut_rest : (level : Level) (p : PartForm) (rest other : List Token) → is_shut_part p ≡ true → IsPart level p rest
+    → IsPart level p other
 shut_rest level _ rest other shut (passed_part t e) = cc
 shut_rest level _ rest other shut (at_rule_part keyword prelude ending e r) =
     at_rule_part keyword prelude ending e (closed_rest stops.BlockOrSemicolon prelude ending rest other shut r)
@@ -70,10 +72,12 @@ some_piece level _ rest more (qualified_part prelude ending begins r) is = by pr
 
 pub flat_append : (ps qs : List PartForm) → flat (ps ++ qs) ≡ flat ps ++ flat qs
 flat_append [] qs = refl
-flat_append (p ∷ ps) qs = ap (λ (ts : List Token). part_pieces p ++ ts) (flat_append ps qs) ∙ sym (append_assoc (part_pieces p) (flat ps) (flat qs))
+flat_append (p ∷ ps) qs = ap (λ (ts : List Token). part_pieces p ++ ts) (flat_append ps qs)
+    ∙ sym (append_assoc (part_pieces p) (flat ps) (flat qs))
 
 -- parts that end with a rule's `}`, and others behind them
-pub flat_join : (level : Level) (ps qs : List PartForm) → ends_shut ps ≡ true → AreFlat level ps → AreFlat level qs → AreFlat level (ps ++ qs)
+pub flat_join : (level : Level) (ps qs : List PartForm) → ends_shut ps ≡ true → AreFlat level ps → AreFlat level qs
+    → AreFlat level (ps ++ qs)
 flat_join level [] qs shut all more = more
 flat_join level (p ∷ []) qs shut all more = (shut_rest level p [] (flat qs) shut all.0, more)
 flat_join level (p ∷ q ∷ ps) qs shut all more = (
@@ -203,11 +207,13 @@ rule_again text n around (qualified prelude (block first within close)) =
     by (Some r) None = refl
     by (Some r) (Some ss) = refl
 
-list_again : {X : Type 0} (f : X → X) (o : Option X) (xs : List X) → option_to_list (option_map f o) ++ map f xs ≡ map f (option_to_list o ++ xs)
+list_again : {X : Type 0} (f : X → X) (o : Option X) (xs : List X)
+    → option_to_list (option_map f o) ++ map f xs ≡ map f (option_to_list o ++ xs)
 list_again f None xs = refl
 list_again f (Some x) xs = refl
 
-pub rules_numbered : (text : List ℕ) (n : ℕ) (ls : List Laid) → rules_in text (map (numbered n) ls) ≡ map (rule_numbered n) (rules_in text ls)
+pub rules_numbered : (text : List ℕ) (n : ℕ) (ls : List Laid)
+    → rules_in text (map (numbered n) ls) ≡ map (rule_numbered n) (rules_in text ls)
 unfolding rules_in
 rules_numbered text n [] = refl
 rules_numbered text n (l ∷ ls) =
@@ -216,7 +222,8 @@ rules_numbered text n (l ∷ ls) =
     (λ i. option_to_list (a i) ++ b i) ∙ list_again (rule_numbered n) (rule_of text l.around l.part) (rules_in text ls)
 
 media_again : (text : List ℕ) (n : ℕ) (around : Option ℕ) (o : Option MediaForm)
-    → option_map (media_rule text (option_map (λ m. n + m) around)) o ≡ option_map (media_numbered n) (option_map (media_rule text around) o)
+    → option_map (media_rule text (option_map (λ m. n + m) around)) o
+    ≡ option_map (media_numbered n) (option_map (media_rule text around) o)
 media_again text n around None = refl
 media_again text n around (Some m) = refl
 

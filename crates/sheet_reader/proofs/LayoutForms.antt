@@ -6,7 +6,8 @@ use Rattle.css_tokens.specs.declared.token.Token.{Token}
 use Rattle.selectors.proofs.Choices.{none_some, some_is}
 use Rattle.sheet_reader.specs.declared.parts.Level.{Level}
 use Rattle.sheet_reader.specs.declared.parts.Level.TheVariants.{Inner}
-use Rattle.sheet_reader.specs.Parts.{EndingForm, text_end, semicolon, block, PartForm, passed, at_rule, qualified, part_at, part_pieces, parts}
+use Rattle.sheet_reader.specs.Parts.{EndingForm, text_end, semicolon, block, PartForm, passed, at_rule, qualified, part_at, part_pieces}
+use Rattle.sheet_reader.specs.Parts.{parts}
 use Rattle.sheet_reader.specs.Parts.{parts_after}
 use Rattle.sheet_reader.specs.Grammar.{AreParts}
 use Rattle.sheet_reader.specs.Layout.{names_media, MediaForm, media_by, media_form, media_in, Laid, laid, level_of, laid_behind}
@@ -130,7 +131,8 @@ spelled_by : (text : List ℕ) (around : Option ℕ) (k : ℕ) (p : PartForm) (p
     → AreLaid text around k (p ∷ ps) (laid around p ∷ laid_behind text (block_laid text) k o others)
 spelled_by text around k p ps others next None e own = part_laid p ps (others k) e (next k)
 spelled_by text around k p ps others next (Some m) e own =
-    media_laid p m (parts Inner m.inside) ps (block_laid text k m.inside) (others (suc k + length (media_in text (block_laid text k m.inside))))
+    media_laid p m (parts Inner m.inside) ps (block_laid text k m.inside)
+    (others (suc k + length (media_in text (block_laid text k m.inside))))
     e (parts_spelled Inner m.inside) (own m e) (next (suc k + length (media_in text (block_laid text k m.inside))))
 
 spelled_in : (n : ℕ) (text : List ℕ) (around : Option ℕ) (k : ℕ) (ts : List Token) → length ts ≤ n

@@ -44,7 +44,8 @@ blank_first t ts e =
     ∙ ap (λ (b : Bool). Kept b (passed t) (solid_parts (parts Top ts))) e
 
 solid_first : (t : Token) (ts : List Token) → is_blank_piece t ≡ false
-    → solid_parts (parts Top (t ∷ ts)) ≡ part_at Top t ts ∷ solid_parts (parts Top (drop (length (part_pieces (part_at Top t ts))) (t ∷ ts)))
+    → solid_parts (parts Top (t ∷ ts))
+    ≡ part_at Top t ts ∷ solid_parts (parts Top (drop (length (part_pieces (part_at Top t ts))) (t ∷ ts)))
 solid_first t ts e =
     ap solid_parts (parts_step Top t ts)
     ∙ ap (λ (b : Bool). Kept b (part_at Top t ts) (solid_parts (parts Top (drop (length (part_pieces (part_at Top t ts))) (t ∷ ts)))))

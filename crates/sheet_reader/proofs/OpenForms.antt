@@ -121,7 +121,8 @@ ShutBehind front ending rest = IsShutEnding ending × ((rest ≡ []) ⊎ (opens 
 
 ending_shut : (front : List Token) (ending : EndingForm) (rest : List Token) (close : Token) (more : List Token)
     → ((y : Token) (ys : List Token) → ending_pieces ending ++ rest ≡ y ∷ ys → opens [] front ≡ []) → IsEnding ending rest
-    → until stops.BlockEnd ((front ++ ending_pieces ending) ++ (rest ++ close ∷ more)) ≡ length (front ++ ending_pieces ending) + length rest
+    → until stops.BlockEnd ((front ++ ending_pieces ending) ++ (rest ++ close ∷ more))
+    ≡ length (front ++ ending_pieces ending) + length rest
     → ShutBehind front ending rest
 unfolding opens ShutBehind
 ending_shut front _ rest close more none (at_text_end over) total = (tt, inl over)

@@ -61,7 +61,8 @@ by_passed : (b : Bool) (t : Token) (ts : List Token) → IsFrontOf (part_pieces 
 by_passed true t ts = record { rest = ts; is = refl }
 by_passed false t ts = then_ending (t ∷ ts) (until stops.Block (t ∷ ts))
 
-part_by_front : (level : Level) (kind : TokenKind) (t : Token) (ts : List Token) → IsFrontOf (part_pieces (part_by level t ts kind)) (t ∷ ts)
+part_by_front : (level : Level) (kind : TokenKind) (t : Token) (ts : List Token)
+    → IsFrontOf (part_pieces (part_by level t ts kind)) (t ∷ ts)
 part_by_front level tokens.AtKeyword t ts = at_rule_front t ts
 part_by_front level kind t ts = by_passed (is_passed level kind) t ts
 

@@ -14,7 +14,8 @@ use Rattle.sheet_reader.specs.declared.parts.Level.TheVariants.{Top}
 use Rattle.sheet_reader.specs.declared.sheet.MediaRule.{MediaRule}
 use Rattle.sheet_reader.specs.declared.sheet.Property.{Property}
 use Rattle.sheet_reader.specs.Forms.{RuleForm}
-use Rattle.sheet_reader.specs.Parts.{EndingForm, text_end, semicolon, block, PartForm, passed, at_rule, qualified, part_pieces, ending_pieces, parts}
+use Rattle.sheet_reader.specs.Parts.{EndingForm, text_end, semicolon, block, PartForm, passed, at_rule, qualified, part_pieces}
+use Rattle.sheet_reader.specs.Parts.{ending_pieces, parts}
 use Rattle.sheet_reader.specs.Layout.{laid_out, media_in, Laid}
 use Rattle.sheet_reader.specs.Moves.{placed_property, placed_media, placed_rule, IsWithin, IsPropertyWithin}
 use Rattle.sheet_reader.specs.Repairs.{IsRuleWithin}
@@ -86,7 +87,8 @@ medias_within text =
 pub media_stays : (text : List ℕ) (g : ℕ → ℕ) → ((x : ℕ) → 0 ≤ x → x ≤ length text → g x ≡ x)
     → (sheet_of text).media ≡ map (placed_media g) (sheet_of text).media
 media_stays text g keep =
-    media_kept text g 0 (length text) keep (keep (length text) (omega arith) (omega arith)) (laid_out text None 0 (pieces text)) (laid_of text)
+    media_kept text g 0 (length text) keep (keep (length text) (omega arith) (omega arith)) (laid_out text None 0 (pieces text))
+    (laid_of text)
 
 -- ---- places
 -- places behind one, and at or before another

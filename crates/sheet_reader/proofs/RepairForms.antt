@@ -1,5 +1,6 @@
 -- The plan for a part that is read anew leads to the reading of the new text.
-use Rattle.std.proofs.Common.{◌≡◌, ◌⊎◌, inl, inr, ℕ, zero, suc, ◌+◌, ◌-◌, ◌<◌, ◌≤◌, Bool, true, false, ◌&&◌, ◌||◌, List, [], ◌∷◌, ◌++◌, map, take, drop}
+use Rattle.std.proofs.Common.{◌≡◌, ◌⊎◌, inl, inr, ℕ, zero, suc, ◌+◌, ◌-◌, ◌<◌, ◌≤◌, Bool, true, false, ◌&&◌, ◌||◌, List, [], ◌∷◌, ◌++◌, map}
+use Rattle.std.proofs.Common.{take, drop}
 use Rattle.std.proofs.Common.{length, All, Option, Some, None, refl, sym, ap, subst, ◌∙◌, append_assoc, length-append, arith, nat_eq}
 use Rattle.std.specs.Prelude.{nat_le, nat_lt, slice_get, slice_range, option_map, is_none, is_some}
 use Rattle.std.specs.List.{list_any, list_all}
@@ -23,7 +24,8 @@ use Rattle.sheet_reader.specs.declared.sheet.StyleRule.{StyleRule}
 use Rattle.sheet_reader.specs.Forms.{RuleForm, rule_seen}
 use Rattle.sheet_reader.specs.Joins.{is_shut_text, behind_rule, behind_media, joined}
 use Rattle.sheet_reader.specs.Moves.{placed_rule, placed_media, IsWithin, CanPlaceMedia, CanPlaceRule, replaced}
-use Rattle.sheet_reader.specs.Repairs.{starts_between, IsRuleWithin, IsStretch, IsSeam, StandsAlone, IsNewPart, CanRepair, IsShare, part_cut}
+use Rattle.sheet_reader.specs.Repairs.{starts_between, IsRuleWithin, IsStretch, IsSeam, StandsAlone, IsNewPart, CanRepair, IsShare}
+use Rattle.sheet_reader.specs.Repairs.{part_cut}
 use Rattle.sheet_reader.specs.Repairs.{repaired, at_start, behind_rule as seam_rule, IsSecondSeam, at_end, behind_other}
 use Rattle.sheet_reader.specs.Rereads.{LeadsTo}
 use Rattle.sheet_reader.specs.Sheets.{sheet_of}
@@ -31,7 +33,8 @@ use Rattle.sheet_reader.proofs.LaidMoves.{stays}
 use Rattle.sheet_reader.proofs.JoinedLaw.{joined_holds}
 use Rattle.sheet_reader.proofs.RepairSeams.{Between, between, ends_there, joined_or, new_between, empty_rules, empty_media, empty_places}
 use Rattle.sheet_reader.proofs.RepairBounds.{AreFrom, all_within, medias_within, places_from}
-use Rattle.sheet_reader.proofs.RepairLaw.{twice_rule, twice_media, count, rules_can, media_can, places_can, places_of, three_media, rules_taken, rules_left, new_rules}
+use Rattle.sheet_reader.proofs.RepairLaw.{twice_rule, twice_media, count, rules_can, media_can, places_can, places_of, three_media}
+use Rattle.sheet_reader.proofs.RepairLaw.{rules_taken, rules_left, new_rules}
 use Rattle.sheet_reader.proofs.RepairLaw.{new_media, count_before, count_to, places_left, new_places, three_rules, three_places}
 
 -- ---- no media rule starts in the part
@@ -147,7 +150,8 @@ module _ (front own new behind : List ℕ) (front_shut : is_shut_text front ≡ 
           media = map (placed_media (moved_place (cut (length front) (length front + length own) (length new)))) old.media;
         }) (sheet_of (front ++ (new ++ behind))) = λ i. record { rules = sym rules i; places = sym places i; media = sym media i } in
         (λ i. record {
-          rules = take (rule_before i) old.rules ++ (same_rules i ++ map (placed_rule (moved_place (sym cuts i))) (drop (rule_to i) old.rules));
+          rules = take (rule_before i) old.rules
+              ++ (same_rules i ++ map (placed_rule (moved_place (sym cuts i))) (drop (rule_to i) old.rules));
           places = take (place_before i) old.places ++ (same_places i ++ map (moved_place (sym cuts i)) (drop (place_to i) old.places));
           media = map (placed_media (moved_place (sym cuts i))) old.media;
         }) ∙ whole
@@ -242,7 +246,8 @@ module _ (front own new behind : List ℕ) (front_shut : is_shut_text front ≡ 
         }
 
 -- the plan that was made of what the code tests
-pub part_leads : (text put new_text own_text : List ℕ) (old : Sheet) (range : Range) (stretch : Stretch) (own : Sheet) (new : NewPart) (stop : ℕ)
+pub part_leads : (text put new_text own_text : List ℕ) (old : Sheet) (range : Range) (stretch : Stretch) (own : Sheet) (new : NewPart)
+    (stop : ℕ)
     → old ≡ sheet_of text → new_text ≡ replaced text range put → IsStretch old.rules (length text) range stretch
     → list_any (starts_between stretch.start stretch.end) old.media ≡ false
     → stop ≡ stretch.end - (range.end - range.start) + length put → own_text ≡ slice_range new_text stretch.start stop
@@ -255,7 +260,8 @@ part_leads text put new_text own_text old range stretch own new stop read replac
     nothing : (x : List ℕ) → length x ≡ 0 → x ≡ []
     nothing x e = no_length x e
 
-    by : Between text stretch.start stretch.end stretch.rules.before stretch.rules.to → LeadsTo (sheet_of new_text) (sheet_of text) (Part new)
+    by : Between text stretch.start stretch.end stretch.rules.before stretch.rules.to
+        → LeadsTo (sheet_of new_text) (sheet_of text) (Part new)
     by b =
         let old_is = ap (λ (t : List ℕ). replaced t range put) b.is in
         let spelled : new_text ≡ b.front ++ (slice_range new_text (length b.front) stop ++ b.behind) =

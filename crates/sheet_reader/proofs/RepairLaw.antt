@@ -1,5 +1,6 @@
 -- A reading of which a part is read anew is that of the new text.
-use Rattle.std.proofs.Common.{◌≡◌, ◌⊎◌, inl, inr, ℕ, zero, suc, ◌+◌, ◌-◌, ◌<◌, ◌≤◌, Bool, true, false, cond, List, [], ◌∷◌, ◌++◌, map, take, drop}
+use Rattle.std.proofs.Common.{◌≡◌, ◌⊎◌, inl, inr, ℕ, zero, suc, ◌+◌, ◌-◌, ◌<◌, ◌≤◌, Bool, true, false, cond, List, [], ◌∷◌, ◌++◌, map, take}
+use Rattle.std.proofs.Common.{drop}
 use Rattle.std.proofs.Common.{length, All, Option, Some, None, refl, sym, ap, subst, ◌∙◌, append_assoc, length-append, arith}
 use Rattle.std.specs.Prelude.{nat_le, option_map}
 use Rattle.std.specs.List.{list_any, prefix_len}
@@ -18,7 +19,8 @@ use Rattle.sheet_reader.specs.declared.sheet.Property.{Property}
 use Rattle.sheet_reader.specs.declared.sheet.Sheet.{Sheet}
 use Rattle.sheet_reader.specs.Forms.{RuleForm}
 use Rattle.sheet_reader.specs.Joins.{is_shut_text, behind_rule, behind_media, joined}
-use Rattle.sheet_reader.specs.Moves.{placed_property, placed_media, placed_rule, IsWithin, IsPropertyWithin, CanPlaceProperty, CanPlaceMedia}
+use Rattle.sheet_reader.specs.Moves.{placed_property, placed_media, placed_rule, IsWithin, IsPropertyWithin, CanPlaceProperty}
+use Rattle.sheet_reader.specs.Moves.{CanPlaceMedia}
 use Rattle.sheet_reader.specs.Moves.{CanPlaceHead, CanPlaceRule}
 use Rattle.sheet_reader.specs.Parts.{parts}
 use Rattle.sheet_reader.specs.Repairs.{starts_between, IsRuleWithin}
@@ -263,7 +265,8 @@ module _ (front own new behind : List ℕ) (front_shut : is_shut_text front ≡ 
         let g = moved_place (cut (length front) (length front + length own) (length new)) in
         let c = length (sheet_of front).media in
         elim some [
-          | inl less ↦ sym (map_both (placed_media g) (twice_media (length front) c (length own)) (twice_media (length front) c (length new))
+          | inl less ↦ sym
+              (map_both (placed_media g) (twice_media (length front) c (length own)) (twice_media (length front) c (length new))
               (media_goes (length front) (length own) (length new) less c) (sheet_of behind).media)
           | inr e ↦
               let gone : (sheet_of behind).media ≡ [] = ap (λ (t : List ℕ). (sheet_of t).media) e ∙ empty_media in

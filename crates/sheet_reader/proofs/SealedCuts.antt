@@ -460,9 +460,11 @@ close_first text place t ts kind e =
 
 -- `{` and `}` are pieces by themselves, whatever stands behind them
 pub open_piece : (rest : List ℕ) → first_piece (123 ∷ rest) ≡ Some (piece OpenCurly 1)
-unfolding first_piece comment white_space string bad_string hash numeric number_len cdc url bad_url opens_url ident cdo at_keyword mark escape_len
+unfolding first_piece comment white_space string bad_string hash numeric number_len cdc url bad_url opens_url ident cdo at_keyword mark
+    escape_len
 open_piece rest = refl
 
 pub close_piece : (rest : List ℕ) → first_piece (125 ∷ rest) ≡ Some (piece CloseCurly 1)
-unfolding first_piece comment white_space string bad_string hash numeric number_len cdc url bad_url opens_url ident cdo at_keyword mark escape_len
+unfolding first_piece comment white_space string bad_string hash numeric number_len cdc url bad_url opens_url ident cdo at_keyword mark
+    escape_len
 close_piece rest = refl

@@ -16,7 +16,8 @@ use Rattle.sheet_reader.specs.declared.parts.Level.{Level}
 use Rattle.sheet_reader.specs.declared.parts.Level.TheVariants.{Top}
 use Rattle.sheet_reader.specs.Forms.{range, RuleForm}
 use Rattle.sheet_reader.specs.Parts.{EndingForm, block, PartForm, qualified, ending_pieces, part_pieces, parts}
-use Rattle.sheet_reader.specs.Layout.{MediaForm, media_form, media_in, Laid, laid, laid_out, level_of, AreLaid, none_laid, part_laid, media_laid}
+use Rattle.sheet_reader.specs.Layout.{MediaForm, media_form, media_in, Laid, laid, laid_out, level_of, AreLaid, none_laid, part_laid}
+use Rattle.sheet_reader.specs.Layout.{media_laid}
 use Rattle.sheet_reader.specs.Joins.{is_shut_part, ends_shut, is_shut_text}
 use Rattle.sheet_reader.specs.Moves.{placed_rule}
 use Rattle.sheet_reader.specs.Sheets.{body_end, rule_of, rules_in, sheet_of}
@@ -53,7 +54,8 @@ inside : (text : List ℕ) (r : RuleForm) (q : RulePart) (around : Option ℕ) (
 unfolding rule_of
 inside text r q around k _ _ _ _ _ (here ps ls are e) some none =
     some ((head_of text around (words_after text false q.prelude) (range q.brace.end (body_end text q.close)) q.body r e).media ∙ none)
-inside text r q around k _ _ _ _ _ (past_part p ps ls rs xs more e path) some none = inside text r q around k ps ls rs xs more path some none
+inside text r q around k _ _ _ _ _
+    (past_part p ps ls rs xs more e path) some none = inside text r q around k ps ls rs xs more path some none
 inside text r q around k _ _ _ _ _ (past_media p m inner ps within ls rs xs more is own inner_are path) some none =
     inside text r q around (suc k + length (media_in text within)) ps ls rs xs more path some none
 inside text r q around k _ _ _ _ _ (in_media m first last inner ps within ls rs xs more is own path are) some none =
@@ -109,7 +111,8 @@ flat_front level (x ∷ ps) p qs shut all =
     let more = flat_front level ps p qs shut all.1 in
     (part_rest level x (flat (ps ++ p ∷ qs)) (flat (ps ++ p ∷ [])) (some level ps p qs all.1) all.0, more)
   where
-    some : (level : Level) (ps : List PartForm) (p : PartForm) (qs : List PartForm) → AreFlat level (ps ++ p ∷ qs) → flat (ps ++ p ∷ qs) ≡ [] → ⊥
+    some : (level : Level) (ps : List PartForm) (p : PartForm) (qs : List PartForm) → AreFlat level (ps ++ p ∷ qs)
+        → flat (ps ++ p ∷ qs) ≡ [] → ⊥
     some level [] p qs all = some_piece level p (flat qs) (flat qs) all.0
     some level (y ∷ ps) p qs all = some_piece level y (flat (ps ++ p ∷ qs)) (flat (ps ++ p ∷ qs)) all.0
 

@@ -17,7 +17,8 @@ use Rattle.selectors.specs.Forms.{SelectorForm, ◌>>=◌}
 use Rattle.selectors.specs.Reading.{word_value, range_of, selector_list_of, is_over}
 use Rattle.selectors.specs.Ranges.{IsRangeOf, AreBetween, AreTiles}
 use Rattle.selectors.proofs.Choices.{none_some, some_is, bind_some, passed_test, failed_test}
-use Rattle.selectors.proofs.RangeForms.{tiles_whole, tiles_order, tiles_cut, tiles_edge, between_order, between_from, between_append, range_at, AreWords}
+use Rattle.selectors.proofs.RangeForms.{tiles_whole, tiles_order, tiles_cut, tiles_edge, between_order, between_from, between_append}
+use Rattle.selectors.proofs.RangeForms.{range_at, AreWords}
 use Rattle.selectors.proofs.RangeForms.{words_between, Spans, range_spans, list_between}
 use Rattle.sheet_reader.specs.declared.sheet.Property.{Property}
 use Rattle.sheet_reader.specs.Forms.{range, RuleForm}
@@ -34,7 +35,8 @@ use Rattle.sheet_reader.specs.Sheets.{body_end, style_rule, rule_by, rule_of, is
 use Rattle.sheet_reader.specs.Sheets.{rules_in, places_in, sheet_of}
 use Rattle.sheet_reader.specs.Grammar.{IsEnding, at_text_end, at_semicolon, in_block, in_open_block, BeginsQualified, IsPart, passed_part}
 use Rattle.sheet_reader.specs.Grammar.{at_rule_part, qualified_part, AreParts, AreItems, IsShutEnding, IsShut, AreShut}
-use Rattle.sheet_reader.specs.Layout.{MediaForm, names_media, media_by, media_form, prelude_range, media_rule, media_in, Laid, laid, laid_out, AreLaid}
+use Rattle.sheet_reader.specs.Layout.{MediaForm, names_media, media_by, media_form, prelude_range, media_rule, media_in, Laid, laid}
+use Rattle.sheet_reader.specs.Layout.{laid_out, AreLaid}
 use Rattle.sheet_reader.specs.Layout.{none_laid, part_laid, media_laid}
 use Rattle.sheet_reader.specs.Usable.{IsPropertyOf, wholes_of, IsRuleOf, rule_range, AreEdgesBehind, IsSheetOf, AreDeclarationsOf}
 use Rattle.sheet_reader.proofs.GrammarForms.{parts_spelled, parts_only}

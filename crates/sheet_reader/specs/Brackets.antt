@@ -26,6 +26,17 @@ closed_by CloseSquare = Some Square
 closed_by CloseCurly = Some Curly
 closed_by _ = None
 
+-- a piece of this kind neither opens nor closes a bracket
+abbrev pub is_no_bracket : TokenKind → Bool
+is_no_bracket Function = false
+is_no_bracket OpenRound = false
+is_no_bracket OpenSquare = false
+is_no_bracket OpenCurly = false
+is_no_bracket CloseRound = false
+is_no_bracket CloseSquare = false
+is_no_bracket CloseCurly = false
+is_no_bracket _ = true
+
 -- two brackets are both round, both square, or both curly
 abbrev pub is_same : Bracket → Bracket → Bool
 is_same Round Round = true

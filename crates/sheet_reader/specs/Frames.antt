@@ -16,6 +16,10 @@ pub record FrameForm : Type 0 where
 abbrev pub frame : Option ℕ → List Token → FrameForm
 frame around left = record { left = left; around = around }
 
+-- these pieces are left at top level, and nothing else is
+abbrev pub left_at_top : List Token → List FrameForm
+left_at_top left = frame None left ∷ []
+
 -- the place behind a part at top level
 abbrev pub top_place : List ℕ → Option ℕ → PartForm → Option ℕ
 top_place text None p = place_of text p

@@ -3,7 +3,7 @@
 
 ghost use Rattle.std.specs.Prelude.{◌≡◌, ◌≤◌, ◌&&◌, [], length, OnOk, IfOk};
 ghost use Rattle.sheet_reader.specs.Brackets.{opened_by, closed_by, is_same, open_after, is_none_open, is_innermost, is_stray, stops_at};
-ghost use Rattle.sheet_reader.specs.Brackets.{until, nesting};
+ghost use Rattle.sheet_reader.specs.Brackets.{is_no_bracket, until, nesting};
 
 use css_tokens::{Token, TokenKind};
 use std::alloc::{AllocError, Global};
@@ -59,6 +59,22 @@ pub(crate) fn closed_by(kind: TokenKind) -> Option<Bracket>
         TokenKind::CloseSquare => Some(Bracket::Square),
         TokenKind::CloseCurly => Some(Bracket::Curly),
         _ => None,
+    }
+}
+
+/// Most pieces are none, and leave what is open as it is.
+fn is_no_bracket(kind: TokenKind) -> bool
+    ensures { result ≡ is_no_bracket kind }
+{
+    match kind {
+        TokenKind::Function
+        | TokenKind::OpenRound
+        | TokenKind::OpenSquare
+        | TokenKind::OpenCurly
+        | TokenKind::CloseRound
+        | TokenKind::CloseSquare
+        | TokenKind::CloseCurly => false,
+        _ => true,
     }
 }
 
@@ -167,6 +183,9 @@ pub(crate) fn until(alloc: Global, stop: Stop, pieces: &[Token]) -> Result<usize
         if brackets.stops(stop, piece.kind) {
             return Ok(n);
         }
+        if is_no_bracket(piece.kind) {
+            continue;
+        }
         brackets.pass(piece.kind)?;
     }
     Ok(pieces.len())
@@ -177,6 +196,9 @@ pub(crate) fn nesting_of(alloc: Global, pieces: &[Token]) -> Result<Nesting, All
 {
     let mut brackets = OpenBrackets::new(alloc);
     for piece in pieces {
+        if is_no_bracket(piece.kind) {
+            continue;
+        }
         if brackets.is_stray(piece.kind) {
             return Ok(Nesting::Stray);
         }

@@ -1,5 +1,6 @@
 //! Where blocks end. The block of a media rule is read for its end, and again for its parts, which may be media rules: so that
-//! no piece is passed once a level, a sheet's ends are told beforehand, by one pass from the last piece to the first.
+//! no piece is passed once a level, the ends are told beforehand from a sheet's first media rule on, by one pass from the last
+//! piece to the first.
 
 ghost use Rattle.std.specs.Prelude.{◌≡◌, ◌<◌, ◌≤◌, ◌+◌, [], ◌∷◌, Some, length, take, slice_get, IfOk};
 ghost use Rattle.sheet_reader.specs.declared.brackets.Stop.TheVariants.{BlockEnd};
@@ -121,6 +122,7 @@ pub(crate) fn closings(alloc: Global, pieces: &[Token]) -> Result<Vec<Closing>, 
 {
     let mut table = Vec::new(alloc);
     table.push(no_closing())?;
+    table.reserve(pieces.len())?;
     for n in 0..pieces.len() {
         let place = pieces.len() - 1 - n;
         let closing = closing_before(pieces[place], table.as_slice(), &pieces[place + 1..]);

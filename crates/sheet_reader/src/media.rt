@@ -38,7 +38,7 @@ pub(crate) fn level_of(around: Option<usize>) -> Level
 }
 
 /// Whether a piece is an at-keyword with the name `media`.
-fn names_media(text: &str, piece: Token) -> bool
+pub(crate) fn names_media(text: &str, piece: Token) -> bool
     requires { IsPieceOf text.now piece }
     ensures { result ≡ names_media text.now piece piece.kind }
 {

@@ -9,14 +9,14 @@ ghost use Rattle.sheet_reader.specs.Parts.{part_pieces, ending_pieces};
 ghost use Rattle.sheet_reader.specs.Forms.{rule_seen};
 ghost use Rattle.sheet_reader.specs.Sheets.{body_end, style_rule, rule_by, rule_of, is_closed_comment, passed_place, ending_place};
 ghost use Rattle.sheet_reader.specs.Sheets.{place_of, sheet_of};
-ghost use Rattle.sheet_reader.specs.Frames.{top_place, with_part, read_on, left_size, AreLeftOf, empty_sheet};
+ghost use Rattle.sheet_reader.specs.Frames.{left_at_top, top_place, with_part, read_on, left_size, AreLeftOf, empty_sheet};
 
 use crate::declarations::read_body;
 use crate::ends::{Ends, closings};
 use crate::frames::{Frame, Frames};
 use crate::lists::{MediaRules, Places, Properties, StyleRules};
-use crate::media::{level_of, open_media};
-use crate::parts::{Ending, Part, behind, part_at, part_len};
+use crate::media::{level_of, names_media, open_media};
+use crate::parts::{Ending, Level, Part, behind, part_at, part_len};
 use crate::sheet::{Sheet, StyleRule};
 use css_tokens::{Range, Token, TokenKind, all_tokens};
 use selectors::{SelErr, Words, range_of, read_list, words_among};
@@ -251,18 +251,46 @@ fn empty_sheet(alloc: Global) -> Result<Sheet, AllocError>
     })
 }
 
-/// What a text says as a style sheet.
-pub fn read_sheet(alloc: Global, text: &str) -> Result<Sheet, AllocError>
-    ensures { IfOk result (λ s. s ≡ sheet_of text.now) }
+/// Reads the parts in front of the first at-keyword `media` that begins one, and gives the pieces from there on. None of these
+/// parts has others in its block, so where it ends need not be told beforehand.
+fn read_front<'a>(
+    alloc: Global,
+    text: &str,
+    pieces: &'a [Token],
+    sheet: &mut Sheet,
+) -> Result<&'a [Token], AllocError>
+    requires { All (IsPieceOf text.now) pieces.now }
+    ensures same { IfOk result (λ left. read_on text.now sheet.new (left_at_top left.now)
+        ≡ read_on text.now sheet.old (left_at_top pieces.now)) }
+    ensures each { IfOk result (λ left. All (IsPieceOf text.now) left.now) }
 {
-    let pieces = all_tokens(alloc, text)?;
-    let left = pieces.as_slice();
+    let mut left = pieces;
+    'parts: while let [first, ..] = left {
+        if names_media(text, *first) {
+            return Ok(left);
+        }
+        let part = part_at(alloc, Level::Top, Ends::Sought, *first, left)?;
+        add_part(alloc, text, None, part, sheet)?;
+        left = behind(left, part_len(part));
+    }
+    Ok(left)
+}
+
+/// Reads what is left at top level, of which parts may be media rules.
+fn read_nested(
+    alloc: Global,
+    text: &str,
+    left: &[Token],
+    sheet: &mut Sheet,
+) -> Result<(), AllocError>
+    requires { All (IsPieceOf text.now) left.now }
+    ensures { OnOk result (sheet.new ≡ read_on text.now sheet.old (left_at_top left.now)) }
+{
     let table = closings(alloc, left)?;
     let ends = Ends::Told {
         table: table.as_slice(),
         behind: 0,
     };
-    let mut sheet = empty_sheet(alloc)?;
     let mut frames = Frames::new(alloc);
     frames.push(Frame {
         left,
@@ -270,7 +298,21 @@ pub fn read_sheet(alloc: Global, text: &str) -> Result<Sheet, AllocError>
         around: None,
     })?;
     'frames: while let Some(frame) = frames.pop() {
-        read_part(alloc, text, frame, &mut frames, &mut sheet)?;
+        read_part(alloc, text, frame, &mut frames, sheet)?;
     }
+    Ok(())
+}
+
+/// What a text says as a style sheet.
+pub fn read_sheet(alloc: Global, text: &str) -> Result<Sheet, AllocError>
+    ensures { IfOk result (λ s. s ≡ sheet_of text.now) }
+{
+    let pieces = all_tokens(alloc, text)?;
+    let mut sheet = empty_sheet(alloc)?;
+    let left = read_front(alloc, text, pieces.as_slice(), &mut sheet)?;
+    let [_, ..] = left else {
+        return Ok(sheet);
+    };
+    read_nested(alloc, text, left, &mut sheet)?;
     Ok(sheet)
 }

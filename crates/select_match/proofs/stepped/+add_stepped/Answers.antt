@@ -32,7 +32,8 @@ loop-at-init t c =
       fewer = omega (arith, ap (λ (o : Option Zipper). count_from o) first, count-first_child c.args.node.now);
       faces = λ z e. let same : c.in-Some.first ≡ z = cc in
           subst (λ (w : Zipper). SiblingsFace c.in_ok-family.family w) same (c.in_ok-family.ensures {u = tt});
-      fits = λ z e. c.requires ∙ inside-first c.args.node.now (chains_in [] (map step_seen c.args.steps.now)) (Some c.in-Some.first) first z e;
+      fits = λ z e. c.requires
+          ∙ inside-first c.args.node.now (chains_in [] (map step_seen c.args.steps.now)) (Some c.in-Some.first) first z e;
     }
 
 pub loop-at-smaller : goal.loop-at-smaller
@@ -54,7 +55,8 @@ loop-at-preserved t c =
       rest =
           parts-added c.loop-at.found.items c.add_if.new.found.items c.add_stepped.new.found.items (cond (p z) (serial_of z ∷ []) [])
           (map serial_of (filter p (below z))) (map serial_of (filter p (all_from next)))
-          (map serial_of (filter p (all_from c.loop-at.at))) ((c.in_ok-add_if.ensures {u = tt}) ∙ one) (c.in_ok-add_stepped.ensures {u = tt})
+          (map serial_of (filter p (all_from c.loop-at.at))) ((c.in_ok-add_if.ensures {u = tt}) ∙ one)
+          (c.in_ok-add_stepped.ensures {u = tt})
           (matching-step p c.loop-at.at z c.in-Some-at.is next c.next_sibling-at.ensures)
           ∙ c.loop-at.invariant.rest;
       fewer = omega (

@@ -31,7 +31,8 @@ loop-at-init t c =
       fewer = omega (arith, ap (λ (o : Option Zipper). count_from o) first, count-first_child c.args.node.now);
       faces = λ z e. let same : c.in-Some.first ≡ z = cc in
           subst (λ (w : Zipper). SiblingsFace c.in_ok-family.family w) same (c.in_ok-family.ensures {u = tt});
-      fits = λ z e. c.requires ∙ inside-first c.args.node.now (chains_in [] (map step_seen c.args.steps.now)) (Some c.in-Some.first) first z e;
+      fits = λ z e. c.requires
+          ∙ inside-first c.args.node.now (chains_in [] (map step_seen c.args.steps.now)) (Some c.in-Some.first) first z e;
     }
 
 pub returns-in-Some-2 : goal.returns-in-Some-2

@@ -2,7 +2,7 @@ use Rattle.std.proofs.Common.{◌≡◌, List, [], ◌∷◌, true, false, refl,
 use Rattle.sheet_reader.specs.declared.brackets.Bracket.{Bracket}
 use Rattle.sheet_reader.specs.declared.brackets.Nesting.TheVariants.{Open, Closed}
 use Rattle.sheet_reader.specs.Brackets.{is_none_open, nesting_of}
-use Rattle.sheet_reader.proofs.BracketLemmas.{nesting_stray, nesting_goes_on, nesting_ends}
+use Rattle.sheet_reader.proofs.BracketLemmas.{nesting_stray, nesting_skips, nesting_goes_on, nesting_ends}
 use Rattle.sheet_reader.proofs.brackets.nesting_of.Goals as goal
 
 closed : (bs : List Bracket) → is_none_open bs ≡ true → Closed ≡ nesting_of bs
@@ -12,6 +12,10 @@ closed (b ∷ bs) e = absurd (cc)
 not_closed : (bs : List Bracket) → is_none_open bs ≡ false → Open ≡ nesting_of bs
 not_closed [] e = absurd (cc)
 not_closed (b ∷ bs) e = refl
+
+pub loop-piece-preserved-then-is_no_bracket : goal.loop-piece-preserved-then-is_no_bracket
+loop-piece-preserved-then-is_no_bracket c = nesting_skips c.loop-piece.brackets c.args.pieces.now c.loop-piece.piece-index _ _ (omega arith)
+    (sym c.is_no_bracket.ensures ∙ c.if-is_no_bracket.true) c.loop-piece.invariant
 
 pub returns-then-is_stray : goal.returns-then-is_stray
 returns-then-is_stray c = nesting_stray c.loop-piece.brackets c.args.pieces.now c.loop-piece.piece-index _ _ (omega arith)

@@ -7,8 +7,9 @@ use Rattle.sheet_reader.proofs.ends.closings.Goals as goal
 
 pub loop-n-init : goal.loop-n-init
 loop-n-init c =
-    let one : c.push.new.self.items ≡ none_closing ∷ [] =
-    c.in_ok-push.ensures.items ∙ ap (λ (xs : List Closing). xs ++ c.no_closing.result ∷ []) c.new-table.ensures.items
+    let one : c.reserve.new.self.items ≡ none_closing ∷ [] =
+    c.reserve.ensures.items ∙ c.in_ok-push.ensures.items
+    ∙ ap (λ (xs : List Closing). xs ++ c.no_closing.result ∷ []) c.new-table.ensures.items
     ∙ ap (λ (x : Closing). x ∷ []) c.no_closing.ensures in
     record {
       size = ap (λ (xs : List Closing). length xs) one;

@@ -29,9 +29,11 @@ returns c =
       before = c.places_up_to.ensures.count ∙ ap (count stretch.start) c.as_slice-places.ensures;
       to = c.places_up_to-2.ensures.count ∙ ap (count stretch.end) c.as_slice-places.ensures;
       rules = c.in_ok-new_rules.ensures ∙ ap (map (placed_rule (λ place. stretch.start + place))) c.into_vec.ensures;
-      places = c.in_ok-new_places.ensures ∙ ap (map (λ place. stretch.start + place)) (c.but_first.ensures ∙ ap (drop 1) c.as_slice.ensures);
+      places = c.in_ok-new_places.ensures
+          ∙ ap (map (λ place. stretch.start + place)) (c.but_first.ensures ∙ ap (drop 1) c.as_slice.ensures);
       rule_room = record {
-        front = omega (arith, c.in_ok-with_capacity.ensures.capacity, rule_size, seen_size, c.requires.share.order, c.requires.share.inside);
+        front = omega
+            (arith, c.in_ok-with_capacity.ensures.capacity, rule_size, seen_size, c.requires.share.order, c.requires.share.inside);
         back = omega (arith, c.in_ok-with_capacity-2.ensures.capacity, rule_size, seen_size, c.requires.share.inside);
       };
       place_room = record {

@@ -1,19 +1,21 @@
-use Rattle.std.proofs.Common.{List, sym, ap, subst, ◌∙◌}
-use Rattle.sheet_reader.specs.declared.ends.Closing.{Closing}
-use Rattle.sheet_reader.specs.Ends.{AreTold}
-use Rattle.sheet_reader.specs.Frames.{read_on, AreLeftOf}
-use Rattle.sheet_reader.proofs.FrameForms.{read_ends}
-use Rattle.sheet_reader.proofs.EndForms.{all_told}
+use Rattle.std.proofs.Common.{All, None, [], sym, subst, ◌∙◌}
+use Rattle.css_tokens.specs.Marks.{IsPieceOf}
+use Rattle.sheet_reader.proofs.FrameForms.{front_read, none_left, read_ends}
 use Rattle.sheet_reader.proofs.rules.read_sheet.Goals as goal
 
-pub push-requires : goal.push-requires
-push-requires c = subst (λ (xs : List Closing). AreTold xs 0 c.as_slice-left.result.now) (sym c.as_slice.ensures.value)
-    (all_told _ _ c.in_ok-table.ensures)
+pub read_front-requires : goal.read_front-requires
+read_front-requires c = subst (All (IsPieceOf c.args.text.now)) (sym c.as_slice.ensures.value) c.in_ok-pieces.ensures.each
 
-pub read_part-requires-clause-each : goal.read_part-requires-clause-each
-read_part-requires-clause-each c = subst (AreLeftOf c.args.text.now) c.in-Some.ensures.first c.frames.invariant.each
+pub returns-in_default : goal.returns-in_default
+returns-in_default c =
+    let front = c.read_front.new.sheet in
+    let left = c.in_ok-left.left.now in
+    sym (read_ends c.args.text.now front) ∙ none_left c.args.text.now None left front [] c.in_default.len_below
+    ∙ front_read c.args.text.now c.as_slice.result.now left c.in_ok-sheet.sheet front
+    (c.as_slice.ensures.value ∙ c.in_ok-pieces.ensures.pieces) c.in_ok-sheet.ensures c.in_ok-left.ensures.same
 
 pub returns : goal.returns
 returns c =
-    sym (read_ends c.args.text.now c.frames.sheet) ∙ ap (read_on c.args.text.now c.frames.sheet) (sym c.in_default.ensures.first.0)
-    ∙ c.frames.invariant.so_far
+    c.in_ok-read_nested.ensures
+    ∙ front_read c.args.text.now c.as_slice.result.now c.in_ok-left.left.now c.in_ok-sheet.sheet c.read_front.new.sheet
+    (c.as_slice.ensures.value ∙ c.in_ok-pieces.ensures.pieces) c.in_ok-sheet.ensures c.in_ok-left.ensures.same

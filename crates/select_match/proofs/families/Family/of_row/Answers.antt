@@ -14,4 +14,5 @@ loop-at-init c = row-start c.args.first.now c.next_sibling-at.result c.next_sibl
 
 pub loop-at-preserved : goal.loop-at-preserved
 loop-at-preserved c = row-step c.args.first.now c.in-Some.other c.loop-at.at c.next_sibling-at-in-Some.result c.are_few.ensures.later
-    c.in-Some.is c.next_sibling-at-in-Some.ensures c.loop-at.after c.add-in-Some.new.self c.loop-at.invariant (c.in_ok-add-2.ensures {u = tt})
+    c.in-Some.is c.next_sibling-at-in-Some.ensures c.loop-at.after c.add-in-Some.new.self c.loop-at.invariant
+    (c.in_ok-add-2.ensures {u = tt})
