@@ -5,3 +5,4 @@ pub mod PageLemmas
 pub mod ActLemmas
 pub mod SpeltLists
 pub mod SpeltObjects
+pub mod SpeltRows

@@ -34,7 +34,7 @@ array_ended (null ∷ ts) new e = absurd cc
 array_ended (bad ∷ ts) new e = absurd cc
 
 -- no item, and the bracket
-list_end : {A : Type 0} (form : ListForm A) (x : A) (old new : List Token) → after_end_array old ≡ Some new
+pub list_end : {A : Type 0} (form : ListForm A) (x : A) (old new : List Token) → after_end_array old ≡ Some new
     → form.reads datum.no_items ≡ Some x → SpellsItems form old x new
 list_end form x old new e r = record {
   json = json.no_items;
@@ -46,12 +46,13 @@ list_end form x old new e r = record {
   reads = r;
 }
 
-neither : (a b : Bool) → a ≡ false → b ≡ false → (a || b) ≡ false
+-- neither holds
+pub neither : (a b : Bool) → a ≡ false → b ≡ false → (a || b) ≡ false
 neither true b e f = absurd cc
 neither false b e f = f
 
 -- an item, and the others behind it
-list_turn : {A B : Type 0} (one : ValueForm A) (form : ListForm B) (old middle new : List Token) (x : A) (rest all : B)
+pub list_turn : {A B : Type 0} (one : ValueForm A) (form : ListForm B) (old middle new : List Token) (x : A) (rest all : B)
     → one.levels ≤ form.levels
     → ((d : Data) (ds : Items) → one.reads d ≡ Some x → form.reads ds ≡ Some rest → form.reads (datum.item d ds) ≡ Some all)
     → ReadsAs one old x middle → SpellsItems form middle rest new → SpellsItems form old all new

@@ -1,6 +1,6 @@
 -- Objects that tokens spell: nodes, sheets and pages in their usual form.
-use Rattle.std.proofs.Common.{◌≡◌, ℕ, ◌+◌, ◌<◌, List, [], ◌∷◌, ◌++◌, append_assoc, codes, Bool, true, false, ◌||◌, cond, Option, Some, None}
-use Rattle.std.proofs.Common.{option_and_then, option_map, refl, sym, ap, ap₂, ◌∙◌, subst, arith}
+use Rattle.std.proofs.Common.{◌≡◌, ℕ, ◌+◌, ◌<◌, ◌≤◌, List, [], ◌∷◌, ◌++◌, append_assoc, codes, Bool, true, false, ◌||◌, cond, Option, Some}
+use Rattle.std.proofs.Common.{None, option_and_then, option_map, refl, sym, ap, ap₂, ◌∙◌, subst, arith}
 use Rattle.json.specs.Token.{Token, begin_object, end_object, begin_array, key, string}
 use Rattle.json.specs.Json as json
 use Rattle.json.specs.Tree.{items_tokens}
@@ -18,10 +18,12 @@ use Rattle.sheet_reader.specs.declared.book.Origin.{Origin}
 use Rattle.page_forms.specs.Mediums.{usual_medium}
 use Rattle.page_forms.specs.declared.sheets.SheetForm.{SheetForm}
 use Rattle.page_forms.specs.Sheets.{origin_word, all_origins, sheet_from}
-use Rattle.page_forms.specs.Pages.{page_with}
-use Rattle.page_forms.specs.Spelt.{FieldForm, ReadsAs, SpellsItems, SpellsField, absent, there}
+use Rattle.page_forms.specs.Pages.{page_with, page_in}
+use Rattle.page_forms.specs.Spelt.{ListForm, FieldForm, ReadsAs, SpellsItems, SpellsField, absent, there}
 use Rattle.page_forms.specs.NodeForms.{text_field, text_data, element_tokens, attribute_field, node_form, nodes_form, child_field}
-use Rattle.page_forms.specs.PageForms.{sheet_value, sheets_field_form, page_form}
+use Rattle.page_forms.specs.PageForms.{sheet_value, sheets_form, sheets_field_form, document_form, SpellsNodes, nested, in_rows, page_form}
+use Rattle.page_forms.specs.RowForms.{flat_form}
+use Rattle.page_forms.proofs.SpeltLists.{neither}
 
 -- ---- tokens of lists in an object
 
@@ -36,7 +38,7 @@ two_lists xs ys new k = append_assoc xs (k ∷ (begin_array ∷ (ys ++ end_objec
     (last_list ys new)
 
 -- a list, under its name, at the end of an object
-listed_last : (k : Token) (xs old from new : List Token) → old ≡ k ∷ (begin_array ∷ from) → from ≡ xs ++ end_object ∷ new
+pub listed_last : (k : Token) (xs old from new : List Token) → old ≡ k ∷ (begin_array ∷ from) → from ≡ xs ++ end_object ∷ new
     → old ≡ k ∷ (begin_array ∷ ((xs ++ end_object ∷ []) ++ new))
 listed_last k xs old from new e f = e ∙ ap (λ ts. k ∷ (begin_array ∷ ts)) (f ∙ sym (last_list xs new))
 
@@ -46,10 +48,6 @@ listed_twice : (k l : Token) (xs ys old from middle behind new : List Token) →
     → old ≡ k ∷ (begin_array ∷ ((xs ++ (l ∷ (begin_array ∷ (ys ++ end_object ∷ [])))) ++ new))
 listed_twice k l xs ys old from middle behind new e f g h =
     e ∙ ap (λ ts. k ∷ (begin_array ∷ ts)) (f ∙ ap (λ ts. xs ++ ts) (g ∙ ap (λ ts. l ∷ (begin_array ∷ ts)) h) ∙ sym (two_lists xs ys new l))
-
-neither : (a b : Bool) → a ≡ false → b ≡ false → (a || b) ≡ false
-neither true b e f = absurd cc
-neither false b e f = f
 
 -- ---- an element
 
@@ -174,7 +172,7 @@ leaf_spelt levels top name text b some e0 e1 e2 e3 is = record {
 }
 
 -- an element's field
-element_key : (name : List ℕ) (k : Kind) → text_field k ≡ Some name → k ≡ Element → name ≡ codes "e"
+pub element_key : (name : List ℕ) (k : Kind) → text_field k ≡ Some name → k ≡ Element → name ≡ codes "e"
 element_key name k e f = let same : Some (codes "e") ≡ Some name = sym (ap text_field f) ∙ e in cc
 
 pub element_node : (levels below : ℕ) (top : Bool) (name text : List ℕ) (k : Kind) (b : Branch Label) {old r1 r2 r3 new : List Token}
@@ -213,40 +211,88 @@ sheet_spelt word text origin e0 e1 e2 e3 e4 e5 is = record {
       (option_map (left_with (datum.member (codes "text") (datum.string text) datum.no_members)) o))) is;
 }
 
+-- a field between other tokens that are the same
+pub field_moved : {A : Type 0} (form : FieldForm A) (x : A) {old begun middle ended : List Token} → old ≡ begun → middle ≡ ended
+    → SpellsField form begun x middle → SpellsField form old x ended
+field_moved form x {old = old} {middle = middle} e f s =
+    subst (λ ts. SpellsField form old x ts) f (subst (λ ts. SpellsField form ts x middle) (sym e) s)
+
 -- ---- a page
 
-module _ (old start middle new : List Token) (n : Nodes Label) (sheets : List SheetForm) where
-  pub page_spelt : old ≡ begin_object ∷ (key (codes "document") ∷ (begin_array ∷ start)) → SpellsItems (nodes_form 60 true) start n middle
+-- the page of a list alone, and of a list with sheets beside it
+abbrev page_alone : List ℕ → Items → Data
+page_alone name ds = datum.object (datum.member name (datum.array ds) datum.no_members)
+
+abbrev page_beside : List ℕ → Items → Items → Data
+page_beside name ds es =
+    datum.object (datum.member name (datum.array ds) (datum.member (codes "sheets") (datum.array es) datum.no_members))
+
+-- A list of that name tells the nodes of a page, by itself or with sheets behind it.
+record IsFirst (name : List ℕ) (form : ListForm (Nodes Label)) : Type 0 where
+  low : form.levels ≤ 120
+  by_itself : (ds : Items) → page_in (page_alone name ds) ≡ page_with (form.reads ds) (Some usual_medium) (Some [])
+  with_more : (ds es : Items)
+      → page_in (page_beside name ds es) ≡ page_with (form.reads ds) (Some usual_medium) (sheets_form.reads es)
+  goes_behind : (d e : Data) → put (codes "sheets") e (put name d datum.no_members)
+      ≡ datum.member name d (datum.member (codes "sheets") e datum.no_members)
+
+document_first : IsFirst (codes "document") document_form
+document_first = record {
+  low = omega arith;
+  by_itself = λ ds. refl;
+  with_more = λ ds es. refl;
+  goes_behind = λ d e. refl;
+}
+
+flat_first : IsFirst (codes "flat") flat_form
+flat_first = record {
+  low = omega arith;
+  by_itself = λ ds. refl;
+  with_more = λ ds es. refl;
+  goes_behind = λ d e. refl;
+}
+
+module _ (name : List ℕ) (form : ListForm (Nodes Label)) (first : IsFirst name form) (old start middle new : List Token) (n : Nodes Label)
+    (sheets : List SheetForm) where
+  first_spelt : old ≡ begin_object ∷ (key name ∷ (begin_array ∷ start)) → SpellsItems form start n middle
       → SpellsField sheets_field_form middle sheets (end_object ∷ new)
       → ReadsAs page_form old (record { nodes = n; medium = usual_medium; sheets = sheets }) new
-  page_spelt e s (absent f g) = record {
-    json = json.object (json.member (codes "document") (json.array s.json) json.no_members);
-    value = datum.object (datum.member (codes "document") (datum.array s.items) datum.no_members);
+  first_spelt e s (absent f g) = record {
+    json = json.object (json.member name (json.array s.json) json.no_members);
+    value = page_alone name s.items;
     tokens =
-        e ∙ ap (λ ts. begin_object ∷ (key (codes "document") ∷ (begin_array ∷ ts)))
+        e ∙ ap (λ ts. begin_object ∷ (key name ∷ (begin_array ∷ ts)))
         (s.tokens ∙ ap (λ ts. items_tokens s.json ++ ts) f ∙ sym (last_list (items_tokens s.json) new));
     means = ap (λ o. option_map datum.object
-        (option_and_then (λ d. Some (put (codes "document") d datum.no_members)) (option_map datum.array o))) s.means;
-    shallow = omega (arith, s.shallow);
+        (option_and_then (λ d. Some (put name d datum.no_members)) (option_map datum.array o))) s.means;
+    shallow = omega (arith, s.shallow, first.low);
     whole = neither _ _ s.whole refl;
-    reads = ap₂ (λ o ss. page_with o (Some usual_medium) (Some ss)) s.reads (sym g);
+    reads = first.by_itself s.items ∙ ap₂ (λ o ss. page_with o (Some usual_medium) (Some ss)) s.reads (sym g);
   }
-  page_spelt e s (there from f t) = record {
-    json = json.object (json.member (codes "document") (json.array s.json)
-        (json.member (codes "sheets") (json.array t.json) json.no_members));
-    value = datum.object (datum.member (codes "document") (datum.array s.items)
-        (datum.member (codes "sheets") (datum.array t.items) datum.no_members));
+  first_spelt e s (there from f t) = record {
+    json = json.object (json.member name (json.array s.json) (json.member (codes "sheets") (json.array t.json) json.no_members));
+    value = page_beside name s.items t.items;
     tokens =
         e
         ∙ ap (λ ts. begin_object ∷ ts)
-        (listed_twice (key (codes "document")) (key (codes "sheets")) (items_tokens s.json) (items_tokens t.json)
-        (key (codes "document") ∷ (begin_array ∷ start)) start middle from new refl s.tokens f t.tokens);
+        (listed_twice (key name) (key (codes "sheets")) (items_tokens s.json) (items_tokens t.json)
+        (key name ∷ (begin_array ∷ start)) start middle from new refl s.tokens f t.tokens);
     means =
         ap₂ (λ o p. option_map datum.object
-        (option_and_then (λ a. option_and_then (λ c. Some (put (codes "sheets") c (put (codes "document") a datum.no_members)))
+        (option_and_then (λ a. option_and_then (λ c. Some (put (codes "sheets") c (put name a datum.no_members)))
         (option_map datum.array p)) (option_map datum.array o)))
-        s.means t.means;
-    shallow = omega (arith, s.shallow, t.shallow);
+        s.means t.means
+        ∙ ap (λ ms. Some (datum.object ms)) (first.goes_behind (datum.array s.items) (datum.array t.items));
+    shallow = omega (arith, s.shallow, t.shallow, first.low);
     whole = neither _ _ s.whole (neither _ _ t.whole refl);
-    reads = ap₂ (λ o ss. page_with o (Some usual_medium) ss) s.reads t.reads;
+    reads = first.with_more s.items t.items ∙ ap₂ (λ o ss. page_with o (Some usual_medium) ss) s.reads t.reads;
   }
+
+-- a page by its first field
+pub page_spelt : (old start middle new : List Token) (n : Nodes Label) (sheets : List SheetForm) → old ≡ begin_object ∷ start
+    → SpellsNodes start n middle → SpellsField sheets_field_form middle sheets (end_object ∷ new)
+    → ReadsAs page_form old (record { nodes = n; medium = usual_medium; sheets = sheets }) new
+page_spelt old start middle new n sheets e (nested from f s) t =
+    first_spelt (codes "document") document_form document_first old from middle new n sheets (e ∙ ap (λ ts. begin_object ∷ ts) f) s t
+page_spelt old start middle new n sheets e (in_rows from f s) t =
+    first_spelt (codes "flat") flat_form flat_first old from middle new n sheets (e ∙ ap (λ ts. begin_object ∷ ts) f) s t

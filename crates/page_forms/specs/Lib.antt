@@ -6,4 +6,5 @@ pub mod Pages
 pub mod Texts
 pub mod Spelt
 pub mod NodeForms
+pub mod RowForms
 pub mod PageForms

@@ -7,9 +7,11 @@ ghost use Rattle.cdp_json.specs.Left.{left};
 ghost use Rattle.cdp_json.specs.Rows.{left_with, need};
 ghost use Rattle.page_forms.specs.Acts.{set_attr_in, drop_attr_in, set_text_in, insert_in, remove_in, move_in, act_in, IsInsertable};
 ghost use Rattle.page_forms.specs.declared.acts.ActErr.TheVariants.{BadForm};
+ghost use Rattle.page_forms.specs.Texts.{ActHasTexts};
 
 use crate::mediums::medium_act_of;
 use crate::sheet_acts::{add_sheet_of, drop_sheet_of, replace_sheet_of};
+use crate::valid_texts::{form_valid, text_valid};
 use cdp_json::Cursor;
 use media_rules::Medium;
 use node_tree::Text;
@@ -73,6 +75,31 @@ pub enum Act {
     Medium {
         medium: Medium,
     },
+}
+
+impl Act {
+    /// The texts of every act are UTF-8, by their types: this call only says so to a proof. It passes once over the nodes of an
+    /// insert, and takes no memory.
+    pub fn valid(&self)
+        ensures { ActHasTexts self.now }
+    {
+        match self {
+            Act::SetAttr { name, value, .. } => {
+                text_valid(name);
+                text_valid(value);
+            }
+            Act::DropAttr { name, .. } => text_valid(name),
+            Act::SetText { value, .. } => text_valid(value),
+            Act::Insert { form, .. } => form_valid(form),
+            Act::AddSheet { text, .. } => text_valid(text),
+            Act::DropSheet { sheet } => text_valid(sheet),
+            Act::ReplaceSheet { sheet, text } => {
+                text_valid(sheet);
+                text_valid(text);
+            }
+            Act::Remove { .. } | Act::Move { .. } | Act::Medium { .. } => {}
+        }
+    }
 }
 
 /// Why a value is read as no act.

@@ -39,9 +39,9 @@ fn scan_attributes(alloc: Global, reader: &mut Reader<'_>) -> Result<Attributes,
     }
 }
 
-// What comes next in the object of an element, behind its name.
+/// What comes next in the object of an element, behind its name.
 #[derive(Clone, Copy)]
-enum Next {
+pub(crate) enum Next {
     Attributes,
     Children,
     End,
@@ -57,7 +57,8 @@ fn field_named(name: &str) -> Result<Next, ScanErr>
     }
 }
 
-fn take_next(reader: &mut Reader<'_>) -> Result<Next, ScanErr>
+/// What comes next there, taken.
+pub(crate) fn take_next(reader: &mut Reader<'_>) -> Result<Next, ScanErr>
     ensures { IfOk result (λ next. reader.old ≡ next_token next ∷ reader.new) }
 {
     match reader.next() {
@@ -67,8 +68,8 @@ fn take_next(reader: &mut Reader<'_>) -> Result<Next, ScanErr>
     }
 }
 
-// The attributes, where they are what comes next, and what comes behind them.
-fn attributes_at(
+/// The attributes, where they are what comes next, and what comes behind them.
+pub(crate) fn attributes_at(
     alloc: Global,
     reader: &mut Reader<'_>,
     next: Next,
@@ -87,8 +88,8 @@ fn attributes_at(
     }
 }
 
-// The kind of the nodes whose text has this name.
-fn kind_of_field(name: &str) -> Result<Kind, ScanErr>
+/// The kind of the nodes whose text has this name.
+pub(crate) fn kind_of_field(name: &str) -> Result<Kind, ScanErr>
     ensures { IfOk result (λ kind. text_field kind ≡ Some name.now) }
 {
     match name {

@@ -8,9 +8,11 @@ ghost use Rattle.media_rules.specs.declared.medium.Medium.{Medium};
 ghost use Rattle.page_tree.specs.Forms.{CanLoad};
 ghost use Rattle.page_tree.specs.Loads.{first_load_fault, Reads};
 ghost use Rattle.page_forms.specs.Pages.{page_row, nodes_at, sheets_at, page_with, first_page_fault, loaded_page, CanLoadPage, ReadsPage};
+ghost use Rattle.page_forms.specs.Texts.{PageHasTexts};
 
 use crate::mediums::medium_at;
 use crate::sheets::{SheetForm, can_hold_sheets, read_sheets};
+use crate::valid_texts::{forms_valid, sheets_valid};
 use cdp_json::Cursor;
 use media_rules::Medium;
 use page_tree::{LoadErr, LoadFault, NodeForm, read_flat, read_nodes};
@@ -26,6 +28,17 @@ pub struct PageForm {
     pub medium: Medium,
     /// The style sheets, in their order.
     pub sheets: Vec<SheetForm>,
+}
+
+impl PageForm {
+    /// The texts of every page are UTF-8, by their types: this call only says so to a proof. It passes once over the nodes, and
+    /// takes no memory.
+    pub fn valid(&self)
+        ensures { PageHasTexts (loaded_page self.now) }
+    {
+        forms_valid(&self.nodes);
+        sheets_valid(&self.sheets);
+    }
 }
 
 // The fields of an object that has nothing else.

@@ -1,9 +1,11 @@
 -- Slots taken out one by one, lists of serials, and trees copied out.
-use Rattle.std.proofs.Common.{◌≡◌, ℕ, zero, suc, ◌+◌, ◌-◌, ◌<◌, ◌≤◌, Bool, true, false, cond, List, [], ◌∷◌, ◌++◌, length, get_or}
-use Rattle.std.proofs.Common.{slice_get, drop, Option, Some, None, IsSome, Result, Ok, Err, OnOk, OnErr, refl, sym, ap, subst, ◌∙◌, arith}
+use Rattle.std.proofs.Common.{◌≡◌, ℕ, zero, suc, ◌+◌, ◌-◌, ◌<◌, ◌≤◌, ◌==◌, Bool, true, false, cond, List, [], ◌∷◌, ◌++◌, length, get_or}
+use Rattle.std.proofs.Common.{slice_get, drop, Option, Some, None, is_some, IsSome, Result, Ok, Err, OnOk, OnErr, refl, sym, ap, subst, ◌∙◌}
+use Rattle.std.proofs.Common.{arith}
 use Rattle.std.specs.Option.{option_map_or}
 use Rattle.std.specs.Ordering.{nat_cmp}
 use Rattle.std.specs.BTreeMap as map
+use Rattle.std.proofs.lemmas.Bool.{ne_eqb}
 use Rattle.std.proofs.lemmas.List.{drop_more, drop_all}
 use Rattle.node_tree.specs.Nodes.{Nodes, none, node, Branch, alone, nodes_of, beside, node_count}
 use Rattle.node_tree.specs.Keys.{tally}
@@ -137,6 +139,24 @@ place_le a serial (k ∷ ks) =
       | true ↦ omega arith
       | false ↦ let e = place_le a serial ks in omega arith
     ]
+
+-- where no slot has the serial, none of these keys' slots has it
+absent_key : (a : Arena) (serial k : ℕ) → Filed a → is_some (keys_in a serial) ≡ false → is_numbered a serial k ≡ false
+absent_key a serial k files gone =
+    elim (slots_in a k) as (λ (o : Option Slot). ((slot : Slot) → o ≡ Some slot → keys_in a slot.serial ≡ Some k)
+    → option_map_or (λ (slot : Slot). slot.serial == serial) o false ≡ false) [
+      | None ↦ λ h. refl
+      | Some slot ↦ λ h. ne_eqb slot.serial serial (λ same.
+          let clash : true ≡ false = sym (ap (λ (p : Option ℕ). is_some p) (sym (ap (keys_in a) same) ∙ h slot refl)) ∙ gone in
+          absurd cc)
+    ] (λ slot at. files.filed k slot at)
+
+pub place_absent : (a : Arena) (serial : ℕ) (ks : List ℕ) → Filed a → is_some (keys_in a serial) ≡ false
+    → length ks ≡ place_in a serial ks
+place_absent a serial [] files gone = refl
+place_absent a serial (k ∷ ks) files gone =
+    ap suc (place_absent a serial ks files gone)
+    ∙ sym (ap (λ (b : Bool). cond {A = ℕ} b 0 (suc (place_in a serial ks))) (absent_key a serial k files gone))
 
 -- the serials of one tree
 pub listing_of : (x : ℕ) (l new first : List ℕ) (ts : List (Branch PageRow)) (b : Branch PageRow) → l ≡ new → first ≡ [] → ts ≡ b ∷ []

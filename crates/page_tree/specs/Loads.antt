@@ -165,6 +165,13 @@ Reads (Ok forms) nodes = (nodes ≡ Some (nodes_of forms.items)) × (first_load_
 Reads (Err (Fault f)) nodes = first_load_fault nodes ≡ Some f
 Reads (Err Memory) nodes = Unit {0}
 
+-- What putting rows together answers: the nodes of these rows, or their first fault. Whether they are few and well named is not judged.
+-- Want of memory is free.
+abbrev pub Nests : Result (Vec NodeForm Global) LoadErr → Option (Nodes Label) → Type 0
+Nests (Ok forms) nodes = nodes ≡ Some (nodes_of forms.items)
+Nests (Err (Fault f)) nodes = first_load_fault nodes ≡ Some f
+Nests (Err Memory) nodes = Unit {0}
+
 -- What a read of one node answers: the node that the value spells, and BadForm where it spells none. Want of memory is free.
 abbrev pub ReadsNode : Result NodeForm LoadErr → Option (Branch Label) → Type 0
 ReadsNode (Ok form) spelt = spelt ≡ Some form

@@ -38,6 +38,18 @@ impl Arena {
         keys.len()
     }
 
+    /// The place of the first key whose slot has the serial, and else the number of the keys. Where no slot has it, as where a node is put
+    /// last, no key is looked at.
+    fn graft_place(&self, keys: &Keys, serial: u64) -> usize
+        requires { Filed self.now }
+        ensures { result ≡ place_in self.now serial keys.now }
+    {
+        if self.key(serial).is_none() {
+            return keys.len();
+        }
+        self.place(keys, serial)
+    }
+
     /// The serial of the slot under the key at place `i`, and 0 where there is none.
     fn serial_at(&self, keys: &Keys, i: usize) -> u64
         ensures { result ≡ first_in self.now (drop i keys.now) }
@@ -156,7 +168,7 @@ impl Arena {
         ensures err { OnErr result (Grown self.old self.new (alone tree)) }
     {
         let i = match self.slots.get(key) {
-            Some(slot) => self.place(&slot.children, before),
+            Some(slot) => self.graft_place(&slot.children, before),
             None => unreachable!(),
         };
         let child = self.plant(alloc, tree, Some(key))?;

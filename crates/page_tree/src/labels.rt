@@ -81,7 +81,7 @@ pub(crate) fn attributes_at(alloc: Global, v: &Value) -> Result<Option<Attribute
 }
 
 /// The label of an element.
-pub(crate) fn element_of(
+pub fn element_of(
     alloc: Global,
     name: &str,
     attributes: Attributes,
@@ -109,7 +109,7 @@ fn element_label(alloc: Global, v: &Value) -> Result<Option<NodeLabel>, AllocErr
 }
 
 /// The label of a text or a comment.
-pub(crate) fn value_label(alloc: Global, kind: Kind, value: &str) -> Result<NodeLabel, AllocError>
+pub fn value_label(alloc: Global, kind: Kind, value: &str) -> Result<NodeLabel, AllocError>
     ensures { IfOk result (λ label. label ≡ labelled kind [] value.now []) }
 {
     Ok(NodeLabel {
@@ -120,7 +120,8 @@ pub(crate) fn value_label(alloc: Global, kind: Kind, value: &str) -> Result<Node
     })
 }
 
-pub(crate) fn doctype_label(alloc: Global, name: &str) -> Result<NodeLabel, AllocError>
+/// The label of a doctype.
+pub fn doctype_label(alloc: Global, name: &str) -> Result<NodeLabel, AllocError>
     ensures { IfOk result (λ label. label ≡ labelled Doctype name.now [] []) }
 {
     Ok(NodeLabel {

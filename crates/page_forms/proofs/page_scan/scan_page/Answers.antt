@@ -1,5 +1,4 @@
-use Rattle.std.proofs.Common.{◌∷◌, ap, ◌∙◌, codes, sym, subst}
-use Rattle.json.specs.Token.{begin_object, key}
+use Rattle.std.proofs.Common.{sym, subst}
 use Rattle.node_tree.specs.Nodes.{nodes_of}
 use Rattle.media_rules.specs.declared.medium.Medium.{Medium}
 use Rattle.page_forms.specs.Spelt.{ReadsAs}
@@ -12,8 +11,6 @@ returns-clause-spelt c =
     subst (λ (m : Medium). ReadsAs page_form c.args.reader.now
     (record { nodes = nodes_of c.in_ok-nodes.nodes.items; medium = m; sheets = c.in_ok-sheets.sheets.items }) c.sheets_ahead.new.reader)
     (sym c.usual_medium-medium.ensures)
-    (page_spelt c.args.reader.now c.take_begin_array.new.reader c.scan_nodes.new.reader c.sheets_ahead.new.reader
+    (page_spelt c.args.reader.now c.take_begin_object.new.reader c.scan_first_field.new.reader c.sheets_ahead.new.reader
     (nodes_of c.in_ok-nodes.nodes.items) c.in_ok-sheets.sheets.items
-    (c.in_ok-take_begin_object.ensures ∙ ap (λ ts. begin_object ∷ ts)
-    (c.in_ok-take_key.ensures ∙ ap
-    (λ ts. key (codes "document") ∷ ts) c.in_ok-take_begin_array.ensures)) c.in_ok-nodes.ensures c.in_ok-sheets.ensures)
+    c.in_ok-take_begin_object.ensures c.in_ok-nodes.ensures c.in_ok-sheets.ensures)
