@@ -1,5 +1,5 @@
 -- The ids of searches are read as they are written.
-use Rattle.std.proofs.Common.{◌≡◌, ℕ, ◌==◌, List, [], ◌∷◌, Bool, true, false, cond, drop, Some, None, refl, sym, ap, ◌∙◌, arith, eqb-true}
+use Rattle.std.proofs.Common.{◌≡◌, ℕ, ◌==◌, List, [], ◌∷◌, Bool, true, false, cond, drop, Some, None, refl, sym, ap, eqb-true}
 use Rattle.std.specs.Prelude.{◌≢◌, decimal, IsUtf8}
 use Rattle.serde_json.specs.Data.{Data, null, boolean, number, string, array, object}
 use Rattle.cdp_json.specs.Lawful.{LawfulKind}

@@ -5,7 +5,7 @@
 //! none where it spells no such object, and a writer (`rule_value`, `header_value`) builds exactly its JSON.
 //!
 //! Way in: the types, `Listed` for each list in a public field, and a reader and a writer for each object and each result of a
-//! CSS method.
+//! CSS method; matched styles and what only they hold are written and scanned as tokens (`write_matched`, `scan_matched`).
 //!
 //! Law: `css_objects_law` (src/laws.rt, specs/Laws): what is read is spelled so and what is spelled is read, no value spells
 //! two, the JSON is UTF-8 where the texts are, and how deep each object nests.
@@ -33,8 +33,7 @@ pub use results::{
     styles_value,
 };
 pub use rules::{
-    Inherited, Matched, Rule, RuleMatch, inherited_of, inherited_value, match_of, match_value,
-    matched_of, matched_value, rule_of, rule_value,
+    Inherited, Matched, Rule, RuleMatch, inherited_of, match_of, matched_of, rule_of, rule_value,
 };
 pub use scan::scan_matched;
 pub use selectors::{

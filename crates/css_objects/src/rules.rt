@@ -14,7 +14,7 @@ use crate::media::{Media, some_media_of, some_media_value};
 use crate::selectors::{RuleSelectors, selectors_of, selectors_value};
 use crate::sheets::{SheetOrigin, origin_field, origin_value, sheet_field, sheet_value};
 use crate::styles::{Style, inline_style_of, rule_style_of, style_value};
-use cdp_json::{Cursor, ObjectBuilder, whole_list, wholes_of};
+use cdp_json::{Cursor, ObjectBuilder, wholes_of};
 use serde_json::Value;
 use std::alloc::{AllocError, Global};
 
@@ -228,19 +228,6 @@ pub fn match_of(alloc: Global, value: &Value) -> Result<Option<RuleMatch>, Alloc
     Ok(Some(RuleMatch { matching, rule }))
 }
 
-/// The match as JSON.
-pub fn match_value(alloc: Global, found: &RuleMatch) -> Result<Value, AllocError>
-    ensures { IfOk result (λ v. view v ≡ match_kind.spell found.now) }
-{
-    ObjectBuilder::new(alloc)
-        .with_value(
-            "matchingSelectors",
-            whole_list(alloc, found.matching.as_slice())?,
-        )?
-        .with_value("rule", rule_value(alloc, &found.rule)?)?
-        .build()
-}
-
 fn match_items(alloc: Global, items: &[Value]) -> Result<Option<Vec<RuleMatch>>, AllocError>
     ensures { IfOk result (λ o. option_map (λ v. v.items) o
         ≡ read_items match_kind.reads (items_view items.now)) }
@@ -253,16 +240,6 @@ fn match_items(alloc: Global, items: &[Value]) -> Result<Option<Vec<RuleMatch>>,
         matches.push(found)?;
     }
     Ok(Some(matches))
-}
-
-fn match_list(alloc: Global, matches: &[RuleMatch]) -> Result<Value, AllocError>
-    ensures { IfOk result (λ v. view v ≡ (list_of match_kind).spell matches.now) }
-{
-    let mut items = Vec::new(alloc);
-    for found in matches {
-        items.push(match_value(alloc, found)?)?;
-    }
-    Ok(Value::Array(items))
 }
 
 fn matches_field(
@@ -298,18 +275,6 @@ fn inline_if_any(
     }
 }
 
-fn inline_if_any_value(alloc: Global, style: &Option<Style>) -> Result<Option<Value>, AllocError>
-    ensures { IfOk result (λ o. option_map view o ≡ option_map inline_kind.spell style.now) }
-{
-    match style {
-        Some(style) => match style_value(alloc, style) {
-            Ok(value) => Ok(Some(value)),
-            Err(error) => Err(error),
-        },
-        None => Ok(None),
-    }
-}
-
 /// `None` where the value is no entry of inherited styles.
 pub fn inherited_of(alloc: Global, value: &Value) -> Result<Option<Inherited>, AllocError>
     ensures { IfOk result (λ o. o ≡ inherited_kind.reads (view value.now)) }
@@ -330,19 +295,6 @@ pub fn inherited_of(alloc: Global, value: &Value) -> Result<Option<Inherited>, A
     Ok(Some(Inherited { inline, rules }))
 }
 
-/// The entry as JSON.
-pub fn inherited_value(alloc: Global, entry: &Inherited) -> Result<Value, AllocError>
-    ensures { IfOk result (λ v. view v ≡ inherited_kind.spell entry.now) }
-{
-    ObjectBuilder::new(alloc)
-        .with("inlineStyle", inline_if_any_value(alloc, &entry.inline)?)?
-        .with_value(
-            "matchedCSSRules",
-            match_list(alloc, entry.rules.as_slice())?,
-        )?
-        .build()
-}
-
 fn inherited_items(alloc: Global, items: &[Value]) -> Result<Option<Vec<Inherited>>, AllocError>
     ensures { IfOk result (λ o. option_map (λ v. v.items) o
         ≡ read_items inherited_kind.reads (items_view items.now)) }
@@ -355,16 +307,6 @@ fn inherited_items(alloc: Global, items: &[Value]) -> Result<Option<Vec<Inherite
         entries.push(entry)?;
     }
     Ok(Some(entries))
-}
-
-fn inherited_list(alloc: Global, entries: &[Inherited]) -> Result<Value, AllocError>
-    ensures { IfOk result (λ v. view v ≡ (list_of inherited_kind).spell entries.now) }
-{
-    let mut items = Vec::new(alloc);
-    for entry in entries {
-        items.push(inherited_value(alloc, entry)?)?;
-    }
-    Ok(Value::Array(items))
 }
 
 fn inherited_field(
@@ -408,21 +350,4 @@ pub fn matched_of(alloc: Global, value: &Value) -> Result<Option<Matched>, Alloc
         rules,
         inherited,
     }))
-}
-
-/// The matched styles as JSON.
-pub fn matched_value(alloc: Global, matched: &Matched) -> Result<Value, AllocError>
-    ensures { IfOk result (λ v. view v ≡ matched_kind.spell matched.now) }
-{
-    ObjectBuilder::new(alloc)
-        .with_value(
-            "inherited",
-            inherited_list(alloc, matched.inherited.as_slice())?,
-        )?
-        .with("inlineStyle", inline_if_any_value(alloc, &matched.inline)?)?
-        .with_value(
-            "matchedCSSRules",
-            match_list(alloc, matched.rules.as_slice())?,
-        )?
-        .build()
 }

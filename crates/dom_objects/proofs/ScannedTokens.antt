@@ -3,7 +3,7 @@ use Rattle.std.proofs.Common.{◌≡◌, ℕ, ◌<◌, List, [], ◌∷◌, ◌+
 use Rattle.std.proofs.Common.{append_assoc, sym, ap, ap₂, ◌∙◌, arith}
 use Rattle.std.specs.Prelude.{codes}
 use Rattle.json.specs.Json.{after_end_array}
-use Rattle.json.specs.Token.{Token, begin_object, end_object, begin_array, key, string, number}
+use Rattle.json.specs.Token.{Token, begin_object, begin_array, key, string, number}
 use Rattle.serde_json.specs.Data.{Data, array, Items}
 use Rattle.cdp_json.specs.Kinds.{whole}
 use Rattle.cdp_json.proofs.TakenTokens.{items_step, items_over, shorter}

@@ -68,7 +68,7 @@ module _ {A : Type 0} (test : A → Bool) where
   passes-step x y xs later true is (in_tail _ _ i) = let r = later i in (in_tail y xs r.0, r.1)
   passes-step x y xs later false is i = let r = later i in (in_tail y xs r.0, r.1)
 
-  passes-in : (x : A) (xs : List A) → IsIn x (filter test xs) → IsIn x xs × (test x ≡ true)
+  pub passes-in : (x : A) (xs : List A) → IsIn x (filter test xs) → IsIn x xs × (test x ≡ true)
   passes-in x [] i = elim i [ ]
   passes-in x (y ∷ xs) i = passes-step x y xs (passes-in x xs) (test y) refl i
 
@@ -76,7 +76,7 @@ module _ {A : Type 0} (test : A → Bool) where
   further x y xs true i = in_tail y _ i
   further x y xs false i = i
 
-  in-passes : (x : A) (xs : List A) → IsIn x xs → test x ≡ true → IsIn x (filter test xs)
+  pub in-passes : (x : A) (xs : List A) → IsIn x xs → test x ≡ true → IsIn x (filter test xs)
   in-passes x [] i e = elim i [ ]
   in-passes x (y ∷ xs) (at_head _) e = subst (λ (b : Bool). IsIn x (cond b (x ∷ filter test xs) (filter test xs))) (sym e) (at_head _)
   in-passes x (y ∷ xs) (in_tail _ _ i) e = further x y xs (test y) (in-passes x xs i e)

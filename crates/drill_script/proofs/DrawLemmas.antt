@@ -1,7 +1,7 @@
 -- What is drawn.
 use Rattle.std.proofs.Common.{◌≡◌, ℕ, ◌+◌, ◌*◌, ◌<◌, ◌%◌, ◌/◌, sym, ap, ◌∙◌, arith}
 use Rattle.std.proofs.Math.Nat.{add-mul-mod_self_left, div-add-mod}
-use Rattle.drill_script.specs.Draws.{next_number, drawn}
+use Rattle.drill_script.specs.Draws.{drawn}
 
 -- a number that is drawn is below its limit
 pub drawn-below : (x m : ℕ) → 0 < m → drawn x m < m

@@ -1,24 +1,21 @@
 -- What each line of a drill is, that it may be carried out, and how many there are.
-use Rattle.std.proofs.Common.{◌≡◌, ℕ, zero, suc, ◌+◌, ◌-◌, ◌*◌, ◌<◌, ◌≤◌, ◌%◌, ◌^◌, min, Bool, true, List, [], ◌∷◌, ◌++◌, length}
-use Rattle.std.proofs.Common.{codes, decimal, Some, None, refl, sym, ap, ◌∙◌, subst, arith, lt-ltb}
-use Rattle.std.specs.Prelude.{IsUtf8, ⊤}
+use Rattle.std.proofs.Common.{◌≡◌, ℕ, zero, suc, ◌+◌, ◌-◌, ◌*◌, ◌<◌, ◌≤◌, ◌%◌, ◌^◌, min, true, List, [], ◌∷◌, ◌++◌, length}
+use Rattle.std.proofs.Common.{codes, Some, None, refl, arith, lt-ltb}
+use Rattle.std.specs.Prelude.{IsUtf8}
 use Rattle.std.proofs.lemmas.List.{length-append}
 use Rattle.json.proofs.Printed.Utf8.{IsUtf8-are_ascii}
 use Rattle.serde_json.specs.Data.{object, Members, depth}
-use Rattle.cdp_json.specs.Kinds.{is_counted}
 use Rattle.cdp_json.specs.Plain.{is_plain, HasUtf8}
 use Rattle.cdp_json.proofs.ReadBack.{IsUtf8-compact_text}
 use Rattle.cdp_messages.specs.Asked.{command_value}
 use Rattle.cdp_messages.proofs.Commands.{ask_plain}
-use Rattle.replay_script.specs.Forms.{LineForm, settle, up, down}
+use Rattle.replay_script.specs.Forms.{LineForm}
 use Rattle.replay_script.specs.Script.{closed_by, styles_ask}
 use Rattle.replay_script.specs.Sound.{CanSend, IsSound}
 use Rattle.drill_script.specs.Draws.{next_number, drawn}
 use Rattle.drill_script.specs.Divs.{after_divs}
-use Rattle.drill_script.specs.DrillNodes.{class_text}
-use Rattle.drill_script.specs.DrillLines.{asks_document, asks_styles, asks_watch, sets_class, asks_title}
-use Rattle.drill_script.specs.DrillLines.{asks_matched, puts_text, div_drawn}
-use Rattle.drill_script.specs.DrillLines.{turn_lines, after_turn, turns, turns_from, most_turns, drill_lines}
+use Rattle.drill_script.specs.DrillLines.{div_drawn}
+use Rattle.drill_script.specs.DrillLines.{turn_lines, after_turn, turns, most_turns, drill_lines}
 use Rattle.drill_script.specs.Given.{is_drill}
 use Rattle.drill_script.specs.LineKinds.{IsDrillLine, document, styles, watch, settling, class, title, matched, text, rising, falling}
 use Rattle.drill_script.specs.LineKinds.{AreDrillLines, serials_end, most_lines}

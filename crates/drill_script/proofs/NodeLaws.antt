@@ -1,22 +1,20 @@
 -- The nodes of a drill's page may be held by a page, and their texts are UTF-8.
-use Rattle.std.proofs.Common.{◌≡◌, ℕ, zero, suc, ◌+◌, ◌*◌, ◌<◌, ◌≤◌, ◌==◌, max, Bool, true, false, cond}
-use Rattle.std.proofs.Common.{List, [], ◌∷◌, ◌++◌, length, get_or, map}
-use Rattle.std.proofs.Common.{codes, decimal, refl, sym, ap, ◌∙◌, subst, arith, append_assoc}
+use Rattle.std.proofs.Common.{◌≡◌, ℕ, zero, suc, ◌+◌, ◌*◌, ◌<◌, ◌≤◌, ◌==◌, Bool, true, false, cond}
+use Rattle.std.proofs.Common.{List, [], ◌∷◌, ◌++◌, length, map}
+use Rattle.std.proofs.Common.{decimal, refl, sym, ap, ◌∙◌, subst, arith, append_assoc}
 use Rattle.std.specs.Prelude.{IsUtf8, ◌^◌}
 use Rattle.std.proofs.lemmas.Bool.{eqb-true}
 use Rattle.std.proofs.lemmas.Fmt.{IsAscii-decimal}
 use Rattle.std.proofs.lemmas.Str.{IsUtf8-append, IsUtf8-from_ascii}
-use Rattle.std.proofs.lemmas.List.{length-append}
 use Rattle.std.proofs.Math.Seq.{get_or-append_seam}
 use Rattle.std.proofs.Math.ListN.{get_or-append}
-use Rattle.node_tree.specs.Nodes.{Nodes, none, node, node_count, height}
-use Rattle.node_tree.specs.Labels.{Label, LabelHasUtf8}
-use Rattle.page_tree.specs.Forms.{CanLoad, are_formed, are_named, max_nodes}
+use Rattle.node_tree.specs.Nodes.{node, node_count, height}
+use Rattle.page_tree.specs.Forms.{CanLoad, are_formed, are_named}
 use Rattle.drill_script.specs.declared.divs.Div.{Div}
 use Rattle.drill_script.specs.Draws.{next_number, drawn}
-use Rattle.drill_script.specs.Divs.{body_level, last_level, level_at, place, next_div, next_divs, page_divs, AreLevels}
+use Rattle.drill_script.specs.Divs.{body_level, last_level, level_at, next_div, next_divs, page_divs, AreLevels}
 use Rattle.drill_script.specs.Hanging.{AreNumbered}
-use Rattle.drill_script.specs.DrillNodes.{element, class_text, div_label, below, drill_nodes}
+use Rattle.drill_script.specs.DrillNodes.{div_label, below, drill_nodes}
 use Rattle.drill_script.proofs.DrawLemmas.{drawn-below}
 use Rattle.drill_script.proofs.DivLemmas.{place-below, place-low, levels-next, levels-first, page-numbered, page-many}
 

@@ -1,26 +1,25 @@
 -- The page of a drill may be loaded.
 use Rattle.std.proofs.Common.{◌≡◌, ℕ, zero, suc, ◌+◌, ◌*◌, ◌<◌, ◌≤◌, ◌==◌, ◌%◌, ◌^◌, ◌&&◌, Bool, true}
 use Rattle.std.proofs.Common.{false, cond, List, [], ◌∷◌, ◌++◌, length}
-use Rattle.std.proofs.Common.{codes, decimal, refl, sym, ap, ◌∙◌, subst, arith, append_assoc, append-nil}
-use Rattle.std.specs.Prelude.{IsUtf8, All, nat_le, ◌-◌}
+use Rattle.std.proofs.Common.{codes, decimal, refl, sym, ap, ◌∙◌, subst, arith, append-nil}
+use Rattle.std.specs.Prelude.{IsUtf8, nat_le, ◌-◌}
 use Rattle.std.proofs.lemmas.Bool.Decides.{nat_tests}
 use Rattle.std.proofs.lemmas.List.Elements.{All-from_recursion}
 use Rattle.std.proofs.lemmas.Fmt.{IsAscii-decimal, length-decimal-le}
 use Rattle.std.proofs.lemmas.Str.{IsUtf8-append, IsUtf8-from_ascii}
 use Rattle.std.proofs.lemmas.List.{length-append}
 use Rattle.json.proofs.Printed.Utf8.{IsUtf8-are_ascii}
-use Rattle.node_tree.specs.Nodes.{Nodes, none, node}
+use Rattle.node_tree.specs.Nodes.{Nodes, node}
 use Rattle.node_tree.specs.Labels.{Label, LabelHasUtf8}
 use Rattle.media_rules.specs.declared.medium.Medium.{Medium}
 use Rattle.page_forms.specs.Mediums.{usual_medium}
 use Rattle.page_forms.specs.Pages.{LoadedPage, CanLoadPage}
 use Rattle.page_forms.specs.declared.sheets.SheetForm.{SheetForm}
-use Rattle.page_forms.specs.Sheets.{can_hold_sheets, is_short}
 use Rattle.page_forms.specs.Texts.{HaveTexts, PageHasTexts}
 use Rattle.sheet_reader.specs.declared.book.Origin.TheVariants.{Regular}
 use Rattle.drill_script.specs.declared.divs.Div.{Div}
 use Rattle.drill_script.specs.Divs.{page_divs}
-use Rattle.drill_script.specs.DrillNodes.{element, class_text, div_label, below, drill_nodes}
+use Rattle.drill_script.specs.DrillNodes.{element, div_label, below, drill_nodes}
 use Rattle.drill_script.specs.DrillPages.{rule_line, rule_lines, all_rules, drill_sheet, drill_page}
 use Rattle.drill_script.proofs.NodeLaws.{nodes-load, AreDigits, page-digits, numbered-utf8}
 

@@ -1,6 +1,6 @@
 -- The lines of a drill after the load of its page.
 use Rattle.std.specs.Prelude.{ℕ, zero, suc, ◌+◌, ◌-◌, ◌%◌, min, negsuc, List, [], ◌∷◌, ◌++◌, codes, decimal, Some, None}
-use Rattle.serde_json.specs.Data.{Data, unsigned, negative, number, string, object, Members, no_members, member}
+use Rattle.serde_json.specs.Data.{unsigned, negative, number, string, object, Members, no_members, member}
 use Rattle.node_tree.specs.Nodes.{none}
 use Rattle.node_tree.specs.Labels.{Label}
 use Rattle.node_tree.specs.declared.Kind.TheVariants.{Text}

@@ -1,5 +1,5 @@
 -- Which lines a drill has after the load, by cases, and how many.
-use Rattle.std.specs.Prelude.{ℕ, ◌<◌, ◌≤◌, ◌+◌, ◌*◌, List, [], ◌∷◌, length, ⊤}
+use Rattle.std.specs.Prelude.{ℕ, ◌<◌, ◌+◌, List, [], ◌∷◌, ⊤}
 use Rattle.replay_script.specs.Forms.{LineForm, up, down, settle}
 use Rattle.drill_script.specs.DrillLines.{asks_document, asks_styles, asks_watch, sets_class, asks_title, asks_matched, puts_text}
 use Rattle.drill_script.specs.Given.{most_divs}

@@ -1,7 +1,7 @@
-use Rattle.std.proofs.Common.{rules, ◌≡◌, true, Some, codes, option_map, ap, ◌∙◌}
+use Rattle.std.proofs.Common.{rules, ◌≡◌, codes, option_map, ap, ◌∙◌}
 use Rattle.cdp_json.specs.Kinds.{list_of, holds_of_some}
 use Rattle.cdp_json.proofs.Options.{both_parts}
-use Rattle.css_objects.specs.Media.{media_kind, some_media_kind, has_media, written_media}
+use Rattle.css_objects.specs.Media.{media_kind, some_media_kind, has_media}
 use Rattle.css_objects.proofs.TakenParts.{there_read, written_there}
 use Rattle.css_objects.proofs.scan.media_ahead.Goals as goal
 

@@ -1,4 +1,4 @@
-use Rattle.std.proofs.Common.{◌≡◌, ap, ◌∙◌, arith}
+use Rattle.std.proofs.Common.{ap, ◌∙◌, arith}
 use Rattle.drill_script.specs.Divs.{next_div}
 use Rattle.drill_script.proofs.DivLemmas.{drawing-step, drawing-end}
 use Rattle.drill_script.proofs.divs.draw_divs.Goals as goal

@@ -1,4 +1,4 @@
-use Rattle.std.proofs.Common.{◌<◌, length, sym, subst, arith, rules}
+use Rattle.std.proofs.Common.{◌<◌, length, sym, subst, rules}
 use Rattle.drill_script.proofs.DrawLemmas.{drawn-below}
 use Rattle.drill_script.proofs.DivLemmas.{place-below}
 use Rattle.drill_script.proofs.divs.next_div.Goals as goal

@@ -1,4 +1,4 @@
-use Rattle.std.proofs.Common.{◌≡◌, ◌++◌, ◌∷◌, [], List, ap, ◌∙◌, sym, subst}
+use Rattle.std.proofs.Common.{◌++◌, ◌∷◌, [], ap, ◌∙◌, sym, subst}
 use Rattle.drill_script.specs.DrillNodes.{drill_nodes}
 use Rattle.drill_script.specs.Hanging.{AreNumbered}
 use Rattle.drill_script.proofs.DivLemmas.{page-numbered}

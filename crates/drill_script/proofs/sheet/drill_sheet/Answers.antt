@@ -1,7 +1,5 @@
 use Rattle.std.proofs.Common.{ap, ◌∙◌}
 use Rattle.std.specs.Prelude.{string_bytes}
-use Rattle.page_forms.specs.declared.sheets.SheetForm.{SheetForm}
-use Rattle.sheet_reader.specs.declared.book.Origin.TheVariants.{Regular}
 use Rattle.drill_script.proofs.PageLaws.{sheet-of, sheet-end}
 use Rattle.drill_script.proofs.sheet.drill_sheet.Goals as goal
 

@@ -1,4 +1,4 @@
-use Rattle.std.proofs.Common.{◌<◌, sym, subst, arith, rules}
+use Rattle.std.proofs.Common.{◌<◌, sym, subst, rules}
 use Rattle.drill_script.proofs.LineLaws.{divs-some, divs-few}
 use Rattle.drill_script.proofs.DrawLemmas.{drawn-below}
 use Rattle.drill_script.proofs.course.Course.draw_div.Goals as goal

@@ -1,7 +1,7 @@
-use Rattle.std.proofs.Common.{◌<◌, ◌≡◌, ◌+◌, refl, sym, ap, ◌∙◌, arith, subst}
+use Rattle.std.proofs.Common.{refl, ap, arith}
 use Rattle.drill_script.specs.Draws.{next_number, drawn}
 use Rattle.drill_script.specs.DrillLines.{div_drawn, sets_class, asks_title, asks_matched, left_of}
-use Rattle.drill_script.proofs.LineLaws.{turn-is, turn-three, last-kind}
+use Rattle.drill_script.proofs.LineLaws.{turn-is, turn-three}
 use Rattle.drill_script.proofs.course.Course.turn.Goals as goal
 
 pub returns-in-0-clause-line : goal.returns-in-0-clause-line
