@@ -22,6 +22,10 @@ pub mod SetLemmas
 pub mod SetsLemmas
 pub mod NewlyLemmas
 pub mod ShowsLemmas
+pub mod EventLemmas
+pub mod EventOrder
+pub mod EventPushes
+pub mod EventOutcomes
 pub mod ShownLemmas
 pub mod ShownChanges
 pub mod EditsShown
@@ -29,6 +33,7 @@ pub mod EditLemmas
 pub mod EditMoves
 pub mod EditKeepers
 pub mod EditCode
+pub mod LastChild
 pub mod GrowLemmas
 pub mod ModeLemmas
 pub mod ModeQueries

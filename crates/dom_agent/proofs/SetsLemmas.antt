@@ -140,7 +140,7 @@ side_by_side (node r c t) = ap (λ l. r.serial ∷ l) (alone_now (holds r.label.
     alone_now true = refl
     alone_now false = refl
 
-one_level_each : (xs : List (Branch PageRow)) → all_levelled (map by_one xs) ≡ children_in_turn xs
+pub one_level_each : (xs : List (Branch PageRow)) → all_levelled (map by_one xs) ≡ children_in_turn xs
 one_level_each [] = refl
 one_level_each (x ∷ xs) =
     ap (λ l. l ++ all_levelled (map by_one xs)) (side_by_side x.children) ∙ ap (λ l. row_serials x.children ++ l) (one_level_each xs)

@@ -9,6 +9,7 @@ pub mod Laws
 pub mod Distances
 pub mod Sets
 pub mod Shows
+pub mod Events
 pub mod Edits
 pub mod EditLaws
 pub mod ModeEdits

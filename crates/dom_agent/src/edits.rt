@@ -1,9 +1,10 @@
 //! What an edit of the page is to a client, as events tell it.
 
-ghost use Rattle.std.specs.Prelude.{◌≡◌, ◌<◌, ◌++◌, [], ◌∷◌, None, IsSome, IfOk, OnOk};
+ghost use Rattle.std.specs.Prelude.{◌≡◌, ◌<◌, ◌≤◌, ◌++◌, [], ◌∷◌, None, IsSome, IfSome, IfOk, OnOk};
 ghost use Rattle.node_tree.specs.Numbers.{drawn_before_nodes};
 ghost use Rattle.node_tree.specs.Nodes.{Nodes};
-ghost use Rattle.page_tree.specs.Pages.{PageRow, find_in};
+ghost use Rattle.node_tree.specs.Keys.{tally};
+ghost use Rattle.page_tree.specs.Pages.{PageRow, row_serial, find_in};
 ghost use Rattle.page_tree.specs.EditFaults.{first_fault};
 ghost use Rattle.page_tree.specs.declared.edits.TreeEdit.TheVariants.{Detach};
 ghost use Rattle.shown_pages.specs.ShownPages.{shown_page};
@@ -17,7 +18,7 @@ use crate::told::tell_inserted;
 use cdp_messages::{Event, write_event};
 use node_binding::Binding;
 use page_tree::{Page, Text};
-use shown_pages::{ShownNode, Walk};
+use shown_pages::{Mode, ShownNode, Walk};
 use std::alloc::{AllocError, Global};
 
 /// Appends the event, if there is one.
@@ -98,7 +99,7 @@ fn count_of_known(binding: &Binding, node: &ShownNode<'_>) -> Option<Event>
     Some(Event::ChildNodeCountUpdated { node: id, count })
 }
 
-/// The id of the shown child right before the one of that serial, 0 where none is before it.
+/// The same among the shown children that a walk has not taken yet.
 fn id_before(binding: &Binding, walk: &mut Walk<'_>, serial: u64) -> u64
     ensures { result ≡ id_before (id_in binding.now) 0 serial walk.old }
 {
@@ -112,6 +113,42 @@ fn id_before(binding: &Binding, walk: &mut Walk<'_>, serial: u64) -> u64
     previous
 }
 
+/// The id of the shown child right before the last one, where that one has the serial; `None` says nothing. No other child is looked at,
+/// so it is not asked where texts may be hidden.
+fn id_before_last(binding: &Binding, parent: &ShownNode<'_>, serial: u64) -> Option<u64>
+    requires { tally row_serial serial parent.now.children ≤ 1 }
+    ensures { IfSome result (λ id. id ≡ id_before (id_in binding.now) 0 serial parent.now.children) }
+{
+    if let Mode::NoBlank = binding.mode() {
+        return None;
+    }
+    let count = parent.len();
+    if count == 0 {
+        return None;
+    }
+    let last = parent.child_at(count - 1)?;
+    if last.serial() != serial {
+        return None;
+    }
+    if count == 1 {
+        return Some(0);
+    }
+    let other = parent.child_at(count - 2)?;
+    Some(binding.id_of(other.serial()).unwrap_or(0))
+}
+
+/// The id of the shown child right before the one of that serial, 0 where none is before it.
+fn id_before_child(binding: &Binding, parent: &ShownNode<'_>, serial: u64) -> u64
+    requires { tally row_serial serial parent.now.children ≤ 1 }
+    ensures { result ≡ id_before (id_in binding.now) 0 serial parent.now.children }
+{
+    if let Some(id) = id_before_last(binding, parent, serial) {
+        return id;
+    }
+    let mut walk = parent.walk();
+    id_before(binding, &mut walk, serial)
+}
+
 /// Appends the event that tells the child of an opened parent.
 fn tell_came(
     alloc: Global,
@@ -120,13 +157,13 @@ fn tell_came(
     node: &ShownNode<'_>,
     out: &mut Vec<u8>,
 ) -> Result<(), AllocError>
+    requires { tally row_serial node.now.row.serial parent.now.children ≤ 1 }
     ensures { (n : Nodes PageRow) → OnOk result (out.new.items ≡ out.old.items ++ frames_of_moves
         (insertion (binding_keeper n) (family parent.now.row.serial node.now parent.now.children) binding.now ∷ [])) }
 {
     let above = binding.id_of(parent.serial()).unwrap_or(0);
     let id = binding.id_of(node.serial()).unwrap_or(0);
-    let mut walk = parent.walk();
-    let previous = id_before(binding, &mut walk, node.serial());
+    let previous = id_before_child(binding, parent, node.serial());
     tell_inserted(alloc, node, id, above, previous, out)
 }
 
@@ -147,6 +184,7 @@ pub(crate) fn tell_child(
     ensures sent { (n : Nodes PageRow) → OnOk result (out.new.items ≡ out.old.items ++ frames_of_moves
         (came_below (binding_keeper n) parent serial (shown_page binding.old.mode page.now).tree binding.old).moves) }
 {
+    page.valid();
     let mode = binding.mode();
     let above = ShownNode::at(page, parent, mode);
     if !binding.is_opened(parent) {

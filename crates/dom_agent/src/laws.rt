@@ -1,4 +1,5 @@
 ghost use Rattle.dom_agent.specs.Shows.{RequestTells};
+ghost use Rattle.dom_agent.specs.Events.{AsksShowNew, RequestTellsInOrder, PathTells, SerialsTell, FirstFoundTells, FoundTell};
 ghost use Rattle.dom_agent.specs.Sets.{DocumentOpens, RequestOpens, RequestPushes, PathOpens, PathPushes, SerialsOpen};
 ghost use Rattle.dom_agent.specs.Sets.{FirstFoundOpens, FoundOpen};
 ghost use Rattle.dom_agent.specs.EditLaws.{EditKeepsSession, EditKeepsBound, SameEditMoves, EditsAreMoves, EditDrawsOne};
@@ -28,11 +29,20 @@ pub fn serve_law()
     ensures request_pushes { RequestPushes }
     // its events, by levels
     ensures request_tells { RequestTells }
+    ensures request_in_order { RequestTellsInOrder }
     ensures path_opens { PathOpens }
     ensures path_pushes { PathPushes }
     ensures serials_open { SerialsOpen }
     ensures first_found_opens { FirstFoundOpens }
     ensures found_open { FoundOpen }
+    // the events of all of these: what they show is what became known, each node once, with the ids that follow
+    ensures show_new { AsksShowNew }
+    // those of pushes, one for each ancestor that was not opened, in the order of the nodes and from the top down; and the ids in
+    // their reply
+    ensures path_tells { PathTells }
+    ensures serials_tell { SerialsTell }
+    ensures first_found_tells { FirstFoundTells }
+    ensures found_tell { FoundTell }
     // the reply is one of the command's method
     ensures replies { RepliesAnswer }
 {}

@@ -2,7 +2,7 @@
 //!
 //! Promise: `ask` appends exactly the frames that answer a command: the reply last, but for a document's, behind which come the
 //! pieces that lie deeper than one message tells; `push` those that make a node known; `edit` makes an edit of the page and
-//! appends exactly its events, or names its fault and changes nothing.
+//! appends exactly its events, or names its fault and changes nothing; `edit_both` does so for two clients of one page.
 //!
 //! Way in: `DomAgent`, one for each client. What a command comes to is defined once, over any keeper of the opened set and the
 //! ids (`outcome`, specs/Requests), for the session and for the tables alike.
@@ -15,6 +15,7 @@
 mod agent;
 mod described;
 mod edits;
+mod edits_both;
 mod foresight;
 mod laws;
 mod openings;

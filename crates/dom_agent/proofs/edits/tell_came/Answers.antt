@@ -8,9 +8,9 @@ pub returns : goal.returns
 returns c =
     let b = c.args.binding.now in
     came_sent c.tell_inserted.result b c.args.parent.now.row.serial c.unwrap_or-above.result c.unwrap_or-id.result
-    c.id_before-previous.result
+    c.id_before_child-previous.result
     c.args.node.now c.args.parent.now.children c.args.out.now.items c.tell_inserted.new.out.items
     (c.unwrap_or-above.ensures ∙ ap (λ o. unwrap_or o 0) c.id_of.ensures ∙ ap (id_in b) c.serial.ensures)
     (c.unwrap_or-id.ensures ∙ ap (λ o. unwrap_or o 0) c.id_of-2.ensures ∙ ap (id_in b) c.serial-2.ensures)
-    (c.id_before-previous.ensures ∙ ap (λ s. id_before (id_in b) 0 s c.walk-walk.result) c.serial-3.ensures
-    ∙ ap (λ n. id_before (id_in b) 0 c.args.node.now.row.serial n) c.walk-walk.ensures) c.tell_inserted.ensures
+    (c.id_before_child-previous.ensures ∙ ap (λ s. id_before (id_in b) 0 s c.args.parent.now.children) c.serial-3.ensures)
+    c.tell_inserted.ensures

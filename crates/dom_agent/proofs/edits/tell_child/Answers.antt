@@ -1,15 +1,18 @@
-use Rattle.std.proofs.Common.{◌≡◌, ℕ, [], ◌∷◌, ◌++◌, sym, ap, ◌∙◌}
+use Rattle.std.proofs.Common.{◌≡◌, ℕ, ◌≤◌, [], ◌∷◌, ◌++◌, sym, ap, subst, ◌∙◌}
 use Rattle.node_tree.specs.Nodes.{Branch}
-use Rattle.page_tree.specs.Pages.{PageRow, node_at}
+use Rattle.node_tree.specs.Keys.{tally}
+use Rattle.page_tree.specs.Pages.{PageRow, row_serial, node_at}
 use Rattle.page_tree.specs.Edits.{children_at}
 use Rattle.page_tree.proofs.EditLemmas.{serial-live}
 use Rattle.shown_pages.specs.declared.modes.Mode.{Mode}
 use Rattle.shown_pages.specs.ShownPages.{shown_page}
+use Rattle.shown_pages.proofs.ShownTrees.{shown-valid}
 use Rattle.node_binding.specs.Bindings.{BindingValue, with_bound}
 use Rattle.client_views.specs.Moves.{frames_of_moves}
 use Rattle.dom_agent.specs.Keepers.{binding_keeper}
 use Rattle.dom_agent.specs.Edits.{Edited, family, told_count, insertion}
 use Rattle.dom_agent.proofs.EditCode.{came_shut, came_open, inserted_sent}
+use Rattle.dom_agent.proofs.LastChild.{once_below}
 use Rattle.dom_agent.proofs.edits.tell_child.Goals as goal
 
 pub returns-then-not-is_opened-clause-known : goal.returns-then-not-is_opened-clause-known
@@ -35,6 +38,15 @@ returns-then-not-is_opened-clause-sent c =
     ∙ ap (λ (d : Edited BindingValue). frames_of_moves d.moves)
     (sym (came_shut n b c.args.parent (node_at c.args.serial tree) (children_at c.args.parent tree)
     (sym (c.if-not-is_opened.ensures {u = tt})))))
+
+pub tell_came-requires : goal.tell_came-requires
+tell_came-requires c =
+    let m = c.args.binding.now.mode in
+    let page = c.args.page.now in
+    let above_is : c.at-above.result ≡ node_at c.args.parent (shown_page c.args.binding.now.mode c.args.page.now).tree =
+    c.at-above.ensures ∙ ap (λ (m : Mode). node_at c.args.parent (shown_page m c.args.page.now).tree) c.mode-mode.ensures in
+    subst (λ (x : Branch PageRow). tally row_serial c.at-node.result.row.serial x.children ≤ 1) (sym above_is)
+    (once_below (shown_page m page) (shown-valid m page c.valid.ensures) c.args.parent c.at-node.result.row.serial c.requires.parent)
 
 pub returns-clause-known : goal.returns-clause-known
 returns-clause-known c =
