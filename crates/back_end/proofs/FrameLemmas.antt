@@ -443,7 +443,7 @@ on-events true sheets = tt
 on-events false sheets = come-are-events sheets
 
 -- the reply to each of a client's edits of the tree
-asks-for : (edit : DomEdit) → AsksFor (method_name (EditDom edit)) edit
+pub asks-for : (edit : DomEdit) → AsksFor (method_name (EditDom edit)) edit
 asks-for (tree.SetAttributeValue node name value) = (refl, refl)
 asks-for (tree.RemoveAttribute node name) = (refl, refl)
 asks-for (tree.SetNodeValue node value) = (refl, refl)

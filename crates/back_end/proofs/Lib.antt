@@ -19,6 +19,7 @@ pub mod UndoSteps
 pub mod TreeSteps
 pub mod CssAnswers
 pub mod FrameLemmas
+pub mod OutsideSteps
 pub mod CommandTexts
 pub mod OwnTexts
 pub mod OwnLemmas
@@ -44,4 +45,5 @@ pub mod NoteCounts
 pub mod AskCounts
 pub mod StartLemmas
 pub mod KeptSearches
+pub mod FoundShown
 mod DomainLemmas

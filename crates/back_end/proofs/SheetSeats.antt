@@ -604,20 +604,21 @@ pub load-stands : (d d1 : Desk) (s s1 : PageSide) (state : State) (page : Loaded
     → s1.sheets.next ≡ s.sheets.next + length page.sheets → s1.sheets.medium ≡ page.medium
     → d1.is_on ≡ d.is_on → d1.css ≡ d.css → d1.watches ≡ unwatched → d1.searches ≡ forgotten d.searches → d1.agent ≡ cleared d.agent
     → DeskStandsFor d1 s1 (load_step page state).state
-load-stands d d1 s s1 state page stands can texts page_is sheets_are next_is medium_is on_is css_is watches_is searches_is agent_is = record {
-  now = load-is state page stands.now can texts;
-  page_is = page_is ∙ ap (λ (p : PageValue). loaded p.next page.nodes) stands.page_is;
-  sheets_are = sheets_are ∙ ap (λ n. as_book (numbered_sheets n page.sheets)) stands.next_is;
-  next_is = next_is ∙ ap (λ n. n + length page.sheets) stands.next_is;
-  medium_is = medium_is;
-  on_is = on_is ∙ stands.on_is;
-  mode_is = ap (λ (b : BindingValue). b.mode) agent_is ∙ stands.mode_is;
-  css_is = css_is ∙ stands.css_is ∙ both-on state.client.css_on state.client.dom_on stands.now.css_off;
-  watches_are = watches_is;
-  searches_are = searches_is ∙ ap forgotten stands.searches_are;
-  stands = subst (λ a. Stands (nodes_shown (load_step page state).state) (reset state.client.session) a) (sym agent_is)
-      (Stands-reset (nodes_shown state) (nodes_shown (load_step page state).state) state.client.session d.agent stands.stands);
-}
+load-stands d d1 s s1 state page stands can texts page_is sheets_are next_is medium_is on_is css_is watches_is
+    searches_is agent_is = record {
+      now = load-is state page stands.now can texts;
+      page_is = page_is ∙ ap (λ (p : PageValue). loaded p.next page.nodes) stands.page_is;
+      sheets_are = sheets_are ∙ ap (λ n. as_book (numbered_sheets n page.sheets)) stands.next_is;
+      next_is = next_is ∙ ap (λ n. n + length page.sheets) stands.next_is;
+      medium_is = medium_is;
+      on_is = on_is ∙ stands.on_is;
+      mode_is = ap (λ (b : BindingValue). b.mode) agent_is ∙ stands.mode_is;
+      css_is = css_is ∙ stands.css_is ∙ both-on state.client.css_on state.client.dom_on stands.now.css_off;
+      watches_are = watches_is;
+      searches_are = searches_is ∙ ap forgotten stands.searches_are;
+      stands = subst (λ a. Stands (nodes_shown (load_step page state).state) (reset state.client.session) a) (sym agent_is)
+          (Stands-reset (nodes_shown state) (nodes_shown (load_step page state).state) state.client.session d.agent stands.stands);
+    }
   where
     both-on : (c on : Bool) → (on ≡ false → c ≡ false) → c ≡ (c && on)
     both-on true true off = refl

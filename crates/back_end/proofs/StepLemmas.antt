@@ -181,7 +181,7 @@ EditsHaveTexts [] = ⊤
 EditsHaveTexts (e ∷ es) = EditHasTexts e × EditsHaveTexts es
 
 -- an edit by a script: a pause, where it comes to one, and then the edit
-script-well : (state : State) (e : TreeEdit) → HoldsNow state → HasNumbers state → length state.client.session.pushed + 200001 < 2 ^ 52
+pub script-well : (state : State) (e : TreeEdit) → HoldsNow state → HasNumbers state → length state.client.session.pushed + 200001 < 2 ^ 52
     → CanApply state.side.page.next e state.side.page.tree → EditHasTexts e
     → Well state (script_step e state) 200001 0 0 × ((script_step e state).state.side.page ≡ after e state.side.page)
 script-well state e is low ids can texts =

@@ -109,7 +109,7 @@ lowered-texts (dom.RemoveNode node) texts = tt
 lowered-texts (dom.MoveTo node target before) texts = tt
 lowered-texts (dom.CopyTo node target before) texts = tt
 
-lowered-asks : (method : List ℕ) (edit : DomEdit) → AsksFor method edit → AsksFor method (lowered edit)
+pub lowered-asks : (method : List ℕ) (edit : DomEdit) → AsksFor method edit → AsksFor method (lowered edit)
 lowered-asks method (dom.SetAttributeValue node name value) asks = asks
 lowered-asks method (dom.RemoveAttribute node name) asks = asks
 lowered-asks method (dom.SetNodeValue node value) asks = asks
@@ -144,7 +144,7 @@ put-named P edit serials node (Some s) (Some t) None e is has h = no-ok UnknownN
 put-named P edit serials node (Some s) (Some t) (Some b) e is has h =
     (subst P (same-ok (edit s t b) e h) (has s t b), record { id = node; serial = s; is = is })
 
-named-is : (method : List ℕ) (serials : ℕ → Option ℕ) (edit : DomEdit) (e : TreeWish) → HasTreeTexts edit → AsksFor method edit
+pub named-is : (method : List ℕ) (serials : ℕ → Option ℕ) (edit : DomEdit) (e : TreeWish) → HasTreeTexts edit → AsksFor method edit
     → edit_named serials edit ≡ Ok e → IsNamed method e × HasKnown serials
 named-is method serials (dom.SetAttributeValue node name value) e texts asks h =
     one-named (IsNamed method) (λ s. One (SetAttr s name value)) serials node (serials node) e refl (λ s. (texts, λ next tree. tt, asks)) h

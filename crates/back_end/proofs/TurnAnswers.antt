@@ -163,7 +163,7 @@ pause-events (Some p) state =
     (events-append first.moves (push_steps p.target first.state).moves (push-events p.node state) (pushes-events p.target first.state))
     (tt, tt)
 
-script-events : (e : TreeEdit) (state : State) → AreEvents (script_step e state).moves
+pub script-events : (e : TreeEdit) (state : State) → AreEvents (script_step e state).moves
 script-events e state =
     let pause : Option Pause = pause_of state.client.watched state.side.page.tree e in
     let paused = pause_step pause state in

@@ -5,6 +5,7 @@ pub mod Plans
 pub mod OwnMethods
 pub mod Steps
 pub mod Laws
+pub mod Outside
 pub mod Seats
 pub mod Starts
 pub mod SearchLaws

@@ -1,6 +1,7 @@
 // The laws of steps, which make no call.
 ghost use Rattle.back_end.specs.Laws.{FramesStepWell, TurnsStepWell, UndoRestores};
-ghost use Rattle.back_end.specs.SearchLaws.{EditsKeepFound, AsksKeepFound, FoundIsForgotten};
+ghost use Rattle.back_end.specs.SearchLaws.{SearchesFindShown, SearchesKeepFound, EditsKeepFound, AsksKeepFound, FoundIsForgotten};
+ghost use Rattle.back_end.specs.Outside.{OutsideStepsWell, TurnsLeadAlike};
 ghost use Rattle.back_end.specs.Starts.{StartIsState, NewSeatsStand, SheetNumbersDiffer};
 
 /// After each step the state is valid, its history too, its moves lead from what the client saw to what it sees then, a frame is
@@ -24,10 +25,22 @@ pub fn start_law()
     ensures numbers { SheetNumbersDiffer }
 {}
 
-/// What a search found stays as it is through edits of the tree and of sheets, whoever makes them, and through what is asked of nodes;
-/// it goes with DOM and with the page. A node that is gone or hidden is answered by 0 then.
+/// A search finds exactly the nodes that the client is shown, are not the document and have the query as a part of one of their texts or
+/// are matched by it; each once, in document order. It keeps them under the number that it gets. What it found stays as it is through
+/// edits of the tree and of sheets, whoever makes them, and through what is asked of nodes; it goes with DOM and with the page. A node
+/// that is gone or hidden is answered by 0 then.
 pub fn search_law()
+    ensures finds { SearchesFindShown }
+    ensures keeps { SearchesKeepFound }
     ensures edits { EditsKeepFound }
     ensures asks { AsksKeepFound }
     ensures forgets { FoundIsForgotten }
+{}
+
+/// What one client's frame makes of the page is a step of every other client of the same page: the state after it is valid, the page's
+/// side is the same for both, its moves lead from what that client saw to what it sees then, and it answers nothing. What a script
+/// does leads the page to the same, whoever is its client.
+pub fn outside_law()
+    ensures steps { OutsideStepsWell }
+    ensures alike { TurnsLeadAlike }
 {}

@@ -8,8 +8,9 @@
 //!
 //! Laws, in src/laws.rt: `step_law` (after each step the state is valid, its moves lead from what the client saw to what it
 //! sees, a frame is answered once under its id), `undo_law` (an undo leads to the very tree and texts that were saved, a redo
-//! to those after) and `search_law` (no edit changes what a search found). A state stands in specs/States, each step in
-//! specs/Steps, when a seat stands for a state in specs/Seats, room in specs/Laws.
+//! to those after), `search_law` (a search finds exactly the shown nodes that its query finds, and no edit changes what it
+//! found) and `outside_law` (what one client's frame makes of the page is a step of every other client). A state stands in
+//! specs/States, each step in specs/Steps, when a seat stands for a state in specs/Seats, room in specs/Laws.
 #![tactic(auto)]
 
 mod breakpoints;
@@ -33,7 +34,7 @@ mod trees;
 mod undoing;
 
 pub use faults::ActFault;
-pub use laws::{search_law, start_law, step_law, undo_law};
+pub use laws::{outside_law, search_law, start_law, step_law, undo_law};
 pub use page_forms::{Act, ActErr, PageForm, SheetForm, read_act, read_page};
 pub use page_tree::EditFault;
 pub use seat::Seat;

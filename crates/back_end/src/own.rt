@@ -1,7 +1,6 @@
 // Our own two methods, by which a client without a script loads a page and changes it.
 ghost use Rattle.std.specs.Prelude.{◌≡◌, ◌++◌, Some, IfOk, OnOk};
 ghost use Rattle.serde_json.specs.View.{view};
-ghost use Rattle.cdp_json.specs.Plain.{HasUtf8};
 ghost use Rattle.page_forms.specs.Acts.{IsInsertable};
 ghost use Rattle.page_forms.specs.Pages.{loaded_page, CanLoadPage};
 ghost use Rattle.cdp_messages.specs.Answers.{Commands};
@@ -10,7 +9,6 @@ ghost use Rattle.back_end.specs.OwnMethods.{act_why, edit_why, sheet_why, load_w
 ghost use Rattle.cdp_messages.specs.declared.command.Command.TheVariants as commands;
 ghost use Rattle.back_end.specs.States.{State};
 ghost use Rattle.back_end.specs.Steps.{command_step, judged_step};
-ghost use Rattle.back_end.specs.Texts.{PageHasTexts, ActHasTexts};
 ghost use Rattle.back_end.specs.Seats.{BothStandFor, DeskStandsFor, HasNumbersLeft};
 
 use crate::desk::Desk;
@@ -18,7 +16,7 @@ use crate::faults::ActFault;
 use crate::side::PageSide;
 use cdp_json::all_whole;
 use cdp_messages::{CommandErr, Param, ReplyBody, Why, write_reply};
-use page_forms::{Act, ActErr, PageForm, read_act, read_page, texts_law};
+use page_forms::{Act, ActErr, PageForm, read_act, read_page};
 use page_tree::{EditFault, LoadErr, LoadFault};
 use serde_json::Value;
 use std::alloc::{AllocError, Global};
@@ -83,15 +81,12 @@ fn act_why(fault: ActFault) -> Why
 
 /// The page that the parameters of a load spell.
 fn asked_page(alloc: Global, params: &Value) -> Result<PageForm, CommandErr>
-    requires texts { HasUtf8 (view params.now) }
     ensures finds { Finds loaded_page result (load_asked (view params.now)) }
     ensures fit { IfOk result (λ page. CanLoadPage (loaded_page page)) }
-    ensures texts { IfOk result (λ page. PageHasTexts (loaded_page page)) }
 {
     if !all_whole(params) {
         return Err(CommandErr::Refused(Why::BadParam(Param::Params)));
     }
-    texts_law();
     match read_page(alloc, params) {
         Ok(page) => Ok(page),
         Err(LoadErr::Fault(fault)) => Err(CommandErr::Refused(load_why(fault))),
@@ -101,15 +96,12 @@ fn asked_page(alloc: Global, params: &Value) -> Result<PageForm, CommandErr>
 
 /// The act that the parameters spell, whatever the page is.
 fn asked_act(alloc: Global, params: &Value) -> Result<Act, CommandErr>
-    requires texts { HasUtf8 (view params.now) }
     ensures finds { Commands result (act_read (view params.now)) }
     ensures fit { IfOk result IsInsertable }
-    ensures texts { IfOk result ActHasTexts }
 {
     if !all_whole(params) {
         return Err(CommandErr::Refused(Why::BadParam(Param::Params)));
     }
-    texts_law();
     match read_act(alloc, params) {
         Ok(act) => Ok(act),
         Err(ActErr::BadForm) => Err(CommandErr::Refused(Why::BadParam(Param::Params))),
@@ -127,7 +119,6 @@ impl Desk {
         params: &Value,
         out: &mut Vec<u8>,
     ) -> Result<(), AllocError>
-        requires texts { HasUtf8 (view params.now) }
         requires room { HasNumbersLeft self.old side.old }
         ensures stands { (state : State) → BothStandFor self.old history.old side.old state
             → OnOk result (BothStandFor self.new history.new side.new
@@ -156,7 +147,6 @@ impl Desk {
         params: &Value,
         out: &mut Vec<u8>,
     ) -> Result<(), AllocError>
-        requires texts { HasUtf8 (view params.now) }
         requires room { HasNumbersLeft self.old side.old }
         ensures stands { (state : State) → BothStandFor self.old history.old side.old state
             → OnOk result (BothStandFor self.new history.new side.new
@@ -182,7 +172,6 @@ impl Desk {
         out: &mut Vec<u8>,
     ) -> Result<(), AllocError>
         requires form { IsInsertable act }
-        requires texts { ActHasTexts act }
         requires room { HasNumbersLeft self.old side.old }
         ensures stands { (state : State) → BothStandFor self.old history.old side.old state
             → OnOk result (BothStandFor self.new history.new side.new (judged_step id act state).state) }

@@ -5,7 +5,7 @@ ghost use Rattle.page_tree.specs.EditFaults.{CanApply};
 ghost use Rattle.page_tree.specs.Edits.{after, back_tree};
 ghost use Rattle.client_views.specs.Moves.{met, frames_of_moves};
 ghost use Rattle.back_end.specs.States.{State, page_nodes};
-ghost use Rattle.back_end.specs.Steps.{pause_before, pause_step, push_step, script_step};
+ghost use Rattle.back_end.specs.Steps.{pause_before, pause_step, script_step};
 ghost use Rattle.back_end.specs.Texts.{EditHasTexts};
 ghost use Rattle.back_end.specs.Seats.{HasBegun, IsPause, attribute_pause, removal_pause, subtree_watch_pause, DeskStandsFor};
 

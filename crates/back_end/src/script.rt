@@ -10,7 +10,7 @@ ghost use Rattle.client_views.specs.Moves.{clear, frames_of_moves};
 ghost use Rattle.back_end.specs.States.{State};
 ghost use Rattle.back_end.specs.Plans.{edit_fault, act_fault};
 ghost use Rattle.back_end.specs.Steps.{act_step, edit_step, load_step, lone_step, watches_left, watches_of_text};
-ghost use Rattle.back_end.specs.Texts.{PageHasTexts, FormHasTexts, ActHasTexts, EditHasTexts};
+ghost use Rattle.back_end.specs.Texts.{FormHasTexts, EditHasTexts};
 ghost use Rattle.back_end.specs.Seats.{DeskStandsFor, HasNumbersLeft};
 
 use crate::desk::Desk;
@@ -176,7 +176,6 @@ impl Desk {
         out: &mut Vec<u8>,
     ) -> Result<Option<ActFault>, AllocError>
         requires form { IsInsertable act }
-        requires texts { ActHasTexts act }
         requires room { HasNumbersLeft self.old side.old }
         ensures fault { IfOk result (λ fault. fault ≡ act_fault act side.old.page side.old.sheets.entries) }
         ensures stands { (state : State) → DeskStandsFor self.old side.old state
@@ -184,6 +183,7 @@ impl Desk {
         ensures sent { (state : State) → DeskStandsFor self.old side.old state
             → OnOk result (out.new.items ≡ out.old.items ++ frames_of_moves (act_step act state).moves) }
     {
+        act.valid();
         match act {
             Act::SetAttr { node, name, value } => {
                 self.edit(side, TreeEdit::SetAttr { node, name, value }, out)
@@ -221,7 +221,6 @@ impl Desk {
         out: &mut Vec<u8>,
     ) -> Result<(), AllocError>
         requires can { CanLoadPage (loaded_page form) }
-        requires texts { PageHasTexts (loaded_page form) }
         requires room { HasNumbersLeft self.old side.old }
         ensures stands { (state : State) → DeskStandsFor self.old side.old state
             → OnOk result (DeskStandsFor self.new side.new (load_step (loaded_page form) state).state) }
@@ -229,6 +228,7 @@ impl Desk {
             → OnOk result (out.new.items ≡ out.old.items ++ frames_of_moves (load_step (loaded_page form) state).moves) }
     {
         side.page.valid();
+        form.valid();
         let serial = side.page.next_serial();
         let loaded = PageSide::loaded(self.alloc, serial, side.sheets.next_number(), form)?;
         self.tell_load(out)?;

@@ -9,7 +9,6 @@ ghost use Rattle.client_views.specs.Moves.{frames_of_moves};
 ghost use Rattle.back_end.specs.States.{State};
 ghost use Rattle.back_end.specs.Plans.{act_fault};
 ghost use Rattle.back_end.specs.Steps.{act_step, frame_step, load_step};
-ghost use Rattle.back_end.specs.Texts.{PageHasTexts, ActHasTexts};
 ghost use Rattle.back_end.specs.Seats.{StandsFor, IsSeated, HasRoomLeft};
 
 use crate::desk::Desk;
@@ -109,7 +108,6 @@ impl Seat {
         out: &mut Vec<u8>,
     ) -> Result<Option<ActFault>, AllocError>
         requires form { IsInsertable act }
-        requires texts { ActHasTexts act }
         requires room { HasRoomLeft self.old side.old }
         ensures fault { IfOk result (λ fault. fault ≡ act_fault act side.old.page side.old.sheets.entries) }
         ensures seated { IsSeated self.old side.old → IsSeated self.new side.new }
@@ -143,7 +141,6 @@ impl Seat {
         out: &mut Vec<u8>,
     ) -> Result<(), AllocError>
         requires can { CanLoadPage (loaded_page form) }
-        requires texts { PageHasTexts (loaded_page form) }
         requires room { HasRoomLeft self.old side.old }
         ensures seated { IsSeated self.old side.old → IsSeated self.new side.new }
         ensures stands { (state : State) → StandsFor self.old side.old state

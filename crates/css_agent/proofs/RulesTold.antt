@@ -1,5 +1,5 @@
 -- The style rules that a reply tells of are there.
-use Rattle.std.proofs.Common.{◌≡◌, List, [], ◌∷◌, All, map, Option, Some, None, Ok, Err, refl}
+use Rattle.std.proofs.Common.{◌≡◌, List, [], All, map, Option, Some, None, Ok, Err, refl}
 use Rattle.std.specs.Prelude.{slice_get, option_map, option_and_then, unwrap_or, IsSome, IsSomeAnd}
 use Rattle.std.proofs.lemmas.List.Elements.{All-nil, All-cons, All-weaker}
 use Rattle.css_objects.specs.declared.rules.Rule.{Rule}

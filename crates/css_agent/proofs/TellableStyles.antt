@@ -1,7 +1,7 @@
 -- What the domain tells can be spelled: numbers of messages, UTF-8 texts, and the forms of its objects.
 use Rattle.std.proofs.Common.{◌≡◌, ℕ, zero, suc, ◌+◌, ◌*◌, ◌^◌, ◌<◌, ◌≤◌, ◌==◌, Bool, true, false, cond, not, ◌&&◌, nat_lt, nat_cmp, codes}
 use Rattle.std.proofs.Common.{List, [], ◌∷◌, ◌++◌, length, map, take, reverse, Option, Some, None, Ordering, Less, Equal, Greater, refl}
-use Rattle.std.proofs.Common.{sym, ap, subst, arith}
+use Rattle.std.proofs.Common.{subst, arith}
 use Rattle.std.specs.Prelude.{⊤, All, IfSome, slice_get, option_map, option_to_list, option_and_then, unwrap_or}
 use Rattle.std.specs.List.{AllByRecursion, list_all, filter_map, cons_option, sum_by, prefix_len, find}
 use Rattle.std.specs.Ordering.{match_ordering}
@@ -26,7 +26,7 @@ use Rattle.css_objects.specs.declared.rules.Inherited.{Inherited}
 use Rattle.css_objects.specs.Sheets.{is_sheet}
 use Rattle.css_objects.specs.declared.media.Media.{Media}
 use Rattle.css_objects.specs.Ranges.{range_kind}
-use Rattle.css_objects.specs.Media.{media_kind, has_media, some_media_kind, written_media}
+use Rattle.css_objects.specs.Media.{media_kind, some_media_kind, written_media}
 use Rattle.css_objects.specs.Selectors.{weight_kind, selector_kind, selectors_kind}
 use Rattle.css_objects.specs.Styles.{property_kind, is_ranged, is_rangeless, inline_kind, rule_style_kind}
 use Rattle.css_objects.specs.Rules.{rule_kind, starts_above, ascend, match_kind, inherited_kind, matched_kind}

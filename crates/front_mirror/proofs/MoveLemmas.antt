@@ -25,7 +25,7 @@ use Rattle.dom_objects.specs.Tellable.{suits_tree}
 use Rattle.cdp_messages.specs.Laws.{BodyHasUtf8, body_height, answers}
 use Rattle.client_views.specs.Moves as move
 use Rattle.client_views.specs.Moves.{Move, change_news, move_text, answered_by, paused_nodes, AreShown, suits_view, IsTellable, CanBeTold}
-use Rattle.client_views.specs.Moves.{target_nodes, ChangesNode, IsPlainReply, Moves, Course, ends, goes}
+use Rattle.client_views.specs.Moves.{target_nodes, ChangesNode, IsPlainReply, Course, ends, goes}
 use Rattle.css_objects.specs.Sheets.{is_sheet}
 use Rattle.client_views.specs.Views.{ShownSheet, sheet_number, AreSheets, text_units, sheet_header, shows_sheet, shown_text, sheets_without}
 use Rattle.client_views.specs.Views.{sheets_with_text, is_distinct, View}

@@ -87,10 +87,14 @@ pub record Turns (before : Nodes Seen) (change : Change) (after : Nodes Seen) : 
 
 -- ---- faces
 
+-- one where the test holds, else nothing
+abbrev pub one_where : Bool → ℕ
+one_where test = cond {A = ℕ} test 1 0
+
 -- how many nodes pass the test
 abbrev pub count_where : (Seen → Bool) → Nodes Seen → ℕ
 count_where test none = 0
-count_where test (node r c t) = cond {A = ℕ} (test r) 1 0 + count_where test c + count_where test t
+count_where test (node r c t) = one_where (test r) + count_where test c + count_where test t
 
 -- a text
 abbrev pub is_text : Kind → Bool

@@ -1,4 +1,4 @@
-ghost use Rattle.std.specs.Prelude.{◌≡◌, ◌<◌, ◌^◌, ◌+◌, ◌↔◌, [], length, slice_get, codes, IsTrue, IsErr, Some, None, Ok, Err, true};
+ghost use Rattle.std.specs.Prelude.{◌≡◌, ◌<◌, ◌+◌, ◌↔◌, [], length, slice_get, codes, IsTrue, IsErr, Some, None, Ok, Err, true};
 ghost use Rattle.std.specs.Prelude.{option_map, option_copied, map, is_some, false, IfOk, OnOk, OnErr};
 ghost use Rattle.front_mirror.specs.Panels.{face};
 ghost use Rattle.front_mirror.specs.Places.{open_at, closed_at};

@@ -9,9 +9,9 @@ use Rattle.node_tree.specs.Seen.{Hold, leaf, counted, opened, Seen, shows_count}
 use Rattle.client_views.specs.Views.{IsMirror}
 use Rattle.front_mirror.specs.Shown.{known_at, root_id}
 use Rattle.front_mirror.specs.Panels.{NodeTurns, Opens, Gains, Differs, hold_form, count_where, Numbers, numbers_of, is_text, is_comment}
-use Rattle.front_mirror.specs.Panels.{numbers_text, counts_text}
+use Rattle.front_mirror.specs.Panels.{numbers_text, counts_text, one_where}
 use Rattle.front_mirror.proofs.GrowLemmas.{Grown, first, deeper, further, grown_place, grown-at}
-use Rattle.panels.specs.Numbers.{AreSmall, one_where, plus}
+use Rattle.panels.specs.Numbers.{AreSmall, plus}
 use Rattle.panels.proofs.ChangedNodes.{bare-at, unopened_none, shut_unopened, grown-stands}
 use Rattle.panels.proofs.NumberLemmas.{same_numbers}
 use Rattle.panels.proofs.RootLemmas.{root_alone}

@@ -7,8 +7,8 @@ use Rattle.node_tree.specs.Labels.{is_element, is_doctype}
 use Rattle.node_tree.specs.Seen.{Seen, shows_count}
 use Rattle.client_views.specs.Views.{IsMirror}
 use Rattle.front_mirror.specs.Shown.{known_at, root_id}
-use Rattle.front_mirror.specs.Panels.{Numbers, numbers_of, is_text, is_comment}
-use Rattle.panels.specs.Numbers.{no_numbers, one_where, row_numbers, plus}
+use Rattle.front_mirror.specs.Panels.{Numbers, numbers_of, is_text, is_comment, one_where}
+use Rattle.panels.specs.Numbers.{no_numbers, row_numbers, plus}
 use Rattle.front_mirror.proofs.ChildLemmas.{ChildFound, child_is}
 use Rattle.panels.proofs.ListLemmas.{from-tree}
 use Rattle.panels.proofs.RootLemmas.{root_alone}

@@ -1,12 +1,12 @@
 -- Numbers of nodes as code holds them, and their sums.
-use Rattle.std.specs.Prelude.{◌≡◌, ◌<◌, ℕ, ◌+◌, Bool, true, cond, List, [], ◌∷◌, ◌++◌, codes, Option, Some, None, Result, IfOk}
+use Rattle.std.specs.Prelude.{◌≡◌, ◌<◌, ℕ, ◌+◌, Bool, true, List, [], ◌∷◌, ◌++◌, codes, Option, Some, None, Result, IfOk}
 use Rattle.std.specs.declared.alloc.AllocError.{AllocError}
 use Rattle.node_tree.specs.Numbers.{number_limit}
 use Rattle.node_tree.specs.Nodes.{Nodes}
 use Rattle.node_tree.specs.Labels.{is_element, is_doctype}
 use Rattle.node_tree.specs.Seen.{Seen, shows_count}
 use Rattle.front_mirror.specs.declared.panels.Change.{Change}
-use Rattle.front_mirror.specs.Panels.{Numbers, numbers_of, numbers_text, is_text, is_comment, Turns}
+use Rattle.front_mirror.specs.Panels.{one_where, Numbers, numbers_of, numbers_text, is_text, is_comment, Turns}
 use Rattle.panels.specs.declared.numbers.Tally.{Tally}
 
 -- the numbers that code holds
@@ -22,10 +22,6 @@ numbers_in t = record {
 -- no nodes
 abbrev pub no_numbers : Numbers
 no_numbers = record { elements = 0; texts = 0; comments = 0; doctypes = 0; unopened = 0 }
-
--- one where the test holds, else nothing
-abbrev pub one_where : Bool → ℕ
-one_where test = cond {A = ℕ} test 1 0
 
 -- the numbers of one node
 abbrev pub row_numbers : Seen → Numbers

@@ -6,9 +6,9 @@ ghost use Rattle.node_tree.specs.Labels.{is_element, is_doctype};
 ghost use Rattle.node_tree.specs.Keys.{find};
 ghost use Rattle.node_tree.specs.Seen.{seen_id};
 ghost use Rattle.front_mirror.specs.Shown.{known_at};
-ghost use Rattle.front_mirror.specs.Panels.{numbers_of, is_text, is_comment};
+ghost use Rattle.front_mirror.specs.Panels.{numbers_of, is_text, is_comment, one_where};
 ghost use Rattle.front_mirror.specs.declared.panels.Change.TheVariants as change;
-ghost use Rattle.panels.specs.Numbers.{numbers_in, no_numbers, one_where, row_numbers, plus, AreSmall, NumbersTurned};
+ghost use Rattle.panels.specs.Numbers.{numbers_in, no_numbers, row_numbers, plus, AreSmall, NumbersTurned};
 
 use front_mirror::Mirror;
 use node_tree::Kind;

@@ -1,6 +1,13 @@
--- What a search found stays.
+-- What a search finds, and that it stays.
+use Rattle.back_end.proofs.FoundShown.{searches-find-shown, searches-keep-found}
 use Rattle.back_end.proofs.KeptSearches.{edits-keep-found, asks-keep-found, found-forgotten}
 use Rattle.back_end.proofs.laws.search_law.Goals as goal
+
+pub returns-clause-finds : goal.returns-clause-finds
+returns-clause-finds c = searches-find-shown
+
+pub returns-clause-keeps : goal.returns-clause-keeps
+returns-clause-keeps c = searches-keep-found
 
 pub returns-clause-edits : goal.returns-clause-edits
 returns-clause-edits c = edits-keep-found

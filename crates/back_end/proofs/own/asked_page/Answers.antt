@@ -1,15 +1,10 @@
--- A load is refused as its fault says, and its texts are those of its JSON.
+-- A load is refused as its fault says.
 use Rattle.std.proofs.Common.{Err, sym, ap, subst, ◌∙◌}
 use Rattle.serde_json.specs.View.{view}
 use Rattle.page_tree.specs.declared.faults.LoadErr.{LoadErr}
 use Rattle.page_forms.specs.Pages.{loaded_page, ReadsPage}
 use Rattle.back_end.proofs.OwnLemmas.{refused_with, load-refused}
 use Rattle.back_end.proofs.own.asked_page.Goals as goal
-
-pub returns-in-Ok-clause-texts : goal.returns-in-Ok-clause-texts
-returns-in-Ok-clause-texts c =
-    let read = c.in-Ok.ensures {u = tt} in
-    c.texts_law.ensures.pages (view c.args.params.now) (loaded_page c.in-Ok.page) c.requires.texts read.reads.0
 
 pub returns-in-Err-Fault-clause-finds : goal.returns-in-Err-Fault-clause-finds
 returns-in-Err-Fault-clause-finds c =

@@ -1,4 +1,4 @@
-use Rattle.std.proofs.Common.{ℕ, ◌+◌, ◌*◌, ◌≤◌, List, length, ap, subst, sym, ◌∙◌, arith}
+use Rattle.std.proofs.Common.{◌+◌, ◌*◌, ◌≤◌, List, length, ap, subst, sym, ◌∙◌, arith}
 use Rattle.sheet_reader.specs.declared.place.Position.{Position}
 use Rattle.sheet_reader.specs.Positions.{position_of}
 use Rattle.css_agent.specs.Marks.{mark_step, AreMarks}

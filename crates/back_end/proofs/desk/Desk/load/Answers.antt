@@ -18,7 +18,7 @@ pub returns-clause-stands : goal.returns-clause-stands
 returns-clause-stands c = λ state stands.
     on_ok c.tell_come.result _ _ c.tell_come.ensures.css
     (λ css. load-stands c.args.self.now c.tell_come.new.self c.args.side.now c.in_ok-loaded.loaded state
-    (loaded_page c.args.form) stands c.requires.can c.requires.texts
+    (loaded_page c.args.form) stands c.requires.can c.valid-2.ensures
     (c.in_ok-loaded.ensures.page ∙ ap (λ n. loaded n (loaded_page c.args.form).nodes) c.next_serial-serial.ensures)
     (c.in_ok-loaded.ensures.sheets ∙ ap (λ n. as_book (numbered_sheets n (loaded_page c.args.form).sheets)) c.next_number.ensures.value)
     (c.in_ok-loaded.ensures.next ∙ ap (λ n. n + length (loaded_page c.args.form).sheets) c.next_number.ensures.value)

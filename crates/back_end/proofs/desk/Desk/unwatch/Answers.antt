@@ -23,5 +23,6 @@ pub returns-clause-stands : goal.returns-clause-stands
 returns-clause-stands c = λ state stands.
     in_any c.write_reply.result _
     (changed-stands c.args.self.now c.args.side.now state c.args.id _ _ c.args.node (changes c.args.node c.args.kind) stands
-    (record { alloc = _; is_on = _; css = _; agent = _; watches = _; searches = _ }) c.in-Some.serial c.requires.on c.in-Some.ensures refl refl
+    (record { alloc = _; is_on = _; css = _; agent = _; watches = _; searches = _ })
+    c.in-Some.serial c.requires.on c.in-Some.ensures refl refl
     c.remove.ensures refl refl)
