@@ -1,6 +1,7 @@
 //! Rows of sessions: frames between blanks, which a router that is new takes one after the other. For each is told whose it is,
 //! `root` or `attached`, or the reply that answers it at once, and on a line of its own the same reply as a message of session 7.
-ghost use Rattle.std.specs.Prelude.{◌<◌, ◌^◌};
+ghost use Rattle.std.specs.Prelude.{◌<◌};
+ghost use Rattle.session_mux.specs.Sessions.{session_limit};
 ghost use Rattle.session_mux.specs.Tags.{AreMessages};
 
 use crate::row_parts::Answer;
@@ -31,7 +32,7 @@ fn take_frame(
     frame: &[u8],
     answer: &mut Answer,
 ) -> Result<(), AllocError>
-    requires { router.old.next < 2 ^ 60 }
+    requires { router.old.next < session_limit }
 {
     route_law();
     let mut reply = Vec::new(alloc);

@@ -2,7 +2,8 @@
 //! `sheet` one of a sheet, and `mark`, `undo`, `redo`, `cross`, `clear` and `kept` are as the calls. Of a group that is undone
 //! or redone the names are told, as if each of its edits gave an edit of the same name.
 
-ghost use Rattle.std.specs.Prelude.{◌≡◌, ◌+◌, ◌<◌, ◌^◌, length, true};
+ghost use Rattle.std.specs.Prelude.{◌≡◌, ◌+◌, ◌<◌, length, true};
+ghost use Rattle.node_tree.specs.Numbers.{memory_limit};
 ghost use Rattle.undo_marks.specs.Marks.{entry_count};
 
 use crate::row_parts::Answer;
@@ -89,7 +90,7 @@ fn push_names(edits: &[Inverse], answer: &mut Answer) {
 
 /// Whether a row may keep this group beside what it keeps.
 fn has_room(history: &History, edits: &[Inverse]) -> bool
-    ensures { result ≡ true → entry_count history.now.past + entry_count history.now.future + length edits.now < 2 ^ 40 }
+    ensures { result ≡ true → entry_count history.now.past + entry_count history.now.future + length edits.now < memory_limit }
 {
     if history.kept() >= MOST_KEPT {
         return false;

@@ -10,7 +10,8 @@ use Rattle.node_tree.specs.Seen.{Seen, seen_id, is_opened}
 use Rattle.client_views.specs.Views.{IsMirror, is_document_tree}
 use Rattle.front_mirror.specs.Shown.{known_at, root_id}
 use Rattle.front_mirror.proofs.ChildLemmas.{ChildFound, child_is, tree-count}
-use Rattle.inspect_replay.specs.Tallies.{Known, known_in, one_where, row_known, plus}
+use Rattle.inspect_replay.specs.Tallies.{Known, known_in, row_known, plus}
+use Rattle.front_mirror.specs.Panels.{one_where}
 
 -- ---- children
 

@@ -24,17 +24,19 @@ use Rattle.replay_script.specs.Forms.{AskForm}
 use Rattle.cdp_messages.specs.Asked.{command_text, is_whole_where_there}
 use Rattle.inspect_world.specs.Costs.{ask_cost, least_line}
 use Rattle.inspect_world.specs.Fits.{IsBare, HasLeft, FitsWith, Fits, most_sheets, most_fetches, replay}
-use Rattle.inspect_world.specs.Fetches.{front_in, fetched, fetched_if, all_fetched, stale_in}
+use Rattle.session_runs.specs.Fetches.{front_in, fetched, fetched_if, all_fetched, stale_in}
 use Rattle.inspect_world.specs.FreshRuns.{front_fetcher, refreshes}
 use Rattle.inspect_world.specs.Scripts.{sends}
 use Rattle.replay_script.specs.Sound.{CanSend}
-use Rattle.inspect_world.specs.Stream.{Stream, passed, arriving, awaited}
-use Rattle.inspect_world.specs.World.{World, one_fetch, sent_up, raw, turned, answered, given_up, delivered_up, delivered_down, settled}
+use Rattle.session_runs.specs.Stream.{Stream, passed, arriving, awaited}
+use Rattle.session_runs.specs.World.{sent_up, answered, given_up, delivered_up, delivered_down, settled}
+use Rattle.inspect_world.specs.World.{World, one_fetch, raw, turned}
 use Rattle.client_views.specs.Moves.{frames_of_moves}
 use Rattle.back_end.specs.declared.seat.Seat.{Seat}
 use Rattle.back_end.specs.declared.side.PageSide.{PageSide}
 use Rattle.back_end.specs.States.{State}
-use Rattle.back_end.specs.Steps.{Turn, frame_step, turn_step, step, turn}
+use Rattle.back_end.specs.Steps.{Turn, frame_step, turn_step}
+use Rattle.inspect_world.specs.StepBytes.{step, turn}
 use Rattle.inspect_world.specs.RunStates.{RunState, run_step, run_turn}
 use Rattle.back_end.specs.Laws.{IsTurn}
 use Rattle.inspect_world.specs.Held.{Ends, InWorld}
@@ -45,7 +47,7 @@ use Rattle.inspect_replay.specs.Runs.{InRunWith, InRun, AnswersOne, AnswersAll, 
 use Rattle.inspect_replay.specs.Moments.{moment}
 use Rattle.inspect_replay.specs.Stops.{GoesWell}
 use Rattle.back_end.proofs.SeatLemmas.{on_ok}
-use Rattle.inspect_world.proofs.Worlds.{answered-cons}
+use Rattle.session_runs.proofs.Worlds.{answered-cons}
 use Rattle.inspect_world.proofs.Pipes.{waiting-is}
 use Rattle.inspect_world.proofs.Scripts.{turn-left}
 use Rattle.inspect_world.proofs.FetchesFit.{fetched-if-spends, few-then}

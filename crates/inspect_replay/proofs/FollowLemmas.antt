@@ -25,7 +25,8 @@ use Rattle.replay_script.specs.declared.faults.LineFault.{LineFault}
 use Rattle.back_end.specs.declared.seat.Seat.{Seat}
 use Rattle.back_end.specs.declared.side.PageSide.{PageSide}
 use Rattle.back_end.specs.States.{State, loaded_state}
-use Rattle.back_end.specs.Steps.{Turn, frame_step, turn_step, step, turn}
+use Rattle.back_end.specs.Steps.{Turn, frame_step, turn_step}
+use Rattle.inspect_world.specs.StepBytes.{step, turn}
 use Rattle.back_end.specs.Laws.{IsTurn}
 use Rattle.page_forms.specs.Texts.{PageHasTexts}
 use Rattle.replay_script.specs.Sound.{CanSend}
@@ -56,7 +57,8 @@ use Rattle.inspect_replay.specs.Moments.{moment}
 use Rattle.inspect_replay.specs.Stops.{GoesWell}
 use Rattle.inspect_world.proofs.SeatRoom.{room-of}
 use Rattle.inspect_replay.specs.Starts.{IsNew}
-use Rattle.inspect_replay.proofs.RunLemmas.{first_ends, ends-first, stands-first}
+use Rattle.back_end.proofs.StartLemmas.{stands-first}
+use Rattle.inspect_replay.proofs.RunLemmas.{first_ends, ends-first}
 
 -- ---- stops
 
@@ -446,7 +448,7 @@ run-first up down kinds page lines e up_within down_within can texts few new =
       so_far = subst (λ h. Follows start up down up down e.splitter.whole h) (sym same)
           (subst (λ frames. Follows start up down up down frames (first_ends kinds e.seat e.side)) (sym none)
           (follows-start up down kinds start e.seat e.side up_within down_within refl refl
-          (stands-first page e.seat e.side can texts new.side) few drew (omega (arith, serials))
+          (stands-first e.seat e.side page can texts new.side) few drew (omega (arith, serials))
           (omega (arith, numbers)) (omega arith)));
       none_whole = none;
     }

@@ -22,7 +22,8 @@ use Rattle.replay_script.specs.declared.faults.LineFault.{LineFault}
 use Rattle.replay_script.specs.declared.faults.LineFault.TheVariants.{NotLoad}
 use Rattle.replay_script.proofs.ScriptLemmas.{first_bad-good, first_bad-bad, good_lines-good, good_lines-bad}
 use Rattle.front_mirror.specs.declared.panels.PanelKind.{PanelKind}
-use Rattle.inspect_world.specs.World.{World, settled}
+use Rattle.session_runs.specs.World.{settled}
+use Rattle.inspect_world.specs.World.{World}
 use Rattle.inspect_world.specs.RunStates.{RunState, run_step}
 use Rattle.inspect_world.specs.Costs.{line_cost, line_bytes}
 use Rattle.inspect_world.specs.Scripts.{after_line, after_lines, line_text, lines_text, closing_text, closing_unless, rest_text, styles_at}

@@ -14,8 +14,9 @@ use Rattle.front_mirror.specs.Front.{FrontState}
 use Rattle.front_mirror.specs.Places.{slot_at, emptied_at, open_at, closed_at}
 use Rattle.replay_script.specs.Forms.{close}
 use Rattle.replay_script.specs.Script.{standing, stands_open, without, dropped, numbered_or, panel_missing, want_fault}
-use Rattle.inspect_world.specs.Stream.{awaited}
-use Rattle.inspect_world.specs.World.{World, Audience, settled}
+use Rattle.session_runs.specs.Stream.{awaited}
+use Rattle.session_runs.specs.World.{settled}
+use Rattle.inspect_world.specs.World.{World, Audience}
 use Rattle.inspect_world.specs.RunStates.{RunState, run_step}
 use Rattle.inspect_world.specs.Held.{with_panels}
 use Rattle.inspect_world.specs.Links.{came_styles}

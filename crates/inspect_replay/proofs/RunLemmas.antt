@@ -26,18 +26,16 @@ use Rattle.front_mirror.specs.declared.replies.Kept.{Kept}
 use Rattle.front_mirror.specs.declared.panels.PanelKind.{PanelKind}
 use Rattle.front_mirror.specs.Front.{FrontState, first_state, seen_pause}
 use Rattle.front_mirror.specs.Outline.{outline_text, seen_line}
-use Rattle.inspect_world.specs.Stream.{awaited}
-use Rattle.inspect_world.specs.World.{World, AlreadyTold, Audience, nothing_told, Spent, raw, turned, settled}
+use Rattle.session_runs.specs.Stream.{awaited}
+use Rattle.session_runs.specs.World.{settled}
+use Rattle.inspect_world.specs.World.{World, AlreadyTold, Audience, nothing_told, Spent, raw, turned}
 use Rattle.node_tree.specs.Nodes.{alone}
 use Rattle.page_tree.specs.Pages.{PageValue}
 use Rattle.back_end.specs.declared.faults.ActFault.{ActFault}
 use Rattle.page_forms.specs.declared.acts.Act.{Act}
-use Rattle.node_binding.specs.Bindings.{BindingValue, Stands}
-use Rattle.node_binding.specs.Sessions.{begun}
-use Rattle.node_binding.proofs.StandsLemmas.{Stands-begun}
 use Rattle.back_end.specs.declared.seat.Seat.{Seat}
 use Rattle.back_end.specs.declared.side.PageSide.{PageSide}
-use Rattle.back_end.specs.States.{loaded_state, page_nodes, nodes_shown, book_in, sheets_shown, view_of}
+use Rattle.back_end.specs.States.{loaded_state, page_nodes, book_in, sheets_shown, view_of}
 use Rattle.back_end.specs.Steps.{acts}
 use Rattle.inspect_world.specs.RunStates.{RunState, run_step, run_turn}
 use Rattle.node_tree.specs.Watches.{watch_name}
@@ -49,7 +47,7 @@ use Rattle.front_mirror.specs.declared.pauses.SeenPause.{SeenPause}
 use Rattle.back_end.specs.Laws.{IsTurn}
 use Rattle.back_end.specs.Plans.{act_fault}
 use Rattle.back_end.proofs.SeatLemmas.{on_ok}
-use Rattle.back_end.specs.Seats.{StandsFor, IsSeated}
+use Rattle.back_end.specs.Seats.{IsSeated}
 use Rattle.inspect_world.specs.Costs.{least_line, line_cost, line_bytes}
 use Rattle.inspect_world.specs.Fits.{most_bytes, HasLeft, IsPlainFrame}
 use Rattle.inspect_world.specs.FreshRuns.{front_fetcher, refreshes, fresh_line, Together}
@@ -61,7 +59,9 @@ use Rattle.page_forms.specs.Texts.{PageHasTexts}
 use Rattle.inspect_world.specs.ScriptsFit.{IsLater}
 use Rattle.inspect_world.specs.Held.{Ends as HeldEnds, InWorld}
 use Rattle.inspect_world.specs.ShownReplies.{reply_shown, told_lines, replies_in}
-use Rattle.inspect_replay.specs.Starts.{IsNewSide, IsNew}
+use Rattle.back_end.specs.Starts.{IsNewSeat}
+use Rattle.back_end.proofs.StartLemmas.{stands-first}
+use Rattle.inspect_replay.specs.Starts.{IsNew}
 use Rattle.inspect_replay.specs.declared.ends.Ends.{Ends}
 use Rattle.inspect_replay.specs.declared.stop.Stop.{Stop}
 use Rattle.inspect_replay.specs.Runs.{InRun, InPlay, Spends, Steps, Refreshes, ends_of}
@@ -71,7 +71,7 @@ use Rattle.inspect_replay.specs.Stops.{AmidRun, two_counts, HasStopCause, GoesWe
 use Rattle.inspect_replay.specs.Answers.{Absent, AtEnd, InRunOnly, TookAt, RunTells, RunTook, Prints}
 use Rattle.inspect_replay.specs.Prints.{CarriesOut, NumberedLine, numbered_line, Closes}
 use Rattle.replay_script.proofs.ScriptLemmas.{first_bad-good, good_lines-good}
-use Rattle.inspect_world.proofs.Scripts.{IsState-first, left-one, left-fewer, cost-least}
+use Rattle.inspect_world.proofs.Scripts.{left-one, left-fewer, cost-least}
 use Rattle.front_mirror.specs.declared.sheets.KnownSheet.{KnownSheet}
 use Rattle.inspect_world.specs.SheetTexts.{sheet_lines, known_lines}
 use Rattle.inspect_world.proofs.ShownSheets.{fresh-lines}
@@ -738,33 +738,10 @@ ends-first e kinds page new = λ i. record {
   told = record { replies = new.told i; pauses = new.told_pauses i };
 }
 
--- the seat stands for it
-pub stands-first : (page : LoadedPage) (seat : Seat) (side : PageSide) → CanLoadPage page → PageHasTexts page → IsNewSide seat side page
-    → StandsFor seat side (loaded_state page)
-stands-first page seat side can texts new =
-    let is = IsState-first page can texts in
-    record {
-      stands = record {
-        now = is.now;
-        page_is = new.page_is;
-        sheets_are = new.sheets_are;
-        next_is = new.next_is;
-        medium_is = new.medium_is;
-        on_is = new.off;
-        css_is = new.css;
-        mode_is = ap (λ (b : BindingValue). b.mode) new.agent_is;
-        watches_are = new.watches_are;
-        searches_are = new.searches_are;
-        stands = subst (λ b. Stands (nodes_shown (loaded_state page)) begun b) (sym new.agent_is)
-            (Stands-begun (nodes_shown (loaded_state page)));
-      };
-      kept = record { edits = new.history_is; history = is.history };
-    }
-
--- so it stands for some state
-pub seated-first : (page : LoadedPage) (seat : Seat) (side : PageSide) → CanLoadPage page → PageHasTexts page → IsNewSide seat side page
+-- the seat stands for some state
+pub seated-first : (page : LoadedPage) (seat : Seat) (side : PageSide) → CanLoadPage page → PageHasTexts page → IsNewSeat seat side page
     → IsSeated seat side
-seated-first page seat side can texts new = λ alive. ∣ (loaded_state page, stands-first page seat side can texts new) ∣₁
+seated-first page seat side can texts new = λ alive. ∣ (loaded_state page, stands-first seat side page can texts new) ∣₁
 
 nothing-awaited : (kinds : List PanelKind) (page : LoadedPage) → awaited (loaded_world kinds page).up ≡ []
 unfolding frames_of
@@ -786,7 +763,7 @@ begins honest up down kinds page e is_honest can texts up_level down_level new =
             (λ h. InWorld up down up down (loaded_world kinds page) (e.splitter.whole ++ awaited (loaded_world kinds page).up) h) same
             (subst (λ fs. InWorld up down up down (loaded_world kinds page) fs (first_ends kinds e.seat e.side)) frames
             (world-first up down kinds page e.seat e.side can texts up_level down_level
-            (stands-first page e.seat e.side can texts new.side)));
+            (stands-first e.seat e.side page can texts new.side)));
       };
       none_whole = none;
     }

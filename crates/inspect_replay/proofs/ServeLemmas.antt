@@ -14,15 +14,16 @@ use Rattle.page_forms.specs.Pages.{CanLoadPage}
 use Rattle.page_forms.specs.Texts.{PageHasTexts}
 use Rattle.client_views.specs.Moves.{frames_of_moves}
 use Rattle.back_end.specs.States.{State}
-use Rattle.back_end.specs.Steps.{Stepped, frame_step}
+use Rattle.back_end.specs.Steps.{frame_step}
+use Rattle.session_runs.specs.World.{Stepped}
 use Rattle.back_end.specs.Seats.{StandsFor, first_page}
-use Rattle.inspect_world.specs.World.{steps}
+use Rattle.session_runs.specs.World.{steps}
 use Rattle.inspect_replay.specs.declared.service.Service.{Service}
 use Rattle.inspect_replay.specs.declared.stop.Stop.{Stop}
 use Rattle.inspect_replay.specs.Serving.{first_served, served_step, served_run, served, IsServing, ServeMoment, serve_moment, SoFar}
 use Rattle.inspect_replay.specs.Serving.{with_more, Serves, Answered, PartServed, ServesOn}
-use Rattle.inspect_replay.specs.Starts.{IsNewSide}
-use Rattle.inspect_replay.proofs.RunLemmas.{stands-first}
+use Rattle.back_end.specs.Starts.{IsNewSeat}
+use Rattle.back_end.proofs.StartLemmas.{stands-first}
 
 -- ---- steps on frames
 
@@ -78,12 +79,12 @@ nothing-loaded = record { nodes = record { formed = refl; named = refl; levels =
 pub no-texts : PageHasTexts (first_page None)
 no-texts = record { nodes = tt; sheets = All-nil (λ (sheet : SheetForm). IsUtf8 sheet.text) }
 
-pub starts-serving : (service : Service) → IsNewSide service.seat service.side (first_page None)
+pub starts-serving : (service : Service) → IsNewSeat service.seat service.side (first_page None)
     → service.splitter ≡ record { whole = []; rest = [] } → IsServing service []
 starts-serving service new cut = record {
   cut = cut ∙ ap (λ rest. record { whole = []; rest = rest }) (sym none-held);
   stands = subst (λ (done : Stepped State). StandsFor service.seat service.side done.state) (sym none-served)
-      (stands-first (first_page None) service.seat service.side nothing-loaded no-texts new);
+      (stands-first service.seat service.side (first_page None) nothing-loaded no-texts new);
 }
 
 -- before anything came

@@ -9,15 +9,16 @@ use Rattle.cdp_messages.specs.Asked.{asked}
 use Rattle.cdp_messages.specs.declared.command.Asked.{Asked}
 use Rattle.cdp_messages.specs.declared.command.Refused.{Refused}
 use Rattle.back_end.specs.States.{State, IsState}
-use Rattle.back_end.specs.Steps.{Stepped, Step, frame_step, asked_step}
+use Rattle.back_end.specs.Steps.{Step, frame_step, asked_step}
+use Rattle.session_runs.specs.World.{Stepped}
 use Rattle.back_end.specs.Laws.{tree_edits, edits_kept, edits_asked, KeepsAtMost, HasRoom, StepsWell}
 use Rattle.back_end.specs.Seats.{StandsFor, HasRoomLeft, first_page}
 use Rattle.back_end.proofs.EditSizes.{frame-long, edits-few}
 use Rattle.back_end.proofs.FrameLemmas.{frame-steps-well}
-use Rattle.inspect_world.specs.World.{steps}
+use Rattle.session_runs.specs.World.{steps}
 use Rattle.inspect_world.specs.Links.{bytes_among}
 use Rattle.inspect_world.proofs.CountLemmas.{command-ids, ids-left, few-edits, frames-within, bytes-append}
-use Rattle.inspect_world.proofs.Scripts.{IsState-first}
+use Rattle.back_end.proofs.StartLemmas.{IsState-first}
 use Rattle.inspect_world.proofs.SeatRoom.{has-room-left}
 use Rattle.inspect_replay.specs.declared.service.Service.{Service}
 use Rattle.inspect_replay.specs.Serving.{first_served, served_step, served_run}

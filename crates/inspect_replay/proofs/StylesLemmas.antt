@@ -11,7 +11,8 @@ use Rattle.front_mirror.specs.declared.replies.MatchedReply.{MatchedReply}
 use Rattle.front_mirror.specs.Front.{matched_in}
 use Rattle.replay_script.specs.Forms.{show_styles}
 use Rattle.replay_script.specs.Script.{numbered_or, styles_missing, want_fault}
-use Rattle.inspect_world.specs.World.{World, settled}
+use Rattle.session_runs.specs.World.{settled}
+use Rattle.inspect_world.specs.World.{World}
 use Rattle.inspect_world.specs.RunStates.{RunState, styles_under, run_step}
 use Rattle.inspect_world.specs.Costs.{least_line}
 use Rattle.inspect_world.specs.Fits.{kept_styles}

@@ -33,17 +33,19 @@ use Rattle.front_mirror.specs.Front.{unless_fetch, refused, with_root}
 use Rattle.front_mirror.specs.Front.{root_fault, matched_told, with_matched, with_effect, with_body}
 use Rattle.front_mirror.specs.Front.{with_reply, with_fault, with_tree, ToldChange, told_change, at_spot, change_fault, with_change, halted}
 use Rattle.front_mirror.specs.Front.{is_shown, told_sheets, with_news, with_message, seen_pause}
-use Rattle.inspect_world.specs.Fold.{folded, asks_joined}
+use Rattle.session_runs.specs.Fold.{folded, asks_joined}
 use Rattle.inspect_world.specs.Fits.{join}
 use Rattle.inspect_world.specs.ShownReplies.{reply_shown}
-use Rattle.inspect_world.specs.World.{World, settled}
+use Rattle.session_runs.specs.World.{settled}
+use Rattle.inspect_world.specs.World.{World}
 use Rattle.inspect_world.specs.RunStates.{RunState, run_step}
 use Rattle.inspect_world.specs.ShownPauses.{pauses_in}
 use Rattle.inspect_world.specs.ShownReplies.{replies_in}
 use Rattle.inspect_world.proofs.FetchesFit.{ShownThen}
 use Rattle.inspect_world.proofs.Replies.{replies-joined}
 use Rattle.back_end.specs.States.{view_of}
-use Rattle.inspect_replay.specs.Tallies.{one_where, how_many, is_good, is_bad, is_ok, is_error, is_reply, known_in, tally_of, tally_in}
+use Rattle.inspect_replay.specs.Tallies.{how_many, is_good, is_bad, is_ok, is_error, is_reply, known_in, tally_of, tally_in}
+use Rattle.front_mirror.specs.Panels.{one_where}
 
 -- ---- sheets
 

@@ -8,8 +8,9 @@ use Rattle.pipe_frames.specs.Pipe.{Pipe}
 use Rattle.pipe_frames.specs.Whole.{WrotePart}
 use Rattle.pipe_frames.proofs.WholeLemmas.{Appends-nil}
 use Rattle.front_mirror.specs.Front.{FrontValue}
-use Rattle.inspect_world.specs.Stream.{sent}
-use Rattle.inspect_world.specs.World.{World, settled}
+use Rattle.session_runs.specs.Stream.{sent}
+use Rattle.session_runs.specs.World.{settled}
+use Rattle.inspect_world.specs.World.{World}
 use Rattle.inspect_world.specs.RunStates.{RunState, run_step}
 use Rattle.inspect_world.specs.Fits.{HasLeft}
 use Rattle.inspect_world.specs.FreshRuns.{front_fetcher, refreshes}

@@ -3,7 +3,8 @@ use Rattle.std.specs.Prelude.{◌≡◌, ◌+◌, ℕ, List, length, Option, Res
 use Rattle.front_mirror.specs.declared.panels.Panel.{Ghosts}
 use Rattle.pipe_frames.specs.Pipe.{Pipe}
 use Rattle.replay_script.specs.Forms.{LineForm}
-use Rattle.inspect_world.specs.World.{World, settled}
+use Rattle.session_runs.specs.World.{settled}
+use Rattle.inspect_world.specs.World.{World}
 use Rattle.inspect_world.specs.RunStates.{RunState, run_step}
 use Rattle.inspect_world.specs.Costs.{lines_cost}
 use Rattle.inspect_world.specs.Scripts.{after_lines}

@@ -2,12 +2,13 @@
 use Rattle.std.specs.Prelude.{◌≡◌, ◌≤◌, ◌+◌, ℕ, List, [], ◌∷◌, ◌++◌, length, Result, OnOk}
 use Rattle.front_mirror.specs.declared.panels.Panel.{Ghosts}
 use Rattle.pipe_frames.specs.Pipe.{Pipe}
-use Rattle.inspect_world.specs.Stream.{arriving, awaited}
-use Rattle.inspect_world.specs.World.{World, one_fetch, sent_up, given_up, answered}
+use Rattle.session_runs.specs.Stream.{arriving, awaited}
+use Rattle.session_runs.specs.World.{sent_up, given_up, answered}
+use Rattle.inspect_world.specs.World.{World, one_fetch}
 use Rattle.inspect_world.specs.RunStates.{RunState, run_step}
 use Rattle.front_mirror.specs.Front.{first_value}
 use Rattle.inspect_world.specs.Fits.{HasLeft, IsPlainFrame, most_fetches, replay}
-use Rattle.inspect_world.specs.Fetches.{front_in, fetched, fetched_if, all_fetched}
+use Rattle.session_runs.specs.Fetches.{front_in, fetched, fetched_if, all_fetched}
 use Rattle.inspect_world.specs.FreshRuns.{front_fetcher, refreshes, Together}
 use Rattle.inspect_world.specs.Held.{Ends as HeldEnds, InWorld}
 use Rattle.inspect_replay.specs.declared.ends.Ends.{Ends}

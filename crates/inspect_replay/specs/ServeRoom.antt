@@ -2,7 +2,7 @@
 use Rattle.std.specs.Prelude.{◌≤◌, ℕ, ◌+◌, List, length}
 use Rattle.node_tree.specs.Numbers.{max_input}
 use Rattle.back_end.specs.Seats.{StandsFor}
-use Rattle.inspect_world.specs.World.{steps}
+use Rattle.session_runs.specs.World.{steps}
 use Rattle.inspect_world.specs.Links.{bytes_among}
 use Rattle.inspect_replay.specs.declared.service.Service.{Service}
 use Rattle.inspect_replay.specs.Serving.{first_served, served_step, IsServing}

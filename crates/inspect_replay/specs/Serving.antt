@@ -6,9 +6,11 @@ use Rattle.pipe_frames.specs.Fault.{Rose}
 use Rattle.pipe_frames.specs.Frames.{frames_of}
 use Rattle.pipe_frames.specs.Whole.{WrotePart}
 use Rattle.back_end.specs.States.{State, loaded_state}
-use Rattle.back_end.specs.Steps.{Stepped, as_bytes, frame_step}
+use Rattle.back_end.specs.Steps.{frame_step}
+use Rattle.session_runs.specs.World.{Stepped}
+use Rattle.inspect_world.specs.StepBytes.{as_bytes}
 use Rattle.back_end.specs.Seats.{StandsFor, first_page}
-use Rattle.inspect_world.specs.World.{steps}
+use Rattle.session_runs.specs.World.{steps}
 use Rattle.inspect_replay.specs.declared.service.Service.{Service}
 use Rattle.inspect_replay.specs.Says.{Counts, OthersStill, says_of}
 use Rattle.inspect_replay.specs.Stops.{two_counts}

@@ -1,5 +1,5 @@
 -- The six numbers of a drill, and the lines that tell them.
-use Rattle.std.specs.Prelude.{◌≡◌, ℕ, ◌+◌, Bool, true, false, not, cond, List}
+use Rattle.std.specs.Prelude.{◌≡◌, ℕ, ◌+◌, Bool, true, false, not, List}
 use Rattle.std.specs.Prelude.{[], ◌∷◌, ◌++◌, length, codes, decimal, Option, Some, None, Ok}
 use Rattle.std.specs.Io.KnownBytes.{Appends}
 use Rattle.node_tree.specs.Nodes.{Nodes, none, node}
@@ -8,11 +8,13 @@ use Rattle.cdp_messages.specs.Replies.{Message, reply, fault, event, down_of}
 use Rattle.front_mirror.specs.declared.panels.PanelKind.{PanelKind}
 use Rattle.front_mirror.specs.declared.replies.Kept.{Kept}
 use Rattle.front_mirror.specs.Front.{FrontValue}
+use Rattle.front_mirror.specs.Panels.{one_where}
 use Rattle.back_end.specs.States.{view_of}
 use Rattle.replay_script.specs.Forms.{LineForm}
 use Rattle.drill_script.specs.DrillLines.{drill_lines}
 use Rattle.drill_script.specs.DrillPages.{drill_page}
-use Rattle.inspect_world.specs.World.{World, settled}
+use Rattle.session_runs.specs.World.{settled}
+use Rattle.inspect_world.specs.World.{World}
 use Rattle.inspect_world.specs.RunStates.{RunState, run_step}
 use Rattle.inspect_world.specs.ShownPauses.{pauses_in}
 use Rattle.inspect_world.specs.ShownReplies.{ShownReply, replies_in}
@@ -23,10 +25,6 @@ use Rattle.inspect_replay.specs.Followed.{Passed}
 pub record Known : Type 0 where
   pub nodes : ℕ
   pub opened : ℕ
-
--- one where the test holds, else nothing
-abbrev pub one_where : Bool → ℕ
-one_where test = cond {A = ℕ} test 1 0
 
 -- of one node
 abbrev pub row_known : Seen → Known

@@ -5,7 +5,8 @@ ghost use Rattle.node_tree.specs.Nodes.{none, alone};
 ghost use Rattle.node_tree.specs.Keys.{find};
 ghost use Rattle.node_tree.specs.Seen.{seen_id};
 ghost use Rattle.front_mirror.specs.Shown.{known_at};
-ghost use Rattle.inspect_replay.specs.Tallies.{known_in, one_where, row_known, plus, how_many, is_good, is_bad};
+ghost use Rattle.inspect_replay.specs.Tallies.{known_in, row_known, plus, how_many, is_good, is_bad};
+ghost use Rattle.front_mirror.specs.Panels.{one_where};
 ghost use Rattle.inspect_replay.specs.Tallies.{tally_of, tally_line, tally_text};
 ghost use Rattle.inspect_replay.specs.CountsSeen.{known_of, tally_seen};
 

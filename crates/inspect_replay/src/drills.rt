@@ -4,7 +4,6 @@ ghost use Rattle.std.specs.Io.KnownBytes.{Appends};
 ghost use Rattle.pipe_frames.specs.Pipe.{IsLevel};
 ghost use Rattle.pipe_frames.specs.Whole.{WrotePart};
 ghost use Rattle.page_forms.specs.Pages.{CanLoadPage, loaded_page};
-ghost use Rattle.page_forms.specs.Texts.{PageHasTexts};
 ghost use Rattle.drill_script.specs.Given.{is_drill};
 ghost use Rattle.drill_script.specs.LineKinds.{AreDrillLines, most_lines};
 ghost use Rattle.inspect_world.specs.Scripts.{loaded_world};
@@ -76,7 +75,6 @@ fn run_page<P: Panel, K: Sink, L: Link>(
     link: &mut L,
 ) -> Result<(), Stop>
     requires can { CanLoadPage (loaded_page form) }
-    requires texts { PageHasTexts (loaded_page form) }
     requires kinds { AreDrillLines drill }
     requires few { length drill ≤ most_lines }
     ensures honest { L.honest link.old → L.honest link.new }

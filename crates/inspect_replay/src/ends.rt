@@ -4,7 +4,7 @@ ghost use Rattle.cdp_messages.specs.Asked.{is_whole_where_there};
 ghost use Rattle.front_mirror.specs.Front.{matched_in};
 ghost use Rattle.front_mirror.specs.Sheets.{has_sheet, stale_of};
 ghost use Rattle.replay_script.specs.Seen.{seen_ask};
-ghost use Rattle.inspect_world.specs.World.{delivered_up, delivered_down, settled};
+ghost use Rattle.session_runs.specs.World.{delivered_up, delivered_down, settled};
 ghost use Rattle.pipe_frames.specs.Frames.{IsText, framed};
 ghost use Rattle.page_forms.specs.Pages.{CanLoadPage, loaded_page};
 ghost use Rattle.back_end.specs.Steps.{acts, loads};
@@ -65,9 +65,10 @@ impl<P: Panel> Ends<P> {
     /// Both ends of a page that is loaded, with serials and numbers of sheets from 1 on. The front end tells the panels.
     pub(crate) fn new(alloc: Global, panels: Vec<P>, form: PageForm) -> Result<Ends<P>, AllocError>
         requires can { CanLoadPage (loaded_page form) }
-        requires texts { PageHasTexts (loaded_page form) }
-        ensures { IfOk result (λ ends. IsNew ends (map P.kind_of panels.items) (loaded_page form)) }
+        ensures starts { IfOk result (λ ends. IsNew ends (map P.kind_of panels.items) (loaded_page form)) }
+        ensures texts { PageHasTexts (loaded_page form) }
     {
+        form.valid();
         Ok(Ends {
             alloc,
             side: PageSide::new(alloc, Some(form))?,

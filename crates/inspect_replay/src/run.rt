@@ -17,7 +17,6 @@ ghost use Rattle.replay_script.specs.Script.{stands_open, dropped};
 ghost use Rattle.inspect_world.specs.Held.{with_panels};
 ghost use Rattle.inspect_world.specs.Links.{came_styles};
 ghost use Rattle.replay_script.specs.Seen.{seen, seen_ask};
-ghost use Rattle.page_forms.specs.Texts.{PageHasTexts};
 ghost use Rattle.inspect_world.specs.ScriptsFit.{IsLater};
 ghost use Rattle.replay_script.specs.Sound.{CanSend};
 ghost use Rattle.inspect_world.specs.World as world;
@@ -433,7 +432,6 @@ fn run_loaded<P: Panel, K: Sink, L: Link>(
     link: &mut L,
 ) -> Result<(), Stop>
     requires can { CanLoadPage (loaded_page form) }
-    requires texts { PageHasTexts (loaded_page form) }
     requires few { length lines ≤ max_input }
     requires short { line_bytes lines ≤ max_input }
     ensures tells { RunTells result

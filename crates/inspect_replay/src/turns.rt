@@ -1,5 +1,5 @@
 // The lines of a drill, carried out one by one as they are made; nothing of them is printed.
-ghost use Rattle.std.specs.Prelude.{◌≡◌, option_map, IfOk};
+ghost use Rattle.std.specs.Prelude.{option_map, IfOk};
 ghost use Rattle.replay_script.specs.Seen.{seen};
 ghost use Rattle.drill_script.specs.Given.{GivesFirst};
 ghost use Rattle.drill_script.specs.LineKinds.{AreDrillLines};

@@ -14,35 +14,37 @@ use Rattle.front_mirror.specs.Front as front
 use Rattle.front_mirror.specs.Front.{FrontValue, FrontState, first_state, first_value, take_frame, Folded, after_message, fetch_ask}
 use Rattle.front_mirror.specs.Front.{after_ask, after_fetch, after_take}
 use Rattle.replay_script.specs.Forms.{AskForm, ask}
-use Rattle.inspect_world.specs.Stream.{Stream, sent, put_last, passed, held, arriving, awaited}
-use Rattle.inspect_world.specs.World.{World, AlreadyTold, nothing_told, Spent, one_ask, one_fetch, one_raw, steps, sent_up, raw, turned}
-use Rattle.inspect_world.specs.World.{answered, given_up, delivered_down}
+use Rattle.session_runs.specs.Stream.{Stream, sent, put_last, passed, held, arriving, awaited}
+use Rattle.session_runs.specs.World.{steps, sent_up}
+use Rattle.inspect_world.specs.World.{World, AlreadyTold, nothing_told, Spent, one_ask, one_fetch, one_raw, raw, turned}
+use Rattle.session_runs.specs.World.{answered, given_up, delivered_down}
 use Rattle.cdp_json.specs.Lookups.{then_ok}
-use Rattle.inspect_world.specs.Fold.{folded, asks_joined}
+use Rattle.session_runs.specs.Fold.{folded, asks_joined}
 use Rattle.back_end.specs.declared.seat.Seat.{Seat}
 use Rattle.back_end.specs.declared.side.PageSide.{PageSide}
 use Rattle.back_end.specs.States.{loaded_state}
-use Rattle.back_end.specs.Steps.{Turn, step, turn}
+use Rattle.back_end.specs.Steps.{Turn}
+use Rattle.inspect_world.specs.StepBytes.{step, turn}
 use Rattle.inspect_world.specs.RunStates.{RunState, run_step, run_turn}
 use Rattle.back_end.specs.Laws.{HasRoom}
 use Rattle.back_end.specs.Seats.{StandsFor, HasRoomLeft}
 use Rattle.inspect_world.specs.Costs.{ask_edits, least_line, line_cost}
 use Rattle.inspect_world.specs.Fits.{join, IsNext, next_raw, IsBare, IsNextTurn, replay, ask_of_frame, ask_with, with_ask, most_frames}
-use Rattle.inspect_world.specs.Fits.{most_fetches, HasLeft, IsFit}
+use Rattle.inspect_world.specs.Fits.{most_fetches, HasLeft, IsFit, AlwaysRoom, IsNextIn}
 use Rattle.inspect_world.specs.FreshRuns.{front_fetcher}
 use Rattle.inspect_world.specs.Scripts.{sends, loaded_world}
 use Rattle.page_forms.specs.Texts.{PageHasTexts}
 use Rattle.replay_script.specs.Sound.{CanSend}
 use Rattle.inspect_world.specs.Held.{Ends, good_front, with_panels, InWorld}
 use Rattle.inspect_world.specs.Carried.{Carries}
-use Rattle.inspect_world.proofs.Frames.{sent-passed, awaited-passed, whole-sent, whole-given, rest-given}
-use Rattle.inspect_world.proofs.Worlds.{whole-after, fits-sent_up, fits-turned, fits-given_up, fits-answered_one}
+use Rattle.session_runs.proofs.Frames.{sent-passed, awaited-passed, whole-sent, whole-given, rest-given}
+use Rattle.session_runs.proofs.Worlds.{whole-after, fits-sent_up, fits-turned, fits-given_up, fits-answered_one}
 use Rattle.inspect_world.proofs.FitLemmas.{world_laws, fit-room}
 use Rattle.inspect_world.proofs.Messages.{IsText-sent, ask_in-sent, IsNext-sent}
 use Rattle.inspect_world.proofs.FetchForms.{fetcher-text, fetcher-asks, fetcher-next}
 use Rattle.inspect_world.proofs.Scripts.{frame-left, edits-left, fits-loaded}
 use Rattle.inspect_world.proofs.SeatRoom.{has-room-left}
-use Rattle.inspect_world.proofs.Folds.{Halves, folded-append, folded-halves, folded-rest, joined-append}
+use Rattle.session_runs.proofs.Folds.{Halves, folded-append, folded-halves, folded-rest, joined-append}
 use Rattle.inspect_world.proofs.Pipes.{carries-start, carries-put, carries-get, waiting-is}
 
 -- ---- the front end's own fold
@@ -190,7 +192,7 @@ world-sent_up up0 down0 up down up1 w e text more front1 there in_world letters 
       up_left = left ∙ ap (λ n. n + length (framed text)) in_world.up_left ∙ sym (length-append w.up.flying (framed text));
       down_left = in_world.down_left;
       told_is = in_world.told_is;
-      fits = fits-sent_up replay IsNext IsNextTurn IsFit world_laws (first_value []) text more w letters is_next in_world.fits;
+      fits = fits-sent_up replay AlwaysRoom IsNextIn IsNextTurn IsFit world_laws (first_value []) text more w letters is_next in_world.fits;
     }
 
 -- the ask of a line is sent
@@ -268,7 +270,7 @@ world-given_up up0 down0 up down up1 w e n there piece rest in_world front_part 
   up_left = left-passed n e.up_there there piece w.up in_world.up_left front_part left;
   down_left = in_world.down_left;
   told_is = in_world.told_is;
-  fits = fits-given_up replay IsNext IsNextTurn IsFit world_laws (first_value []) n w in_world.fits;
+  fits = fits-given_up replay AlwaysRoom IsNextIn IsNextTurn IsFit world_laws (first_value []) n w in_world.fits;
 }
 
 -- what a step sends is put_last down
@@ -303,7 +305,7 @@ world-answered up0 down0 up down down1 w frame frames e seat side out there in_w
       up_left = in_world.up_left;
       down_left = left-put w there e.down_there out (steps run_step w.state (frame ∷ [])).sent in_world.down_left all left;
       told_is = in_world.told_is;
-      fits = fits-answered_one replay IsNext IsNextTurn IsFit world_laws (first_value []) frame frames w in_world.fits;
+      fits = fits-answered_one replay AlwaysRoom IsNextIn IsNextTurn IsFit world_laws (first_value []) frame frames w tt in_world.fits;
     }
 
 -- the script makes a step by itself
@@ -324,7 +326,7 @@ world-turned up0 down0 up down down1 w e x seat side out there in_world next sta
   up_left = in_world.up_left;
   down_left = left-put w there e.down_there out (turn x w.state.back).sent in_world.down_left out_is left;
   told_is = in_world.told_is;
-  fits = fits-turned replay IsNext IsNextTurn IsFit world_laws (first_value []) x w next in_world.fits;
+  fits = fits-turned replay AlwaysRoom IsNextIn IsNextTurn IsFit world_laws (first_value []) x w tt next in_world.fits;
 }
 
 -- ---- there is room

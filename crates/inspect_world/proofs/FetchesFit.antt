@@ -35,24 +35,25 @@ use Rattle.front_mirror.specs.Front.{take_frame}
 use Rattle.front_mirror.specs.Laws.{Has}
 use Rattle.back_end.specs.States.{State, sheets_shown, view_of}
 use Rattle.back_end.specs.Laws.{HasRoom}
-use Rattle.inspect_world.specs.Stream.{sent}
+use Rattle.session_runs.specs.Stream.{sent, arriving}
 use Rattle.front_mirror.specs.declared.panels.PanelKind.{PanelKind}
-use Rattle.inspect_world.specs.World.{World, Audience, Spent, settled}
+use Rattle.session_runs.specs.World.{settled}
+use Rattle.inspect_world.specs.World.{World, Audience, Spent, PlainlySpent, plainly}
 use Rattle.cdp_json.specs.Lookups.{then_ok}
-use Rattle.inspect_world.specs.Fold.{folded}
-use Rattle.inspect_world.specs.Fetches.{front_in, fetched, fetched_if, all_fetched, stale_in, IsDue, GivesText, FetchLaws}
-use Rattle.inspect_world.specs.Fits.{join, with_ask, IsPlainFrame, most_bytes, most_sheets, most_fetches, kept_styles, IsBare, IsNext}
+use Rattle.session_runs.specs.Fold.{folded}
+use Rattle.session_runs.specs.Fetches.{front_in, fetched, fetched_if, all_fetched, stale_in, IsDue, GivesText, FetchLaws}
+use Rattle.inspect_world.specs.Fits.{join, with_ask, IsPlainFrame, most_bytes, most_sheets, most_fetches, kept_styles, IsBare, AlwaysRoom, IsNextIn}
 use Rattle.inspect_world.specs.Fits.{IsNextTurn, IsFit, replay, Fits}
 use Rattle.inspect_world.specs.Costs.{line_cost, lines_cost}
 use Rattle.inspect_world.specs.Scripts.{after_line, after_lines, loaded_world}
 use Rattle.inspect_world.specs.ScriptsFit.{IsLater}
 use Rattle.replay_script.specs.Sound.{CanSend}
 use Rattle.inspect_world.specs.ShownReplies.{reply_shown, replies_in}
-use Rattle.inspect_world.specs.FreshRuns.{front_fetcher, refreshes, fresh_line, Unstyled, unstyled, Together, FreshLinesFit, FreshInputsFit}
+use Rattle.inspect_world.specs.FreshRuns.{front_fetcher, refreshes, fresh_line, Unstyled, unstyled, no_others, Together, FreshLinesFit, FreshInputsFit}
 use Rattle.inspect_world.specs.FreshRuns.{fresh_lines, ShowsFresh, RefreshedShows, InputsShowTexts}
-use Rattle.inspect_world.proofs.FitLemmas.{fit-room, world_laws}
-use Rattle.inspect_world.proofs.AgreeLemmas.{ok-one}
-use Rattle.inspect_world.proofs.FetchLemmas.{IsRefreshed, settled-rests, fit-rests, refreshed-made}
+use Rattle.inspect_world.proofs.FitLemmas.{fit-room, world_laws, room-always}
+use Rattle.session_runs.proofs.AgreeLemmas.{ok-one}
+use Rattle.session_runs.proofs.FetchLemmas.{IsRefreshed, settled-rests, fit-rests, refreshed-made}
 use Rattle.inspect_world.proofs.Messages.{ask_in-sent}
 use Rattle.inspect_world.proofs.Replies.{replies-of}
 use Rattle.inspect_world.proofs.StepsTaken.{frames_of-moves}
@@ -181,7 +182,7 @@ gives-text : (n : Spent) (front after : FrontValue) (run : RunState) (number : �
     → IsDue IsFit front_fetcher most_fetches n front run number numbers
     → folded take_frame (join front (front_fetcher.text n.fetches number))
     (frames_of (run_step run (front_fetcher.text n.fetches number)).sent).whole ≡ Ok after
-    → GivesText front_fetcher unstyled front after run (run_step run (front_fetcher.text n.fetches number)).state numbers
+    → GivesText front_fetcher unstyled no_others front after run (run_step run (front_fetcher.text n.fetches number)).state numbers
 gives-text n front after run number numbers due taken =
     let state : State = run.back in
     let s : IsShownSheet state number = due-shown n front run number numbers due in
@@ -214,12 +215,16 @@ gives-text n front after run number numbers due taken =
       left = ap (λ (u : FrontValue). stale_of u.sheets) is ∙ ap stale_of f.2 ∙ stale-fetched front.sheets number numbers s.text apart
           due.first;
       same = ap unstyled is ∙ f.3 ∙ ap (λ (asks : List Ask). record (unstyled front) { asks = asks }) due.fit.asks;
+      others = refl;
     }
 
 -- ---- the laws
 
-pub fetch_laws : FetchLaws replay IsNext IsFit front_fetcher unstyled most_sheets most_fetches
+pub fetch_laws : FetchLaws replay AlwaysRoom IsNextIn IsFit plainly front_fetcher unstyled no_others most_sheets most_fetches
 fetch_laws = record {
+  counts = λ n. refl;
+  plain = λ n. refl;
+  turns = λ n m same. ap (λ (k : PlainlySpent). record k { turns = k.turns + 1 }) same;
   takes = unstyled-takes;
   joins = unstyled-joins;
   few = few-stale;
@@ -227,7 +232,7 @@ fetch_laws = record {
   letters = λ n front state number numbers due. fetcher-text n.fetches number due.left;
   next = λ n front state number numbers due. let s : IsShownSheet state.back number = due-shown n front state number numbers due in
       fetcher-next n number due.left (omega (arith, s.high));
-  answer = gives-text;
+  answer = λ n front after state number numbers room. gives-text n front after state number numbers;
 }
 
 -- a script's asks are no fetches
@@ -246,13 +251,13 @@ kept-all w front all is = replies-of (frames_of (sent w.up)).whole (frames_of w.
 -- ---- the law of the run with fetches
 
 pub fresh-lines : FreshLinesFit front_fetcher IsPlainFrame
-fresh-lines = fresh-lines-fit front_fetcher IsPlainFrame fetch_laws plain-sent plain-bare
+fresh-lines = fresh-lines-fit front_fetcher IsPlainFrame (λ n. refl) fetch_laws plain-sent plain-bare
 
 pub fresh-inputs : FreshInputsFit front_fetcher IsPlainFrame
-fresh-inputs = fresh-inputs-fit front_fetcher IsPlainFrame fetch_laws plain-sent plain-bare
+fresh-inputs = fresh-inputs-fit front_fetcher IsPlainFrame (λ n. refl) fetch_laws plain-sent plain-bare
 
 pub refreshed-all : RefreshedShows front_fetcher IsPlainFrame
-refreshed-all = refreshed-shows front_fetcher IsPlainFrame fetch_laws plain-sent plain-bare kept-all
+refreshed-all = refreshed-shows front_fetcher IsPlainFrame (λ n. refl) fetch_laws plain-sent plain-bare kept-all
 
 -- after any lines of an input, a settle shows the texts of the page
 pub inputs-show-texts : InputsShowTexts
@@ -262,10 +267,10 @@ inputs-show-texts input page lines is few kinds n =
     let w = after_lines (take n lines) (loaded_world kinds page) in
     let v = fresh_lines front_fetcher (take n lines) (loaded_world kinds page) in
     let start : Together IsPlainFrame (lines_cost lines) (loaded_world kinds page) (loaded_world kinds page) =
-    together-loaded front_fetcher IsPlainFrame fetch_laws plain-sent plain-bare kinds page (lines_cost lines) script.can script.texts
+    together-loaded front_fetcher IsPlainFrame (λ n. refl) fetch_laws plain-sent plain-bare kinds page (lines_cost lines) script.can script.texts
     (omega (arith, cost, few)) in
     let both : Together IsPlainFrame 0 w v =
-    lines-together front_fetcher IsPlainFrame fetch_laws plain-sent plain-bare n lines (loaded_world kinds page) (loaded_world kinds page)
+    lines-together front_fetcher IsPlainFrame (λ n. refl) fetch_laws plain-sent plain-bare n lines (loaded_world kinds page) (loaded_world kinds page)
     script.rest.later start in
     let shown : ShowsFresh front_fetcher (settled run_step w) (refreshes front_fetcher v) = refreshed-all w v both in
     record {
@@ -277,15 +282,15 @@ inputs-show-texts input page lines is few kinds n =
 
 pub play-line : (line : LineForm) (k : ℕ) (w v : World RunState) → IsLater line → Together IsPlainFrame (k + line_cost line) w v
     → Together IsPlainFrame k (after_line line w) (fresh_line front_fetcher line v)
-play-line = together-line front_fetcher IsPlainFrame fetch_laws plain-sent plain-bare
+play-line = together-line front_fetcher IsPlainFrame (λ n. refl) fetch_laws plain-sent plain-bare
 
 pub play-loaded : (kinds : List PanelKind) (page : LoadedPage) (k : ℕ) → CanLoadPage page → PageHasTexts page → k ≤ most_bytes
     → Together IsPlainFrame k (loaded_world kinds page) (loaded_world kinds page)
-play-loaded = together-loaded front_fetcher IsPlainFrame fetch_laws plain-sent plain-bare
+play-loaded = together-loaded front_fetcher IsPlainFrame (λ n. refl) fetch_laws plain-sent plain-bare
 
 pub play-told : (k : ℕ) (w v : World RunState) (n : Audience) → Together IsPlainFrame k w v
     → Together IsPlainFrame k w (record v { told = n })
-play-told = together-told front_fetcher IsPlainFrame fetch_laws plain-sent plain-bare
+play-told = together-told front_fetcher IsPlainFrame (λ n. refl) fetch_laws plain-sent plain-bare
 
 -- what a front end shows after a settle: what the client sees; and it has kept the replies and the pauses that came in the run without
 -- fetches, and the matched styles that the client was told
@@ -299,15 +304,16 @@ pub record ShownThen (w : World RunState) (front : FrontValue) : Type 0 where
 pub shown-then : (k : ℕ) (w v : World RunState) (front : FrontValue) → Together IsPlainFrame k w v
     → front_in replay (first_value []) (refreshes front_fetcher v) ≡ Ok front → ShownThen w front
 shown-then k w v front both is =
-    let made : IsRefreshed replay IsNext IsNextTurn IsFit world_laws front_fetcher unstyled most_sheets most_fetches fetch_laws
-    (first_value []) w v (refreshes front_fetcher v) =
-    refreshed-made replay IsNext IsNextTurn IsFit world_laws front_fetcher unstyled most_sheets most_fetches fetch_laws (first_value []) w v
+    let made : IsRefreshed replay AlwaysRoom IsNextIn IsNextTurn IsFit world_laws plainly front_fetcher unstyled no_others most_sheets
+    most_fetches fetch_laws (first_value []) w v (refreshes front_fetcher v) =
+    refreshed-made replay AlwaysRoom IsNextIn IsNextTurn IsFit world_laws plainly front_fetcher unstyled no_others most_sheets most_fetches
+    fetch_laws (first_value []) w v
     both.runs.fits both.runs.fits_fresh both.runs.agrees
-    (room-fetches front_fetcher IsPlainFrame fetch_laws plain-sent plain-bare v k both.left) in
+    (room-fetches front_fetcher IsPlainFrame (λ n. refl) fetch_laws plain-sent plain-bare v k both.left)
+    (room-always w.state (arriving (length w.up.flying) w.up)) (room-always v.state (arriving (length v.up.flying) v.up)) tt in
     let v1 = refreshes front_fetcher v in
     let fit : IsFit v1.spent front v1.state [] =
-    fit-rests replay IsNext IsNextTurn IsFit world_laws front_fetcher unstyled most_sheets most_fetches fetch_laws
-    (first_value []) v1 front made.fits made.rests is in
+    fit-rests replay IsFit (first_value []) v1 front made.fits made.rests is in
     let same : made.agrees.fresh ≡ front = ok-one (front_in replay (first_value []) v1) made.agrees.fresh front made.agrees.fresh_is is in
     record {
       has = subst (λ (s : RunState). Has front (view_of s.back)) (sym made.agrees.state) fit.has;
@@ -322,7 +328,7 @@ shown-then k w v front both is =
           ap (λ (f : FrontValue). map reply_shown f.replies) (sym same)
           ∙ sym (ap (λ (u : Unstyled). map reply_shown u.replies) made.agrees.same)
           ∙ kept-all (settled run_step w) made.agrees.plain
-          (settled-plain front_fetcher IsPlainFrame fetch_laws plain-sent plain-bare w both.runs.plain) made.agrees.plain_is;
+          (settled-plain front_fetcher IsPlainFrame (λ n. refl) fetch_laws plain-sent plain-bare w both.runs.plain) made.agrees.plain_is;
     }
 
 -- ---- fetches spend nothing but fetches, and tell no reply
@@ -366,8 +372,6 @@ pub few-then : (w : World RunState) (front : FrontValue) → Fits (settled run_s
     → length (stale_of front.sheets) ≤ most_sheets
 few-then w front fits is =
     let w1 = settled run_step w in
-    let rests = settled-rests replay IsNext IsNextTurn IsFit world_laws front_fetcher unstyled most_sheets most_fetches fetch_laws
-    (first_value []) w fits in
+    let rests = settled-rests replay IsFit (first_value []) w fits in
     few-stale w1.spent front w1.state []
-    (fit-rests replay IsNext IsNextTurn IsFit world_laws front_fetcher unstyled most_sheets most_fetches fetch_laws
-    (first_value []) w1 front fits rests is)
+    (fit-rests replay IsFit (first_value []) w1 front fits rests is)

@@ -21,12 +21,13 @@ use Rattle.inspect_world.specs.RunStates.{RunState, ToldStyles, styles_answered,
 use Rattle.back_end.specs.Laws.{most_ids, tree_edits, edits_kept, edits_asked, KeepsAtMost, HasRoom, StepsWell, IsAnswered}
 use Rattle.inspect_world.specs.World.{Spent, one_turn}
 use Rattle.cdp_json.specs.Lookups.{then_ok}
-use Rattle.inspect_world.specs.Fold.{folded, Laws, Leads}
+use Rattle.session_runs.specs.Fold.{folded, Laws, Leads, RoomThroughout}
+use Rattle.session_runs.proofs.Worlds.{always-room}
 use Rattle.inspect_world.specs.Fits.{join, ask_of_frame, ask_with, sheet_fetched, IsPlainFrame, edits_of_frame, drawing, asking, with_ask}
 use Rattle.inspect_world.specs.Fits.{Sendable, is_ask, is_bare, AreSendable, asks_among, most_bytes, most_frames, most_trees, IsNext}
 use Rattle.inspect_world.specs.Fits.{next_ask, next_fetch, next_raw, IsNextTurn, most_drawn, most_serials, most_numbers, most_searches}
 use Rattle.inspect_world.specs.Fits.{kept_styles, IsFit}
-use Rattle.inspect_world.specs.Fits.{replay}
+use Rattle.inspect_world.specs.Fits.{AlwaysRoom, IsNextIn, replay}
 use Rattle.front_mirror.proofs.FoldLemmas.{take_frame-more}
 use Rattle.inspect_world.proofs.AskLemmas.{asks_among-append, sendable-last, draws-one, draws-none, drawing-last, drawing-fetch, asks-edits}
 use Rattle.inspect_world.proofs.AskLemmas.{asks-none, asking-last, asking-fetch}
@@ -494,5 +495,15 @@ fit-turned n x front s frames next fit =
           (drawing frames) n.asks n.raws n.turns well.searches fit.searches;
     }) (ap (map kept_styles) (quiet-styles done.moves (turn-answers x state))) (append-nil s.styles)
 
-pub world_laws : Laws replay IsNext IsNextTurn IsFit
-world_laws = record { later = folded-join; asks = fit-asked; answers = fit-answered; turns = fit-turned }
+-- the laws of a run, of a replay
+pub world_laws : Laws replay AlwaysRoom IsNextIn IsNextTurn IsFit
+world_laws = record {
+  later = folded-join;
+  asks = λ n m ask front state frames is_next. fit-asked n m ask front state frames is_next;
+  answers = λ n frame front state frames room. fit-answered n frame front state frames;
+  turns = λ n x front state frames room. fit-turned n x front state frames;
+}
+
+-- there is room throughout
+pub room-always : (s : RunState) (frames : List (List ℕ)) → RoomThroughout run_step AlwaysRoom s frames
+room-always s frames = always-room run_step AlwaysRoom (λ state. tt) s frames

@@ -29,7 +29,7 @@ use Rattle.front_mirror.specs.Front.{matched_in}
 use Rattle.front_mirror.specs.Front.{with_matched, with_effect, with_body, with_reply, with_fault, with_tree, ToldChange, told_change}
 use Rattle.front_mirror.specs.Front.{at_spot, change_fault, with_change, seen_pause, halted, is_shown, told_sheets, with_news, with_message}
 use Rattle.cdp_json.specs.Lookups.{then_ok}
-use Rattle.inspect_world.specs.Fold.{folded, asks_joined}
+use Rattle.session_runs.specs.Fold.{folded, asks_joined}
 use Rattle.inspect_world.specs.Fits.{join, with_ask, ask_of_frame}
 use Rattle.inspect_world.specs.Links.{knows_styles}
 use Rattle.inspect_world.specs.ShownPauses.{pause_told, pauses_of_message, pauses_in_frame}

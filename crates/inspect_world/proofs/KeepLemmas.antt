@@ -2,12 +2,8 @@
 use Rattle.std.proofs.Common.{◌≡◌, ℕ, List, [], ◌∷◌, ◌++◌, refl, sym, ◌∙◌, ap, append_assoc, append-nil, Result, Ok, Err}
 use Rattle.std.specs.List.{All}
 use Rattle.std.proofs.lemmas.List.Elements.{All-head, All-tail}
-use Rattle.pipe_frames.specs.Frames.{frames_of}
-use Rattle.inspect_world.specs.Stream.{sent}
-use Rattle.inspect_world.specs.World.{World}
 use Rattle.cdp_json.specs.Lookups.{then_ok}
-use Rattle.inspect_world.specs.Fold.{folded, asks_joined, Machine}
-use Rattle.inspect_world.specs.Agreement.{RunsAgree}
+use Rattle.session_runs.specs.Fold.{folded, asks_joined}
 use Rattle.inspect_world.specs.Keeping.{all_told_by, KeepLaws}
 
 module _ {F E R : Type 0} (take : F → List ℕ → Result F E) (join : F → List ℕ → F) (kept : F → List R) (tells : List ℕ → List R)
@@ -43,16 +39,3 @@ module _ {F E R : Type 0} (take : F → List ℕ → Result F E) (join : F → L
   replies-kept start front asks frames waits empty all is =
       let joins = kept-joined asks start all waits in
       kept-folded frames (asks_joined join start asks) front joins.0 is ∙ ap (λ ts. ts ++ all_told_by tells frames) (joins.1 ∙ empty)
-
--- what the front end of the run with fetches keeps is what the frames tell that came down in the run without
-pub replies-agree : {S F E X A R : Type 0} (machine : Machine S F E X) (start : F) (seen : F → A) (shown : A → List R)
-    (tells : List ℕ → List R)
-    (WaitsPlainly : F → Type 0) (IsPlain : List ℕ → Type 0) (w v : World S)
-    → KeepLaws machine.take machine.join (λ front. shown (seen front)) tells WaitsPlainly IsPlain → WaitsPlainly start
-    → shown (seen start) ≡ []
-    → All IsPlain (frames_of (sent w.up)).whole → (agrees : RunsAgree machine start seen w v)
-    → shown (seen agrees.fresh) ≡ all_told_by tells (frames_of w.down.given).whole
-replies-agree machine start seen shown tells WaitsPlainly IsPlain w v keeps waits empty all agrees =
-    sym (ap shown agrees.same)
-    ∙ replies-kept machine.take machine.join (λ front. shown (seen front)) tells WaitsPlainly IsPlain keeps start agrees.plain
-    (frames_of (sent w.up)).whole (frames_of w.down.given).whole waits empty all agrees.plain_is

@@ -1,9 +1,3 @@
-pub mod Frames
-pub mod Folds
-pub mod Worlds
-pub mod AgreeLemmas
-pub mod FetchLemmas
-pub mod TogetherLemmas
 pub mod KeepLemmas
 pub mod AskLemmas
 pub mod Pipes

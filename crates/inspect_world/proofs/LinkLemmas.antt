@@ -21,7 +21,8 @@ use Rattle.replay_script.specs.Forms.{AskForm}
 use Rattle.back_end.specs.declared.seat.Seat.{Seat}
 use Rattle.back_end.specs.declared.side.PageSide.{PageSide}
 use Rattle.back_end.specs.States.{State}
-use Rattle.back_end.specs.Steps.{Turn, step, turn}
+use Rattle.back_end.specs.Steps.{Turn}
+use Rattle.inspect_world.specs.StepBytes.{step, turn}
 use Rattle.back_end.specs.Laws.{tree_edits, edits_kept, HasRoom, IsTurn}
 use Rattle.page_tree.specs.Forms.{max_nodes}
 use Rattle.page_forms.specs.Sheets.{max_sheets}
@@ -43,7 +44,7 @@ use Rattle.front_mirror.specs.Front.{matched_in}
 use Rattle.inspect_world.proofs.Growing.{grows-folded, styles-stay}
 use Rattle.inspect_world.proofs.StepsTaken.{folded-fold}
 use Rattle.inspect_world.proofs.AskLemmas.{asks_among-append}
-use Rattle.inspect_world.proofs.Worlds.{whole-after, rest-after}
+use Rattle.session_runs.proofs.Worlds.{whole-after, rest-after}
 use Rattle.inspect_world.proofs.CountLemmas.{events-counted, frames-few, frames-within, bytes-append, commands-long, commands-last}
 use Rattle.inspect_world.proofs.CountLemmas.{made-last}
 use Rattle.inspect_world.proofs.CountLemmas.{more_serials, more_numbers, more_searches, is-full, ids-left, serials-left, numbers-left}

@@ -2,9 +2,9 @@
 use Rattle.std.proofs.Common.{◌≡◌, ℕ, List, ◌++◌, length, take, drop, sym, ◌∙◌, ap, append_assoc, append-nil}
 use Rattle.std.proofs.Math.Seq.{drop-append_seam}
 use Rattle.pipe_frames.specs.Pipe.{Pipe, waiting}
-use Rattle.inspect_world.specs.Stream.{Stream, no_stream, sent, put_last, passed}
+use Rattle.session_runs.specs.Stream.{Stream, no_stream, sent, put_last, passed}
 use Rattle.inspect_world.specs.Carried.{Carries}
-use Rattle.inspect_world.proofs.Frames.{sent-passed}
+use Rattle.session_runs.proofs.Frames.{sent-passed}
 
 -- at the start nothing is on its way
 pub carries-start : (start : Pipe) → start.given ≡ start.sent → Carries start start no_stream

@@ -7,7 +7,7 @@ use Rattle.front_mirror.specs.declared.replies.Ask.{Ask}
 use Rattle.front_mirror.specs.Front.{FrontValue, ask_under, method_waiting, fetched_sheet, asks_without, reply_kept, unless_fetch}
 use Rattle.front_mirror.specs.Front.{kept_reply}
 use Rattle.front_mirror.specs.Laws.{without_all}
-use Rattle.inspect_world.specs.Fold.{asks_joined}
+use Rattle.session_runs.specs.Fold.{asks_joined}
 use Rattle.inspect_world.specs.Fits.{ask_of_frame, IsPlainFrame, with_ask, join}
 
 -- none of them is a fetch

@@ -30,7 +30,7 @@ use Rattle.front_mirror.specs.Front.{refused, with_root, root_fault, matched_tol
 use Rattle.front_mirror.specs.Front.{with_fault, with_tree, ToldChange, told_change, at_spot, change_fault, with_change, halted, is_shown}
 use Rattle.front_mirror.specs.Front.{told_sheets, with_news, with_message}
 use Rattle.cdp_json.specs.Lookups.{then_ok}
-use Rattle.inspect_world.specs.Fold.{folded, asks_joined}
+use Rattle.session_runs.specs.Fold.{folded, asks_joined}
 use Rattle.inspect_world.specs.Fits.{join, with_ask, ask_of_frame, IsPlainFrame}
 use Rattle.inspect_world.specs.ShownReplies.{ShownReply, reply_shown, replies_in_frame, replies_among}
 use Rattle.inspect_world.proofs.PlainAsks.{ArePlain, kept-plain, without-plain, joined-plain}

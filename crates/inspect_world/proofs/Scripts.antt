@@ -1,48 +1,40 @@
 -- The streams of a script fit the state of the page, line by line.
-use Rattle.std.proofs.Common.{◌≡◌, ℕ, zero, suc, ◌+◌, ◌*◌, ◌^◌, ◌<◌, ◌≤◌, List, [], ◌∷◌, length, take, Ok, refl, sym, ◌∙◌, ap, subst, arith}
-use Rattle.std.specs.Prelude.{IsUtf8, Bool, true, false, ◌&&◌, nat_le}
+use Rattle.std.proofs.Common.{◌≡◌, ℕ, zero, suc, ◌+◌, ◌*◌, ◌^◌, ◌<◌, ◌≤◌, List, [], ◌∷◌, length, take, Ok, refl, sym, ◌∙◌, ap, arith}
+use Rattle.std.specs.Prelude.{Bool, true, false, ◌&&◌, nat_le}
 use Rattle.std.specs.List.{list_all}
 use Rattle.std.proofs.lemmas.Bool.{leb-true}
-use Rattle.std.proofs.lemmas.List.Elements.{All-head, All-tail}
-use Rattle.std.proofs.lemmas.Str.{IsUtf8-nil}
 use Rattle.page_forms.specs.declared.sheets.SheetForm.{SheetForm}
-use Rattle.page_forms.specs.Sheets.{max_sheets, max_sheet_bytes, is_short, can_hold_sheets}
-use Rattle.back_end.specs.Sheets.{numbered_sheets, AscendBetween, AreSheetTexts, AreSheetsBelow}
-use Rattle.node_tree.specs.Nodes.{Nodes, none, node, node_count}
-use Rattle.node_tree.specs.Labels.{Label}
+use Rattle.page_forms.specs.Sheets.{max_sheets, is_short, can_hold_sheets}
+use Rattle.node_tree.specs.Nodes.{node_count}
 use Rattle.page_forms.specs.Pages.{LoadedPage, CanLoadPage}
-use Rattle.page_tree.specs.Pages.{numbered}
-use Rattle.page_tree.proofs.NumberLemmas.{loaded_valid}
-use Rattle.node_binding.proofs.SessionLemmas.{IsSession-begun}
 use Rattle.cdp_messages.specs.Asked.{command_text}
-use Rattle.dom_agent.specs.Laws.{RowsHaveUtf8}
 use Rattle.front_mirror.specs.Front.{first_value, take_frame}
 use Rattle.replay_script.specs.Forms as forms
 use Rattle.replay_script.specs.Forms.{AskForm, LineForm, load, ask, up, down, settle, show_front, show_page, show_sheets, show_replies}
 use Rattle.replay_script.specs.Forms.{show_pauses, show_panels, show_styles, close}
 use Rattle.pipe_frames.specs.Frames.{IsText, frames_of}
-use Rattle.inspect_world.specs.Stream.{sent, held, awaited}
-use Rattle.inspect_world.specs.Fold.{folded, asks_joined}
+use Rattle.session_runs.specs.Stream.{sent, held, awaited, arriving}
+use Rattle.session_runs.specs.Fold.{folded, asks_joined}
 use Rattle.front_mirror.specs.declared.panels.PanelKind.{PanelKind}
-use Rattle.inspect_world.specs.World.{World, Audience, Spent, nothing_spent, one_raw, raw, turned, delivered_up, settled}
-use Rattle.back_end.proofs.WatchedLemmas.{none-set}
-use Rattle.back_end.specs.States.{nodes_shown, loaded_state, HoldsNow, IsState}
+use Rattle.session_runs.specs.World.{delivered_up, settled}
+use Rattle.inspect_world.specs.World.{World, Audience, audience, Spent, nothing_spent, one_ask, one_raw, raw, turned}
+use Rattle.back_end.proofs.StartLemmas.{IsState-first}
 use Rattle.back_end.specs.Steps.{Turn, acts, loads}
 use Rattle.inspect_world.specs.RunStates.{RunState, run_start, run_step, run_turn}
 use Rattle.inspect_world.proofs.Growing.{pauses-of}
-use Rattle.inspect_world.specs.Fits.{join, asks_among, IsNext, next_raw, IsBare, IsNextTurn, HasLeft, most_bytes, most_frames, most_sheets}
-use Rattle.inspect_world.specs.Fits.{most_fetches, IsFit, replay, Fits}
+use Rattle.inspect_world.specs.Fits.{join, asks_among, next_raw, IsBare, IsNextTurn, HasLeft, most_bytes, most_frames, most_sheets}
+use Rattle.inspect_world.specs.Fits.{most_fetches, IsFit, AlwaysRoom, IsNextIn, replay, Fits}
 use Rattle.inspect_world.specs.Costs.{ask_edits, least_line, line_cost, lines_cost}
 use Rattle.inspect_world.specs.Scripts.{sends, after_line, after_lines, loaded_world}
-use Rattle.page_forms.specs.Texts.{HaveTexts, SheetsHaveTexts, PageHasTexts}
+use Rattle.page_forms.specs.Texts.{PageHasTexts}
 use Rattle.inspect_world.specs.ScriptsFit.{IsLater, AreLater, LinesFit, BareFramesFit, TurnsFit, DeliveriesFit, SettledShows}
 use Rattle.replay_script.specs.Sound.{CanSend}
 use Rattle.inspect_world.proofs.Messages.{IsText-sent, IsNext-sent}
-use Rattle.inspect_world.proofs.Frames.{given-all, sent-all, awaited-none}
+use Rattle.session_runs.proofs.Frames.{given-all, sent-all, awaited-none}
 use Rattle.inspect_world.proofs.Replies.{replies-of}
-use Rattle.inspect_world.proofs.Worlds.{fits-first, fits-sent_up, fits-asked, fits-turned, fits-delivered_up, fits-delivered_down}
-use Rattle.inspect_world.proofs.Worlds.{fits-settled}
-use Rattle.inspect_world.proofs.FitLemmas.{world_laws}
+use Rattle.session_runs.proofs.Worlds.{fits-first, fits-sent_up, fits-turned, fits-delivered_up, fits-delivered_down}
+use Rattle.session_runs.proofs.Worlds.{fits-settled}
+use Rattle.inspect_world.proofs.FitLemmas.{world_laws, room-always}
 
 -- ---- the start
 
@@ -53,60 +45,6 @@ and-true false b e = absurd cc
 -- the sheets of a page that is loaded
 few-sheets : (sheets : List SheetForm) → can_hold_sheets sheets ≡ true → length sheets ≤ 1000
 few-sheets sheets can = leb-true (length sheets) 1000 (and-true (nat_le (length sheets) max_sheets) (list_all is_short sheets) can).0
-
-length-numbered : (next : ℕ) (sheets : List SheetForm) → length (numbered_sheets next sheets) ≡ length sheets
-length-numbered next [] = refl
-length-numbered next (f ∷ fs) = ap suc (length-numbered (next + 1) fs)
-
-ascend-numbered : (next : ℕ) (sheets : List SheetForm) → AscendBetween next (next + length sheets) (numbered_sheets next sheets)
-ascend-numbered next [] = omega arith
-ascend-numbered next (f ∷ fs) =
-    let same : next + 1 + length fs ≡ next + suc (length fs) = omega arith in
-    (omega arith, subst (λ m. AscendBetween (next + 1) m (numbered_sheets (next + 1) fs)) same (ascend-numbered (next + 1) fs))
-
-texts-of-sheets : (next : ℕ) (sheets : List SheetForm) → list_all is_short sheets ≡ true → SheetsHaveTexts sheets
-    → AreSheetTexts (numbered_sheets next sheets)
-texts-of-sheets next [] short texts = tt
-texts-of-sheets next (f ∷ fs) short texts =
-    let p = and-true (is_short f) (list_all is_short fs) short in (
-      All-head (λ (sheet : SheetForm). IsUtf8 sheet.text) f fs texts,
-      leb-true (length f.text) max_sheet_bytes p.0,
-      texts-of-sheets (next + 1) fs p.1 (All-tail (λ (sheet : SheetForm). IsUtf8 sheet.text) f fs texts),
-    )
-
-sheets-first : (sheets : List SheetForm) → can_hold_sheets sheets ≡ true → SheetsHaveTexts sheets
-    → AreSheetsBelow (1 + length sheets) (numbered_sheets 1 sheets)
-sheets-first sheets can texts = record {
-  numbers = ascend-numbered 1 sheets;
-  few = let count : length (numbered_sheets 1 sheets)
-      ≡ length sheets = length-numbered 1 sheets in let few : length sheets ≤ 1000 = few-sheets sheets can in omega (arith, count, few);
-  texts = texts-of-sheets 1 sheets (and-true (nat_le (length sheets) max_sheets) (list_all is_short sheets) can).1 texts;
-}
-
-texts-numbered : (first : ℕ) (n : Nodes Label) → HaveTexts n → RowsHaveUtf8 (numbered first n)
-texts-numbered first none texts = tt
-texts-numbered first (node l c t) texts =
-    (texts.0, texts-numbered (first + 1) c texts.1, texts-numbered (first + 1 + node_count c) t texts.2)
-
-holds-first : (page : LoadedPage) → CanLoadPage page → PageHasTexts page → HoldsNow (loaded_state page)
-holds-first page can texts = record {
-  page = loaded_valid 1 page.nodes (omega arith) can.nodes;
-  texts = ((IsUtf8-nil, IsUtf8-nil, tt), texts-numbered 2 page.nodes texts.nodes, tt);
-  sheets = sheets-first page.sheets can.sheets texts.sheets;
-  session = IsSession-begun (nodes_shown (loaded_state page));
-  off = λ off. refl;
-  css_off = λ off. refl;
-  all_shown = λ off. refl;
-  watched = λ kind serial here. none-set kind serial here;
-  none_watched = λ none. refl;
-}
-
--- nothing was done so far
-pub IsState-first : (page : LoadedPage) → CanLoadPage page → PageHasTexts page → IsState (loaded_state page)
-IsState-first page can texts = record {
-  now = holds-first page can texts;
-  history = record { past = tt; future = tt; going = λ going. let no : false ≡ true = going in absurd cc };
-}
 
 pub fit-first : (page : LoadedPage) → CanLoadPage page → PageHasTexts page → IsFit nothing_spent (first_value []) (run_start page) []
 fit-first page can texts = record {
@@ -128,7 +66,7 @@ fit-first page can texts = record {
 
 pub fits-loaded : (kinds : List PanelKind) (page : LoadedPage) → CanLoadPage page → PageHasTexts page → Fits (loaded_world kinds page)
 fits-loaded kinds page can texts =
-    fits-first replay IsNext IsNextTurn IsFit world_laws kinds (first_value []) (run_start page) (fit-first page can texts)
+    fits-first replay AlwaysRoom IsNextIn IsNextTurn IsFit world_laws (first_value []) nothing_spent (audience kinds) (run_start page) (fit-first page can texts)
 
 -- ---- a line
 
@@ -136,8 +74,8 @@ pub fits-sent : (a : AskForm) (w : World RunState) → CanSend a → w.spent.ask
     → w.spent.edits + ask_edits a ≤ most_bytes → Fits w → Fits (sends a w)
 fits-sent a w can few few_edits fits =
     let small : w.spent.asks + 1 < 2 ^ 30 = omega (arith, few) in
-    fits-asked replay IsNext IsNextTurn IsFit world_laws (first_value []) (command_text (w.spent.asks + 1) a.method a.params a.session)
-    (ask_edits a) w
+    fits-sent_up replay AlwaysRoom IsNextIn IsNextTurn IsFit world_laws (first_value [])
+    (command_text (w.spent.asks + 1) a.method a.params a.session) (one_ask (ask_edits a)) w
     (IsText-sent (w.spent.asks + 1) a can (omega (arith, few))) (IsNext-sent w.spent a can few few_edits small) fits
 
 -- what was told says nothing of the streams
@@ -152,14 +90,15 @@ fits-told w n fits = record {
 }
 
 settled-fits : (w : World RunState) → Fits w → Fits (settled run_step w)
-settled-fits w fits = fits-settled replay IsNext IsNextTurn IsFit world_laws (first_value []) w fits
+settled-fits w fits = fits-settled replay AlwaysRoom IsNextIn IsNextTurn IsFit world_laws (first_value []) w
+    (room-always w.state (arriving (length w.up.flying) w.up)) fits
 
 turned-fits : (x : Turn) (w : World RunState) → IsNextTurn w.spent x → Fits w → Fits (turned run_turn x w)
-turned-fits x w next fits = fits-turned replay IsNext IsNextTurn IsFit world_laws (first_value []) x w next fits
+turned-fits x w next fits = fits-turned replay AlwaysRoom IsNextIn IsNextTurn IsFit world_laws (first_value []) x w tt next fits
 
 raw-fits : (text : List ℕ) (w : World RunState) → IsText text → IsBare text → w.spent.asks + w.spent.raws + 1 ≤ most_frames → Fits w
     → Fits (raw text w)
-raw-fits text w letters bare few fits = fits-sent_up replay IsNext IsNextTurn IsFit world_laws (first_value []) text one_raw w letters
+raw-fits text w letters bare few fits = fits-sent_up replay AlwaysRoom IsNextIn IsNextTurn IsFit world_laws (first_value []) text one_raw w letters
     (next_raw bare few) fits
 
 -- room for a line is room for a frame, for the edits of an ask and for a step of the script
@@ -178,8 +117,9 @@ fits-line (forms.act a) w later left fits = turned-fits (acts a) w (record { is_
 fits-line (ask a) w later left fits = fits-sent a w later (frame-left w.spent (ask_edits a) left)
     (edits-left w.spent (ask_edits a) left) fits
 fits-line (forms.raw text) w later left fits = raw-fits text w later.0 later.1 (frame-left w.spent 0 left) fits
-fits-line (up n) w later left fits = fits-delivered_up replay IsNext IsNextTurn IsFit world_laws (first_value []) n w fits
-fits-line (down n) w later left fits = fits-delivered_down replay IsNext IsNextTurn IsFit world_laws (first_value []) n w fits
+fits-line (up n) w later left fits = fits-delivered_up replay AlwaysRoom IsNextIn IsNextTurn IsFit world_laws (first_value []) n w
+    (room-always w.state (arriving n w.up)) fits
+fits-line (down n) w later left fits = fits-delivered_down replay AlwaysRoom IsNextIn IsNextTurn IsFit world_laws (first_value []) n w fits
 fits-line settle w later left fits = settled-fits w fits
 fits-line show_front w later left fits = settled-fits w fits
 fits-line show_page w later left fits = fits
@@ -330,14 +270,15 @@ turns-fit w x next fits = turned-fits x w next fits
 
 pub deliveries-fit : DeliveriesFit
 deliveries-fit w n fits = (
-  fits-delivered_up replay IsNext IsNextTurn IsFit world_laws (first_value []) n w fits,
-  fits-delivered_down replay IsNext IsNextTurn IsFit world_laws (first_value []) n w fits,
+  fits-delivered_up replay AlwaysRoom IsNextIn IsNextTurn IsFit world_laws (first_value []) n w
+      (room-always w.state (arriving n w.up)) fits,
+  fits-delivered_down replay AlwaysRoom IsNextIn IsNextTurn IsFit world_laws (first_value []) n w fits,
 )
 
 pub settled-shows : SettledShows
 settled-shows w fits =
     let w' = settled run_step w in
-    let all : Fits w' = fits-settled replay IsNext IsNextTurn IsFit world_laws (first_value []) w fits in
+    let all : Fits w' = settled-fits w fits in
     let up_none : w'.up.flying ≡ [] = given-all w.up in
     let down_none : w'.down.flying ≡ [] = given-all (delivered_up run_step (length w.up.flying) w).down in
     let up_held : held w'.up ≡ [] = ap (λ bytes. (frames_of bytes).rest) (sym (sent-all w'.up up_none)) ∙ all.up_whole in

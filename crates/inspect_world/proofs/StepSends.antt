@@ -17,7 +17,9 @@ use Rattle.front_mirror.specs.Laws as front_laws
 use Rattle.front_mirror.specs.Laws.{KnowsSheets, InTurn, rests, meets}
 use Rattle.front_mirror.specs.declared.sheets.KnownSheet.{KnownSheet}
 use Rattle.back_end.specs.States.{State, IsState, view_of}
-use Rattle.back_end.specs.Steps.{Step, Turn, Stepped, asked_step, frame_step, turn_step, as_bytes}
+use Rattle.back_end.specs.Steps.{Step, Turn, asked_step, frame_step, turn_step}
+use Rattle.session_runs.specs.World.{Stepped}
+use Rattle.inspect_world.specs.StepBytes.{as_bytes}
 use Rattle.back_end.specs.Laws.{tree_edits, edits_kept, edits_asked, KeepsAtMost, HasRoom, StepsWell, IsAnswered, IsTurn, reply_ids}
 use Rattle.page_tree.specs.Forms.{max_nodes}
 use Rattle.page_forms.specs.Sheets.{max_sheets}
@@ -33,7 +35,7 @@ use Rattle.inspect_world.proofs.PlainAsks.{ArePlain}
 use Rattle.inspect_world.proofs.Replies.{replies-folded}
 use Rattle.inspect_world.proofs.StepsTaken.{course-quiet, Taken, taken, tells-all, meets-one, by-refusal, ids-kept}
 use Rattle.inspect_world.proofs.AskLemmas.{asks_among-append}
-use Rattle.inspect_world.proofs.Worlds.{whole-after}
+use Rattle.session_runs.proofs.Worlds.{whole-after}
 use Rattle.inspect_world.proofs.CountLemmas.{command-ids, command-trees, command-edits, count-bytes, more-bytes, no-more}
 use Rattle.inspect_world.proofs.CountLemmas.{made-ids}
 use Rattle.inspect_world.proofs.TurnLemmas.{TurnKeeps, turn-keeps}

@@ -30,7 +30,7 @@ use Rattle.back_end.specs.States.{State, view_of}
 use Rattle.back_end.specs.Steps.{Step}
 use Rattle.back_end.specs.Laws.{reply_ids, MayAnswerAll, IsAnswered}
 use Rattle.cdp_json.specs.Lookups.{then_ok}
-use Rattle.inspect_world.specs.Fold.{folded}
+use Rattle.session_runs.specs.Fold.{folded}
 use Rattle.inspect_world.specs.Fits.{ask_with}
 use Rattle.inspect_world.specs.ShownReplies.{ShownReply, reply_shown}
 use Rattle.inspect_world.proofs.Messages.{AskedAs, commanded, refused_as}

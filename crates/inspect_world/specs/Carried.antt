@@ -1,7 +1,7 @@
 -- A pipe that carries a stream of a run.
 use Rattle.std.specs.Prelude.{◌≡◌, ◌++◌}
 use Rattle.pipe_frames.specs.Pipe.{Pipe}
-use Rattle.inspect_world.specs.Stream.{Stream, sent}
+use Rattle.session_runs.specs.Stream.{Stream, sent}
 
 -- since the start, when it had nothing left to give, the pipe took and gave exactly what the stream has
 pub record Carries (start now : Pipe) (s : Stream) : Type 0 where

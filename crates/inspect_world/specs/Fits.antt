@@ -16,14 +16,14 @@ use Rattle.front_mirror.specs.declared.replies.Ask.{Ask}
 use Rattle.front_mirror.specs.declared.faults.FrontKind.{FrontKind}
 use Rattle.front_mirror.specs.Front.{FrontValue, first_value, plain_ask, fetch_ask, take_frame}
 use Rattle.front_mirror.specs.Laws.{Has}
-use Rattle.inspect_world.specs.World.{World, Spent, one_ask, one_fetch, one_raw}
+use Rattle.inspect_world.specs.World.{World, Spent, one_ask, one_fetch, one_raw, one_turn}
 use Rattle.back_end.specs.States.{IsState, view_of}
 use Rattle.back_end.specs.Steps.{Turn}
 use Rattle.inspect_world.specs.RunStates.{RunState, ToldStyles, told_styles, run_step, run_turn}
 use Rattle.front_mirror.specs.declared.replies.MatchedReply.{MatchedReply}
 use Rattle.back_end.specs.Laws.{most_ids, tree_edits, edits_kept, edits_asked, IsTurn}
-use Rattle.inspect_world.specs.Fold.{Machine}
-use Rattle.inspect_world.specs.Fold as fold
+use Rattle.session_runs.specs.Fold.{Machine}
+use Rattle.session_runs.specs.Fold as fold
 
 -- ---- the asks that stand in frames
 
@@ -198,9 +198,17 @@ pub record IsFit (n : Spent) (v : FrontValue) (s : RunState) (frames : List (Lis
   pub numbers : s.back.side.next_sheet + drawing frames * max_sheets ≤ most_numbers n
   pub searches : s.back.client.searches.given + drawing frames ≤ most_searches n
 
+-- A step of a replay asks for no room: a front end that fits leaves enough.
+abbrev pub AlwaysRoom : RunState → Type 0
+AlwaysRoom s = ⊤
+
+-- What a replay may send next turns on what was spent alone.
+abbrev pub IsNextIn : Spent → RunState → List (List ℕ) → List ℕ → Spent → Type 0
+IsNextIn n s frames text m = IsNext n text m
+
 -- how the run of a replay goes on
-abbrev pub replay : Machine RunState FrontValue FrontKind Turn
-replay = record { step = run_step; act = run_turn; take = take_frame; join = join }
+abbrev pub replay : Machine RunState FrontValue FrontKind Turn Spent
+replay = record { step = run_step; act = run_turn; take = take_frame; join = join; one_turn = one_turn }
 
 -- the two whole streams of a run, folded, fit its state
 abbrev pub FitsWith : World RunState → List (List ℕ) → Type 0

@@ -4,10 +4,10 @@ use Rattle.pipe_frames.specs.Pipe.{Pipe}
 use Rattle.pipe_frames.specs.Frames.{frames_of}
 use Rattle.front_mirror.specs.Front.{FrontValue, FrontState, first_value, take_frame}
 use Rattle.front_mirror.specs.declared.panels.PanelKind.{PanelKind}
-use Rattle.inspect_world.specs.Stream.{sent, held}
+use Rattle.session_runs.specs.Stream.{sent, held}
 use Rattle.inspect_world.specs.World.{World, AlreadyTold}
 use Rattle.inspect_world.specs.RunStates.{RunState}
-use Rattle.inspect_world.specs.Fold.{folded, asks_joined}
+use Rattle.session_runs.specs.Fold.{folded, asks_joined}
 use Rattle.inspect_world.specs.Carried.{Carries}
 use Rattle.back_end.specs.declared.seat.Seat.{Seat}
 use Rattle.back_end.specs.declared.side.PageSide.{PageSide}

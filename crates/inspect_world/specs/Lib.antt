@@ -1,9 +1,6 @@
-pub mod Stream
 pub mod World
+pub mod StepBytes
 pub mod RunStates
-pub mod Fold
-pub mod Fetches
-pub mod Agreement
 pub mod Keeping
 pub mod Carried
 pub mod Fits

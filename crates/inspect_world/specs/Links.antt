@@ -10,7 +10,9 @@ use Rattle.front_mirror.specs.declared.faults.FrontFault.{FrontFault}
 use Rattle.front_mirror.specs.declared.panels.PanelKind.{PanelKind}
 use Rattle.front_mirror.specs.Front.{FrontValue, matched_in, fold}
 use Rattle.back_end.specs.States.{State}
-use Rattle.back_end.specs.Steps.{Turn, Stepped, step, turn}
+use Rattle.back_end.specs.Steps.{Turn}
+use Rattle.session_runs.specs.World.{Stepped}
+use Rattle.inspect_world.specs.StepBytes.{step, turn}
 use Rattle.back_end.specs.Laws.{most_ids, tree_edits, edits_kept}
 use Rattle.back_end.specs.Seats.{StandsFor}
 use Rattle.page_tree.specs.Forms.{max_nodes}

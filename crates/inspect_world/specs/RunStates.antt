@@ -13,7 +13,9 @@ use Rattle.cdp_messages.specs.declared.css_ask.CssAsk.TheVariants as css
 use Rattle.css_agent.specs.Asks.{css_ask_in}
 use Rattle.css_agent.specs.MatchedStyles.{matched_styles}
 use Rattle.back_end.specs.States.{State, book_in, loaded_state}
-use Rattle.back_end.specs.Steps.{Turn, Stepped, element_named, step, turn}
+use Rattle.back_end.specs.Steps.{Turn, element_named}
+use Rattle.session_runs.specs.World.{Stepped}
+use Rattle.inspect_world.specs.StepBytes.{step, turn}
 
 -- the matched styles that answered the ask with this id
 pub record ToldStyles : Type 0 where

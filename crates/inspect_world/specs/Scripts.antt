@@ -14,7 +14,8 @@ use Rattle.css_objects.specs.declared.rules.Matched.{Matched}
 use Rattle.cdp_messages.specs.declared.down.PauseData.{PauseData}
 use Rattle.replay_script.specs.Script.{numbered_or, unless_bad, dropped, want_fault, script_fault, script_forms}
 use Rattle.inspect_world.specs.Costs.{ask_edits}
-use Rattle.inspect_world.specs.World.{World, Audience, first_world, ask_sent, raw, turned, delivered_up, delivered_down, settled}
+use Rattle.session_runs.specs.World.{delivered_up, delivered_down, settled}
+use Rattle.inspect_world.specs.World.{World, Audience, first_world, ask_sent, raw, turned}
 use Rattle.inspect_world.specs.ShownReplies.{ShownReply, replies_in, told_lines}
 use Rattle.inspect_world.specs.ActTexts.{act_text}
 use Rattle.inspect_world.specs.SheetTexts.{sheet_lines}

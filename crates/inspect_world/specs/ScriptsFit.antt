@@ -10,9 +10,10 @@ use Rattle.pipe_frames.specs.Frames.{IsText, frames_of}
 use Rattle.front_mirror.specs.Front.{FrontValue, first_value, take_frame}
 use Rattle.front_mirror.specs.declared.panels.PanelKind.{PanelKind}
 use Rattle.front_mirror.specs.Laws.{Has}
-use Rattle.inspect_world.specs.Stream.{held}
-use Rattle.inspect_world.specs.World.{World, raw, turned, delivered_up, delivered_down, settled}
-use Rattle.inspect_world.specs.Fold.{folded, asks_joined}
+use Rattle.session_runs.specs.Stream.{held}
+use Rattle.session_runs.specs.World.{delivered_up, delivered_down, settled}
+use Rattle.inspect_world.specs.World.{World, raw, turned}
+use Rattle.session_runs.specs.Fold.{folded, asks_joined}
 use Rattle.page_forms.specs.Texts.{PageHasTexts}
 use Rattle.back_end.specs.States.{view_of}
 use Rattle.back_end.specs.Steps.{Turn, acts, loads}

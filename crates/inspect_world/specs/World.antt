@@ -1,10 +1,8 @@
--- The run of a script over a link that gives what was sent: the page's state, and the two streams between the ends.
--- A step of the state on one frame gives the state after it, and the bytes that it sends down.
-use Rattle.std.specs.Prelude.{ℕ, ◌+◌, List, [], ◌∷◌, ◌++◌, length, map, Option, Some}
-use Rattle.pipe_frames.specs.Frames.{framed}
-use Rattle.back_end.specs.Steps.{Stepped}
+-- The run of a replay: what is counted of it, who is told what, and the runs of `session_runs` with these.
+use Rattle.std.specs.Prelude.{ℕ, ◌+◌, List, map, Option, Some}
 use Rattle.front_mirror.specs.declared.panels.PanelKind.{PanelKind}
-use Rattle.inspect_world.specs.Stream.{Stream, no_stream, put_last, passed, arriving}
+use Rattle.session_runs.specs.World.{Stepped, sent_up}
+use Rattle.session_runs.specs.World as runs
 
 -- What a run has spent: how many asks, how many fetches and how many other frames the front end has sent, how many steps the
 -- script itself has made, and how many edits the asks may have come to.
@@ -35,6 +33,17 @@ one_raw n = record n { raws = n.raws + 1 }
 abbrev pub one_turn : Spent → Spent
 one_turn n = record n { turns = n.turns + 1 }
 
+-- What a run has spent but for fetches: two runs of one script, of which one fetches, spend alike.
+pub record PlainlySpent : Type 0 where
+  pub asks : ℕ
+  pub raws : ℕ
+  pub turns : ℕ
+  pub edits : ℕ
+
+-- what was spent, without the fetches
+abbrev pub plainly : Spent → PlainlySpent
+plainly n = record { asks = n.asks; raws = n.raws; turns = n.turns; edits = n.edits }
+
 -- how many of the replies and of the pauses that came were told
 pub record AlreadyTold : Type 0 where
   pub replies : ℕ
@@ -53,29 +62,13 @@ pub record Audience : Type 0 where
 abbrev pub audience : List PanelKind → Audience
 audience kinds = record { so_far = nothing_told; panels = map Some kinds }
 
--- the state, the two streams, what was spent, and who was told what
-pub record World (S : Type 0) : Type 0 where
-  pub state : S
-  pub up : Stream
-  pub down : Stream
-  pub spent : Spent
-  pub told : Audience
+-- a run of this kind over any states
+abbrev pub World : Type 0 → Type 0
+World S = runs.World S Spent Audience
 
 -- before anything was sent, with panels of these kinds
 abbrev pub first_world : {S : Type 0} → List PanelKind → S → World S
-first_world kinds state = record { state = state; up = no_stream; down = no_stream; spent = nothing_spent; told = audience kinds }
-
--- the steps on frames, one after the other
-abbrev pub steps : {S : Type 0} → (S → List ℕ → Stepped S) → S → List (List ℕ) → Stepped S
-steps step state [] = record { state = state; sent = [] }
-steps step state (frame ∷ frames) =
-    let first = step state frame in
-    let later = steps step first.state frames in
-    record { state = later.state; sent = first.sent ++ later.sent }
-
--- the front end sends a frame, which is counted by `more`
-abbrev pub sent_up : {S : Type 0} → List ℕ → (Spent → Spent) → World S → World S
-sent_up text more w = record w { up = put_last (framed text) w.up; spent = more w.spent }
+first_world kinds state = runs.first_world nothing_spent (audience kinds) state
 
 -- the front end sends an ask, which may come to so many edits
 abbrev pub ask_sent : {S : Type 0} → ℕ → List ℕ → World S → World S
@@ -87,30 +80,4 @@ raw text w = sent_up text one_raw w
 
 -- the script itself makes a step of the state: what it sends goes down, whatever is on its way up
 abbrev pub turned : {S X : Type 0} → (X → S → Stepped S) → X → World S → World S
-turned act x w =
-    let done = act x w.state in
-    record w { state = done.state; down = put_last done.sent w.down; spent = one_turn w.spent }
-
--- the state answers frames that have come up whole
-abbrev pub answered : {S : Type 0} → (S → List ℕ → Stepped S) → List (List ℕ) → World S → World S
-answered step frames w =
-    let done = steps step w.state frames in
-    record w { state = done.state; down = put_last done.sent w.down }
-
--- n bytes are given up, or as many as are there; the frames that become whole are still to be answered
-abbrev pub given_up : {S : Type 0} → ℕ → World S → World S
-given_up n w = record w { up = passed n w.up }
-
--- n bytes are delivered up, or as many as are there: each frame that becomes whole is one step
-abbrev pub delivered_up : {S : Type 0} → (S → List ℕ → Stepped S) → ℕ → World S → World S
-delivered_up step n w = answered step (arriving n w.up) (given_up n w)
-
--- n bytes are delivered down, or as many as are there
-abbrev pub delivered_down : {S : Type 0} → ℕ → World S → World S
-delivered_down n w = record w { down = passed n w.down }
-
--- all of the up pipe is delivered, then all of the down pipe
-abbrev pub settled : {S : Type 0} → (S → List ℕ → Stepped S) → World S → World S
-settled step w =
-    let after = delivered_up step (length w.up.flying) w in
-    delivered_down (length after.down.flying) after
+turned act x w = runs.turned one_turn act x w

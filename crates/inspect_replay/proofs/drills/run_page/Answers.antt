@@ -17,7 +17,7 @@ returns-in-Ok-clause-refused g c =
     let page = loaded_page c.args.form in
     let kinds = map g.P.Panel.kind_of c.args.panels.items in
     let start = drill-follows up down kinds page c.args.drill c.in_ok-ends.ends (g.met.L.Link.within_up c.args.link.now)
-    (g.met.L.Link.within_down c.args.link.now) c.requires.can c.requires.texts c.requires.few c.in_ok-ends.ensures in
+    (g.met.L.Link.within_down c.args.link.now) c.requires.can c.in_ok-ends.ensures.texts c.requires.few c.in_ok-ends.ensures.starts in
     let ran = ((c.in-Ok.ensures {u = c.in-Ok.field-0}).follows (drill_start kinds page) up down start) in
     let shown = c.tell_numbers.ensures.shown (drill_start kinds page) up down ran.0 in
     shown.1
@@ -29,7 +29,7 @@ returns-in-Ok-clause-counted g c =
     let page = loaded_page c.args.form in
     let kinds = map g.P.Panel.kind_of c.args.panels.items in
     let start = drill-follows up down kinds page c.args.drill c.in_ok-ends.ends (g.met.L.Link.within_up c.args.link.now)
-    (g.met.L.Link.within_down c.args.link.now) c.requires.can c.requires.texts c.requires.few c.in_ok-ends.ensures in
+    (g.met.L.Link.within_down c.args.link.now) c.requires.can c.in_ok-ends.ensures.texts c.requires.few c.in_ok-ends.ensures.starts in
     let ran = ((c.in-Ok.ensures {u = c.in-Ok.field-0}).follows (drill_start kinds page) up down start) in
     let shown = c.tell_numbers.ensures.shown (drill_start kinds page) up down ran.0 in
     on-first c.tell_numbers.result _ _ shown.0
@@ -41,7 +41,7 @@ returns-in-Ok-clause-replies g c =
     let page = loaded_page c.args.form in
     let kinds = map g.P.Panel.kind_of c.args.panels.items in
     let start = drill-follows up down kinds page c.args.drill c.in_ok-ends.ends (g.met.L.Link.within_up c.args.link.now)
-    (g.met.L.Link.within_down c.args.link.now) c.requires.can c.requires.texts c.requires.few c.in_ok-ends.ensures in
+    (g.met.L.Link.within_down c.args.link.now) c.requires.can c.in_ok-ends.ensures.texts c.requires.few c.in_ok-ends.ensures.starts in
     let ran = ((c.in-Ok.ensures {u = c.in-Ok.field-0}).follows (drill_start kinds page) up down start) in
     let shown = c.tell_numbers.ensures.shown (drill_start kinds page) up down ran.0 in
     on-second c.tell_numbers.result _ _ shown.0
@@ -54,7 +54,7 @@ returns-in-Ok-clause-well g c = λ honest up_level down_level.
     let kinds = map g.P.Panel.kind_of c.args.panels.items in
     let w = loaded_world kinds page in
     let play = drill-plays (g.L.Link.honest c.args.link.now) up down kinds page c.args.drill c.in_ok-ends.ends honest c.requires.can
-    c.requires.texts up_level down_level c.requires.kinds c.requires.few c.in_ok-ends.ensures in
+    c.in_ok-ends.ensures.texts up_level down_level c.requires.kinds c.requires.few c.in_ok-ends.ensures.starts in
     let ran = (c.in-Ok.ensures {u = c.in-Ok.field-0}).runs up down 0 w play in
     let tells = c.tell_numbers.ensures.runs up down (after_lines c.args.drill w) ran.1 in
     tells.0
@@ -67,7 +67,7 @@ returns-in-Ok-clause-took g c = λ honest up_level down_level.
     let kinds = map g.P.Panel.kind_of c.args.panels.items in
     let w = loaded_world kinds page in
     let play = drill-plays (g.L.Link.honest c.args.link.now) up down kinds page c.args.drill c.in_ok-ends.ends honest c.requires.can
-    c.requires.texts up_level down_level c.requires.kinds c.requires.few c.in_ok-ends.ensures in
+    c.in_ok-ends.ensures.texts up_level down_level c.requires.kinds c.requires.few c.in_ok-ends.ensures.starts in
     let ran = (c.in-Ok.ensures {u = c.in-Ok.field-0}).runs up down 0 w play in
     let tells = c.tell_numbers.ensures.runs up down (after_lines c.args.drill w) ran.1 in
     tells.1
@@ -79,7 +79,7 @@ returns-clause-refused g c =
     let page = loaded_page c.args.form in
     let kinds = map g.P.Panel.kind_of c.args.panels.items in
     let start = drill-follows up down kinds page c.args.drill c.in_ok-ends.ends (g.met.L.Link.within_up c.args.link.now)
-    (g.met.L.Link.within_down c.args.link.now) c.requires.can c.requires.texts c.requires.few c.in_ok-ends.ensures in
+    (g.met.L.Link.within_down c.args.link.now) c.requires.can c.in_ok-ends.ensures.texts c.requires.few c.in_ok-ends.ensures.starts in
     let ran = ((c.in-Err.ensures {u = tt}).follows (drill_start kinds page) up down start) in
     ran.1
 
@@ -91,7 +91,7 @@ returns-clause-well g c = λ honest up_level down_level.
     let kinds = map g.P.Panel.kind_of c.args.panels.items in
     let w = loaded_world kinds page in
     let play = drill-plays (g.L.Link.honest c.args.link.now) up down kinds page c.args.drill c.in_ok-ends.ends honest c.requires.can
-    c.requires.texts up_level down_level c.requires.kinds c.requires.few c.in_ok-ends.ensures in
+    c.in_ok-ends.ensures.texts up_level down_level c.requires.kinds c.requires.few c.in_ok-ends.ensures.starts in
     let ran = (c.in-Err.ensures {u = tt}).runs up down 0 w play in
     ran.0
 

@@ -5,7 +5,8 @@ use Rattle.replay_script.specs.Forms as forms
 use Rattle.replay_script.specs.Forms.{load, ask, up, down, settle, show_front, show_page, show_sheets, show_replies, show_pauses}
 use Rattle.replay_script.specs.Forms.{show_panels}
 use Rattle.replay_script.specs.Seen.{seen, seen_ask}
-use Rattle.inspect_world.specs.World.{raw, turned, delivered_up, delivered_down}
+use Rattle.session_runs.specs.World.{delivered_up, delivered_down}
+use Rattle.inspect_world.specs.World.{raw, turned}
 use Rattle.inspect_world.specs.FreshRuns.{front_fetcher, refreshes}
 use Rattle.inspect_world.proofs.FetchesFit.{refreshed-told}
 use Rattle.inspect_world.specs.Scripts.{sends}

@@ -26,10 +26,10 @@ returns-in-Ok-clause-took g c = λ honest up_level down_level.
     let kinds = map g.P.Panel.kind_of c.args.panels.items in
     let w = loaded_world kinds page in
     let run = begins (g.L.Link.honest c.args.link.now) (g.L.Link.up c.args.link.now)
-    (g.L.Link.down c.args.link.now) kinds page c.in_ok-ends.ends honest c.requires.can c.requires.texts up_level
-    down_level c.in_ok-ends.ensures in
+    (g.L.Link.down c.args.link.now) kinds page c.in_ok-ends.ends honest c.requires.can c.in_ok-ends.ensures.texts up_level
+    down_level c.in_ok-ends.ensures.starts in
     let play = play-begins (g.L.Link.honest c.args.link.now) (g.L.Link.up c.args.link.now) (g.L.Link.down c.args.link.now) kinds page
-    (line_bytes c.args.lines) c.in_ok-ends.ends c.requires.can c.requires.texts c.requires.short run in
+    (line_bytes c.args.lines) c.in_ok-ends.ends c.requires.can c.in_ok-ends.ensures.texts c.requires.short run in
     let ran = (c.in-Ok.ensures {u = c.in-Ok.field-0}).runs (g.L.Link.up c.args.link.now) (g.L.Link.down c.args.link.now) w play in
     let closes = c.close.ensures.runs (g.L.Link.up c.args.link.now) (g.L.Link.down c.args.link.now)
     (after_lines (shown_lines (good_lines 2 c.args.lines) w) w) ran.0 in
@@ -42,10 +42,10 @@ returns-clause-took g c = λ honest up_level down_level.
     let kinds = map g.P.Panel.kind_of c.args.panels.items in
     let w = loaded_world kinds page in
     let run = begins (g.L.Link.honest c.args.link.now) (g.L.Link.up c.args.link.now)
-    (g.L.Link.down c.args.link.now) kinds page c.in_ok-ends.ends honest c.requires.can c.requires.texts up_level
-    down_level c.in_ok-ends.ensures in
+    (g.L.Link.down c.args.link.now) kinds page c.in_ok-ends.ends honest c.requires.can c.in_ok-ends.ensures.texts up_level
+    down_level c.in_ok-ends.ensures.starts in
     let play = play-begins (g.L.Link.honest c.args.link.now) (g.L.Link.up c.args.link.now) (g.L.Link.down c.args.link.now) kinds page
-    (line_bytes c.args.lines) c.in_ok-ends.ends c.requires.can c.requires.texts c.requires.short run in
+    (line_bytes c.args.lines) c.in_ok-ends.ends c.requires.can c.in_ok-ends.ensures.texts c.requires.short run in
     let ran = (c.in-Err.ensures {u = tt}).runs (g.L.Link.up c.args.link.now) (g.L.Link.down c.args.link.now) w play in
     stopped-took c.in-Err.stop (g.K.Sink.taken c.args.out.now) (g.K.Sink.taken c.run_lines.new.out)
     (first_bad 2 c.args.lines) (good_lines 2 c.args.lines) w ran.2 ran.1
@@ -57,8 +57,8 @@ returns-in-Ok-clause-refused g c =
     let page = loaded_page c.args.form in
     let kinds = map g.P.Panel.kind_of c.args.panels.items in
     let start = run-first up down kinds page (length c.args.lines) c.in_ok-ends.ends (g.met.L.Link.within_up c.args.link.now)
-    (g.met.L.Link.within_down c.args.link.now) c.requires.can c.requires.texts c.requires.few
-    c.in_ok-ends.ensures in
+    (g.met.L.Link.within_down c.args.link.now) c.requires.can c.in_ok-ends.ensures.texts c.requires.few
+    c.in_ok-ends.ensures.starts in
     let ran = c.in-Ok.ensures {u = c.in-Ok.field-0} in
     let carried = (ran.follows (begun (loaded_state page) (map Some kinds)) up down start).0 in
     let shown = c.close.ensures.shown (run_started (loaded_state page) 0 carried.shown carried.panels) up down carried.run in
@@ -71,8 +71,8 @@ returns-in-Ok-clause-closes g c =
     let page = loaded_page c.args.form in
     let kinds = map g.P.Panel.kind_of c.args.panels.items in
     let start = run-first up down kinds page (length c.args.lines) c.in_ok-ends.ends (g.met.L.Link.within_up c.args.link.now)
-    (g.met.L.Link.within_down c.args.link.now) c.requires.can c.requires.texts c.requires.few
-    c.in_ok-ends.ensures in
+    (g.met.L.Link.within_down c.args.link.now) c.requires.can c.in_ok-ends.ensures.texts c.requires.few
+    c.in_ok-ends.ensures.starts in
     let ran = c.in-Ok.ensures {u = c.in-Ok.field-0} in
     let carried = (ran.follows (begun (loaded_state page) (map Some kinds)) up down start).0 in
     let shown = c.close.ensures.shown (run_started (loaded_state page) 0 carried.shown carried.panels) up down carried.run in
@@ -87,8 +87,8 @@ returns-in-Ok-clause-replies g c =
     let page = loaded_page c.args.form in
     let kinds = map g.P.Panel.kind_of c.args.panels.items in
     let start = run-first up down kinds page (length c.args.lines) c.in_ok-ends.ends (g.met.L.Link.within_up c.args.link.now)
-    (g.met.L.Link.within_down c.args.link.now) c.requires.can c.requires.texts c.requires.few
-    c.in_ok-ends.ensures in
+    (g.met.L.Link.within_down c.args.link.now) c.requires.can c.in_ok-ends.ensures.texts c.requires.few
+    c.in_ok-ends.ensures.starts in
     let ran = c.in-Ok.ensures {u = c.in-Ok.field-0} in
     let carried = (ran.follows (begun (loaded_state page) (map Some kinds)) up down start).0 in
     let shown = c.close.ensures.shown (run_started (loaded_state page) 0 carried.shown carried.panels) up down carried.run in
@@ -103,8 +103,8 @@ returns-clause-refused g c =
     let page = loaded_page c.args.form in
     let kinds = map g.P.Panel.kind_of c.args.panels.items in
     let start = run-first up down kinds page (length c.args.lines) c.in_ok-ends.ends (g.met.L.Link.within_up c.args.link.now)
-    (g.met.L.Link.within_down c.args.link.now) c.requires.can c.requires.texts c.requires.few
-    c.in_ok-ends.ensures in
+    (g.met.L.Link.within_down c.args.link.now) c.requires.can c.in_ok-ends.ensures.texts c.requires.few
+    c.in_ok-ends.ensures.starts in
     ((c.in-Err.ensures {u = tt}).follows (begun (loaded_state page) (map Some kinds)) up down start).1
 
 pub returns-in-Ok-clause-tells : goal.returns-in-Ok-clause-tells
@@ -114,8 +114,8 @@ returns-in-Ok-clause-tells g c =
     let page = loaded_page c.args.form in
     let kinds = map g.P.Panel.kind_of c.args.panels.items in
     let start = run-first up down kinds page (length c.args.lines) c.in_ok-ends.ends (g.met.L.Link.within_up c.args.link.now)
-    (g.met.L.Link.within_down c.args.link.now) c.requires.can c.requires.texts c.requires.few
-    c.in_ok-ends.ensures in
+    (g.met.L.Link.within_down c.args.link.now) c.requires.can c.in_ok-ends.ensures.texts c.requires.few
+    c.in_ok-ends.ensures.starts in
     let ran = c.in-Ok.ensures {u = c.in-Ok.field-0} in
     let carried = (ran.follows (begun (loaded_state page) (map Some kinds)) up down start).0 in
     let shown = c.close.ensures.shown (run_started (loaded_state page) 0 carried.shown carried.panels) up down carried.run in
@@ -129,8 +129,8 @@ returns-clause-tells g c =
     let page = loaded_page c.args.form in
     let kinds = map g.P.Panel.kind_of c.args.panels.items in
     let start = run-first up down kinds page (length c.args.lines) c.in_ok-ends.ends (g.met.L.Link.within_up c.args.link.now)
-    (g.met.L.Link.within_down c.args.link.now) c.requires.can c.requires.texts c.requires.few
-    c.in_ok-ends.ensures in
+    (g.met.L.Link.within_down c.args.link.now) c.requires.can c.in_ok-ends.ensures.texts c.requires.few
+    c.in_ok-ends.ensures.starts in
     ((c.in-Err.ensures {u = tt}).follows (begun (loaded_state page) (map Some kinds)) up down start).2
 
 pub returns-in-Ok-clause-stops : goal.returns-in-Ok-clause-stops
@@ -139,10 +139,10 @@ returns-in-Ok-clause-stops g c = λ honest up_level down_level.
     let kinds = map g.P.Panel.kind_of c.args.panels.items in
     let w = loaded_world kinds page in
     let run = begins (g.L.Link.honest c.args.link.now) (g.L.Link.up c.args.link.now)
-    (g.L.Link.down c.args.link.now) kinds page c.in_ok-ends.ends honest c.requires.can c.requires.texts up_level
-    down_level c.in_ok-ends.ensures in
+    (g.L.Link.down c.args.link.now) kinds page c.in_ok-ends.ends honest c.requires.can c.in_ok-ends.ensures.texts up_level
+    down_level c.in_ok-ends.ensures.starts in
     let play = play-begins (g.L.Link.honest c.args.link.now) (g.L.Link.up c.args.link.now) (g.L.Link.down c.args.link.now) kinds page
-    (line_bytes c.args.lines) c.in_ok-ends.ends c.requires.can c.requires.texts c.requires.short run in
+    (line_bytes c.args.lines) c.in_ok-ends.ends c.requires.can c.in_ok-ends.ensures.texts c.requires.short run in
     let ran = (c.in-Ok.ensures {u = c.in-Ok.field-0}).runs (g.L.Link.up c.args.link.now) (g.L.Link.down c.args.link.now) w play in
     closed-tells c.close.result _ _ _ _ (rest_refused (first_bad 2 c.args.lines) (good_lines 2 c.args.lines) w) ran.2 c.close.ensures.cause
 
@@ -152,10 +152,10 @@ returns-clause-stops g c = λ honest up_level down_level.
     let kinds = map g.P.Panel.kind_of c.args.panels.items in
     let w = loaded_world kinds page in
     let run = begins (g.L.Link.honest c.args.link.now) (g.L.Link.up c.args.link.now)
-    (g.L.Link.down c.args.link.now) kinds page c.in_ok-ends.ends honest c.requires.can c.requires.texts up_level
-    down_level c.in_ok-ends.ensures in
+    (g.L.Link.down c.args.link.now) kinds page c.in_ok-ends.ends honest c.requires.can c.in_ok-ends.ensures.texts up_level
+    down_level c.in_ok-ends.ensures.starts in
     let play = play-begins (g.L.Link.honest c.args.link.now) (g.L.Link.up c.args.link.now) (g.L.Link.down c.args.link.now) kinds page
-    (line_bytes c.args.lines) c.in_ok-ends.ends c.requires.can c.requires.texts c.requires.short run in
+    (line_bytes c.args.lines) c.in_ok-ends.ends c.requires.can c.in_ok-ends.ensures.texts c.requires.short run in
     ((c.in-Err.ensures {u = tt}).runs (g.L.Link.up c.args.link.now) (g.L.Link.down c.args.link.now) w play).2
 
 pub returns-in-Ok-clause-cause : goal.returns-in-Ok-clause-cause

@@ -19,14 +19,6 @@ run_loaded-requires-clause-can g c =
     (script-loads c.args.input.now c.in-Some.first.now c.next_line.new.lines (loaded_page c.in-Ok.form) lines read.good
     read.form).can
 
-pub run_loaded-requires-clause-texts : goal.run_loaded-requires-clause-texts
-run_loaded-requires-clause-texts g c =
-    let lines : lines_of c.args.input.now
-    ≡ c.in-Some.first.now ∷ c.next_line.new.lines = sym c.new-lines.ensures ∙ c.in-Some.ensures.some in
-    let read = c.in-Ok.ensures {u = tt} in
-    (script-loads c.args.input.now c.in-Some.first.now c.next_line.new.lines (loaded_page c.in-Ok.form) lines read.good
-    read.form).texts
-
 pub run_loaded-requires-clause-few : goal.run_loaded-requires-clause-few
 run_loaded-requires-clause-few g c =
     few-lines c.args.input.now c.in-Some.first.now c.next_line.new.lines (2 ^ 26)

@@ -1,6 +1,6 @@
 -- A frame that is answered takes the run one step on.
 use Rattle.std.proofs.Common.{rules, ◌≡◌, ◌+◌, ◌++◌, length, refl, ap, ◌∙◌}
-use Rattle.inspect_world.specs.Stream.{awaited}
+use Rattle.session_runs.specs.Stream.{awaited}
 use Rattle.inspect_world.proofs.Ends.{world-waits}
 use Rattle.inspect_world.proofs.LinkLemmas.{follows-wait}
 use Rattle.inspect_replay.specs.Runs.{ends_of}

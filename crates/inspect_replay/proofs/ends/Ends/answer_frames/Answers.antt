@@ -1,7 +1,7 @@
 -- Each frame that is answered takes the run on.
 use Rattle.std.proofs.Common.{rules, ◌∷◌, refl, sym, ap, ◌∙◌, Err, Ok}
 use Rattle.pipe_frames.specs.Frames.{Frames}
-use Rattle.inspect_world.specs.World.{answered}
+use Rattle.session_runs.specs.World.{answered}
 use Rattle.inspect_world.specs.RunStates.{run_step}
 use Rattle.inspect_replay.proofs.EndLemmas.{answer_turn}
 use Rattle.inspect_replay.proofs.FollowLemmas.{follow_turn, follow_end}

@@ -1,7 +1,8 @@
 -- Each frame that is answered takes the run on to where all frames take it.
 use Rattle.std.proofs.Common.{◌≡◌, length}
 use Rattle.pipe_frames.specs.Pipe.{Pipe}
-use Rattle.inspect_world.specs.World.{World, answered}
+use Rattle.session_runs.specs.World.{answered}
+use Rattle.inspect_world.specs.World.{World}
 use Rattle.inspect_world.specs.Links.{Started}
 use Rattle.inspect_world.specs.RunStates.{RunState, run_step}
 use Rattle.inspect_replay.specs.Followed.{FollowsWith}

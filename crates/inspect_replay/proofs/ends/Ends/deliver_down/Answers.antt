@@ -2,7 +2,7 @@
 use Rattle.std.proofs.Common.{rules, ◌≡◌, ◌≤◌, ◌+◌, ◌-◌, ◌++◌, length, arith, ap, refl, Result, Ok, Err}
 use Rattle.front_mirror.specs.declared.faults.FrontErr.{FrontErr}
 use Rattle.front_mirror.specs.declared.faults.FrontErr.TheVariants.{Fault}
-use Rattle.inspect_world.specs.Stream.{awaited}
+use Rattle.session_runs.specs.Stream.{awaited}
 use Rattle.inspect_replay.specs.Runs.{ends_of}
 use Rattle.inspect_replay.proofs.EndLemmas.{delivered_in, no_fault}
 use Rattle.inspect_replay.proofs.FollowLemmas.{delivered-follows, refused-folds, kept-run}

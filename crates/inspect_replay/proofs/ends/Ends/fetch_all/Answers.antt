@@ -2,7 +2,7 @@
 use Rattle.std.proofs.Common.{rules, get_or, ◌∙◌, refl, Ok, Err, [], drop}
 use Rattle.std.proofs.lemmas.List.{drop_all}
 use Rattle.front_mirror.specs.Front.{first_value}
-use Rattle.inspect_world.specs.Fetches.{all_fetched}
+use Rattle.session_runs.specs.Fetches.{all_fetched}
 use Rattle.inspect_world.specs.Fits.{replay}
 use Rattle.inspect_world.specs.FreshRuns.{front_fetcher}
 use Rattle.inspect_replay.proofs.EndLemmas.{fetch_turn, fetch_end}

@@ -3,7 +3,7 @@ use Rattle.std.proofs.Common.{◌≡◌, ◌≤◌, ◌+◌, [], length, drop}
 use Rattle.pipe_frames.specs.Pipe.{Pipe}
 use Rattle.front_mirror.specs.Front.{first_value}
 use Rattle.inspect_world.specs.World.{World}
-use Rattle.inspect_world.specs.Fetches.{all_fetched}
+use Rattle.session_runs.specs.Fetches.{all_fetched}
 use Rattle.inspect_world.specs.Fits.{most_fetches, replay}
 use Rattle.inspect_world.specs.FreshRuns.{front_fetcher}
 use Rattle.inspect_world.specs.RunStates.{RunState}

@@ -6,7 +6,7 @@ use Rattle.inspect_replay.proofs.ends.Ends.new.Goals as goal
 
 pub invariant_of-result : goal.invariant_of-result
 invariant_of-result g c = record {
-  seated = seated-first (loaded_page c.args.form) c.new-2.result c.in_ok-new.field-0 c.requires.can c.requires.texts (record {
+  seated = seated-first (loaded_page c.args.form) c.new-2.result c.in_ok-new.field-0 c.requires.can c.valid.ensures (record {
     page_is = (c.in_ok-new.ensures {u = tt}).page;
     sheets_are = (c.in_ok-new.ensures {u = tt}).sheets;
     next_is = (c.in_ok-new.ensures {u = tt}).next;
@@ -20,8 +20,8 @@ invariant_of-result g c = record {
   });
 }
 
-pub returns : goal.returns
-returns g c = record {
+pub returns-clause-starts : goal.returns-clause-starts
+returns-clause-starts g c = record {
   side = record {
     page_is = (c.in_ok-new.ensures {u = tt}).page;
     sheets_are = (c.in_ok-new.ensures {u = tt}).sheets;

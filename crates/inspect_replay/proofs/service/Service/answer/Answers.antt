@@ -1,6 +1,6 @@
 -- A frame is answered whole, or in part where the write stops.
 use Rattle.std.proofs.Common.{[], ◌∷◌}
-use Rattle.inspect_world.specs.World.{steps}
+use Rattle.session_runs.specs.World.{steps}
 use Rattle.inspect_replay.specs.Serving.{served_step, serve_moment}
 use Rattle.inspect_replay.proofs.ServeLemmas.{frame-answered, frame-in-part, frame-lost}
 use Rattle.inspect_replay.proofs.service.Service.answer.Goals as goal

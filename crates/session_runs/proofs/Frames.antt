@@ -3,7 +3,7 @@ use Rattle.std.proofs.Common.{◌≡◌, ℕ, [], ◌++◌, length, take, drop, 
 use Rattle.std.proofs.lemmas.List.{take-append-drop, drop_all}
 use Rattle.pipe_frames.specs.Frames.{frames_of, frames_from, held_after}
 use Rattle.pipe_frames.proofs.FrameLemmas.{frames_of-append, frames_from-append}
-use Rattle.inspect_world.specs.Stream.{Stream, sent, passed, held, arriving, awaited}
+use Rattle.session_runs.specs.Stream.{Stream, sent, passed, held, arriving, awaited}
 
 -- the rest of what was given and is on its way
 pub rest-sent : (s : Stream) → (frames_of (sent s)).rest ≡ held_after (held s) s.flying

@@ -2,15 +2,13 @@
 use Rattle.std.proofs.Common.{◌≡◌, ℕ, List, [], ◌∷◌, ◌++◌, length, refl, sym, ◌∙◌, ap, subst, append_assoc, append-nil}
 use Rattle.pipe_frames.specs.Frames.{IsText, framed, frames_of, frames_from, held_after}
 use Rattle.pipe_frames.proofs.FrameLemmas.{frames_of-append, frames_of-one, frames_from-append}
-use Rattle.inspect_world.specs.Stream.{Stream, sent, put_last, passed, held, arriving, awaited}
-use Rattle.back_end.specs.Steps.{Stepped}
-use Rattle.front_mirror.specs.declared.panels.PanelKind.{PanelKind}
-use Rattle.inspect_world.specs.World.{World, Spent, nothing_spent, one_ask, one_turn, first_world, steps, sent_up, ask_sent, turned}
-use Rattle.inspect_world.specs.World.{answered, given_up, delivered_up, delivered_down, settled}
+use Rattle.session_runs.specs.Stream.{Stream, sent, put_last, passed, held, arriving, awaited}
+use Rattle.session_runs.specs.World.{World, Stepped, first_world, steps, sent_up, turned}
+use Rattle.session_runs.specs.World.{answered, given_up, delivered_up, delivered_down, settled}
 use Rattle.cdp_json.specs.Lookups.{then_ok}
-use Rattle.inspect_world.specs.Fold.{folded, asks_joined, Machine, Laws, Leads, FitsWith, Fits}
-use Rattle.inspect_world.proofs.Frames.{rest-sent, sent-passed, awaited-passed}
-use Rattle.inspect_world.proofs.Folds.{folded-append, joined-append}
+use Rattle.session_runs.specs.Fold.{folded, asks_joined, Machine, Laws, Leads, RoomThroughout, FitsWith, Fits}
+use Rattle.session_runs.proofs.Frames.{rest-sent, sent-passed, awaited-passed}
+use Rattle.session_runs.proofs.Folds.{folded-append, joined-append}
 
 -- bytes after whole frames
 pub whole-after : (before more : List ℕ) → (frames_of before).rest ≡ []
@@ -37,7 +35,7 @@ pub put-nil : (s : Stream) → put_last [] s ≡ s
 put-nil s = ap (λ bytes. record { given = s.given; flying = bytes }) (append-nil s.flying)
 
 -- one frame is answered, and then the others
-pub answered-cons : {S : Type 0} (step : S → List ℕ → Stepped S) (frame : List ℕ) (frames : List (List ℕ)) (w : World S)
+pub answered-cons : {S N L : Type 0} (step : S → List ℕ → Stepped S) (frame : List ℕ) (frames : List (List ℕ)) (w : World S N L)
     → answered step (frame ∷ frames) w ≡ answered step frames (answered step (frame ∷ []) w)
 answered-cons step frame frames w =
     let first = (step w.state frame).sent in
@@ -48,16 +46,23 @@ answered-cons step frame frames w =
     ∙ ap (λ bytes. (w.down.flying ++ bytes) ++ later) (sym (append-nil first)) in
     ap (λ bytes. record w { state = state; down = record w.down { flying = bytes } }) same
 
-module _ {S F E X : Type 0} (machine : Machine S F E X) (IsNext : Spent → List ℕ → Spent → Type 0)
-    (IsTurn : Spent → X → Type 0) (Fit : Spent → F → S → List (List ℕ) → Type 0) (laws : Laws machine IsNext IsTurn Fit) where
+-- where there always is room, there is room throughout
+pub always-room : {S : Type 0} (step : S → List ℕ → Stepped S) (HasRoom : S → Type 0) → ((state : S) → HasRoom state) → (state : S)
+    (frames : List (List ℕ)) → RoomThroughout step HasRoom state frames
+always-room step HasRoom always state [] = tt
+always-room step HasRoom always state (frame ∷ frames) = (always state, always-room step HasRoom always (step state frame).state frames)
+
+module _ {S F E X N L : Type 0} (machine : Machine S F E X N) (HasRoom : S → Type 0) (IsNext : N → S → List (List ℕ) → List ℕ → N → Type 0)
+    (IsTurn : N → X → Type 0) (Fit : N → F → S → List (List ℕ) → Type 0) (laws : Laws machine HasRoom IsNext IsTurn Fit) where
   -- before anything was sent
-  pub fits-first : (kinds : List PanelKind) (start : F) (state : S) → Fit nothing_spent start state []
-      → Fits machine.take machine.join Fit start (first_world kinds state)
+  pub fits-first : (start : F) (nothing : N) (told : L) (state : S) → Fit nothing start state []
+      → Fits machine.take machine.join Fit start (first_world nothing told state)
   unfolding frames_of
-  fits-first kinds start state fit = record { front = start; is_fold = refl; fit = fit; up_whole = refl; down_whole = refl }
+  fits-first start nothing told state fit = record { front = start; is_fold = refl; fit = fit; up_whole = refl; down_whole = refl }
 
   -- a frame is sent
-  pub fits-sent_up : (start : F) (ask : List ℕ) (more : Spent → Spent) (w : World S) → IsText ask → IsNext w.spent ask (more w.spent)
+  pub fits-sent_up : (start : F) (ask : List ℕ) (more : N → N) (w : World S N L) → IsText ask → IsNext w.spent w.state (awaited w.up) ask
+      (more w.spent)
       → Fits machine.take machine.join Fit start w → Fits machine.take machine.join Fit start (sent_up ask more w)
   fits-sent_up start ask more w letters is_next fits =
       let all : (frames_of (sent (sent_up ask more w).up)).whole
@@ -84,13 +89,8 @@ module _ {S F E X : Type 0} (machine : Machine S F E X) (IsNext : Spent → List
         down_whole = fits.down_whole;
       }
 
-  -- an ask is sent
-  pub fits-asked : (start : F) (ask : List ℕ) (edits : ℕ) (w : World S) → IsText ask → IsNext w.spent ask (one_ask edits w.spent)
-      → Fits machine.take machine.join Fit start w → Fits machine.take machine.join Fit start (ask_sent edits ask w)
-  fits-asked start ask edits w letters is_ask fits = fits-sent_up start ask (one_ask edits) w letters is_ask fits
-
   -- bytes are given up: the frames that become whole are the first that wait
-  pub fits-given_up : (start : F) (n : ℕ) (w : World S) → Fits machine.take machine.join Fit start w
+  pub fits-given_up : (start : F) (n : ℕ) (w : World S N L) → Fits machine.take machine.join Fit start w
       → FitsWith machine.take machine.join Fit start (given_up n w) (arriving n w.up ++ awaited (passed n w.up))
   fits-given_up start n w fits = record {
     front = fits.front;
@@ -104,8 +104,8 @@ module _ {S F E X : Type 0} (machine : Machine S F E X) (IsNext : Spent → List
   }
 
   -- what a step sends is put_last down after all else
-  fits-put : (start : F) (frames : List (List ℕ)) (w : World S) (fits : FitsWith machine.take machine.join Fit start w frames)
-      (stepped : Stepped S) (n : Spent) (more : List (List ℕ)) → Leads machine.take (Fit n) fits.front stepped more
+  fits-put : (start : F) (frames : List (List ℕ)) (w : World S N L) (fits : FitsWith machine.take machine.join Fit start w frames)
+      (stepped : Stepped S) (n : N) (more : List (List ℕ)) → Leads machine.take (Fit n) fits.front stepped more
       → FitsWith machine.take machine.join Fit start
       (record w { state = stepped.state; down = put_last stepped.sent w.down; spent = n }) more
   fits-put start frames w fits stepped n more leads =
@@ -130,40 +130,41 @@ module _ {S F E X : Type 0} (machine : Machine S F E X) (IsNext : Spent → List
       }
 
   -- the script makes a step by itself
-  pub fits-turned : (start : F) (x : X) (w : World S) → IsTurn w.spent x → Fits machine.take machine.join Fit start w
-      → Fits machine.take machine.join Fit start (turned machine.act x w)
-  fits-turned start x w is_turn fits =
-      fits-put start (awaited w.up) w fits (machine.act x w.state) (one_turn w.spent) (awaited w.up)
-      (laws.turns w.spent x fits.front w.state (awaited w.up) is_turn fits.fit)
+  pub fits-turned : (start : F) (x : X) (w : World S N L) → HasRoom w.state → IsTurn w.spent x → Fits machine.take machine.join Fit start w
+      → Fits machine.take machine.join Fit start (turned machine.one_turn machine.act x w)
+  fits-turned start x w room is_turn fits =
+      fits-put start (awaited w.up) w fits (machine.act x w.state) (machine.one_turn w.spent) (awaited w.up)
+      (laws.turns w.spent x fits.front w.state (awaited w.up) room is_turn fits.fit)
 
   -- one frame is answered
-  pub fits-answered_one : (start : F) (frame : List ℕ) (frames : List (List ℕ)) (w : World S)
+  pub fits-answered_one : (start : F) (frame : List ℕ) (frames : List (List ℕ)) (w : World S N L) → HasRoom w.state
       → FitsWith machine.take machine.join Fit start w (frame ∷ frames)
       → FitsWith machine.take machine.join Fit start (answered machine.step (frame ∷ []) w) frames
-  fits-answered_one start frame frames w fits =
+  fits-answered_one start frame frames w room fits =
       subst (λ bytes. FitsWith machine.take machine.join Fit start
       (record w { state = (machine.step w.state frame).state; down = put_last bytes w.down }) frames)
       (sym (append-nil (machine.step w.state frame).sent))
       (fits-put start (frame ∷ frames) w fits (machine.step w.state frame) w.spent frames
-      (laws.answers w.spent frame fits.front w.state frames fits.fit))
+      (laws.answers w.spent frame fits.front w.state frames room fits.fit))
 
   -- all of some frames are answered
-  pub fits-answered : (start : F) (frames more : List (List ℕ)) (w : World S)
+  pub fits-answered : (start : F) (frames more : List (List ℕ)) (w : World S N L) → RoomThroughout machine.step HasRoom w.state frames
       → FitsWith machine.take machine.join Fit start w (frames ++ more)
       → FitsWith machine.take machine.join Fit start (answered machine.step frames w) more
-  fits-answered start [] more w fits =
+  fits-answered start [] more w room fits =
       subst (λ down. FitsWith machine.take machine.join Fit start
       (record w { down = down }) more) (sym (put-nil w.down)) fits
-  fits-answered start (frame ∷ frames) more w fits =
+  fits-answered start (frame ∷ frames) more w room fits =
       subst (λ v. FitsWith machine.take machine.join Fit start v more) (sym (answered-cons machine.step frame frames w))
-      (fits-answered start frames more (answered machine.step (frame ∷ []) w) (fits-answered_one start frame (frames ++ more) w fits))
+      (fits-answered start frames more (answered machine.step (frame ∷ []) w) room.1
+      (fits-answered_one start frame (frames ++ more) w room.0 fits))
 
-  pub fits-delivered_up : (start : F) (n : ℕ) (w : World S)
+  pub fits-delivered_up : (start : F) (n : ℕ) (w : World S N L) → RoomThroughout machine.step HasRoom w.state (arriving n w.up)
       → Fits machine.take machine.join Fit start w → Fits machine.take machine.join Fit start (delivered_up machine.step n w)
-  fits-delivered_up start n w fits =
-      fits-answered start (arriving n w.up) (awaited (passed n w.up)) (given_up n w) (fits-given_up start n w fits)
+  fits-delivered_up start n w room fits =
+      fits-answered start (arriving n w.up) (awaited (passed n w.up)) (given_up n w) room (fits-given_up start n w fits)
 
-  pub fits-delivered_down : (start : F) (n : ℕ) (w : World S)
+  pub fits-delivered_down : (start : F) (n : ℕ) (w : World S N L)
       → Fits machine.take machine.join Fit start w → Fits machine.take machine.join Fit start (delivered_down n w)
   fits-delivered_down start n w fits = record {
     front = fits.front;
@@ -176,8 +177,8 @@ module _ {S F E X : Type 0} (machine : Machine S F E X) (IsNext : Spent → List
     down_whole = ap (λ bytes. (frames_of bytes).rest) (sent-passed n w.down) ∙ fits.down_whole;
   }
 
-  pub fits-settled : (start : F) (w : World S)
+  pub fits-settled : (start : F) (w : World S N L) → RoomThroughout machine.step HasRoom w.state (arriving (length w.up.flying) w.up)
       → Fits machine.take machine.join Fit start w → Fits machine.take machine.join Fit start (settled machine.step w)
-  fits-settled start w fits =
+  fits-settled start w room fits =
       let after = delivered_up machine.step (length w.up.flying) w in
-      fits-delivered_down start (length after.down.flying) after (fits-delivered_up start (length w.up.flying) w fits)
+      fits-delivered_down start (length after.down.flying) after (fits-delivered_up start (length w.up.flying) w room fits)

@@ -1,7 +1,7 @@
 -- Folding over frames that come in parts.
 use Rattle.std.proofs.Common.{◌≡◌, ℕ, List, [], ◌∷◌, ◌++◌, refl, sym, ◌∙◌, ap, Result, Ok, Err}
 use Rattle.cdp_json.specs.Lookups.{then_ok}
-use Rattle.inspect_world.specs.Fold.{folded, asks_joined}
+use Rattle.session_runs.specs.Fold.{folded, asks_joined}
 
 then-then : {F E G H : Type 0} (result : Result F E) (first : F → Result G E) (second : G → Result H E)
     → then_ok result (λ value. then_ok (first value) second) ≡ then_ok (then_ok result first) second

@@ -1,0 +1,12 @@
+pub mod Frames
+pub mod Folds
+pub mod Worlds
+pub mod AgreeLemmas
+pub mod FetchLemmas
+pub mod TwoFetches
+pub mod TogetherLemmas
+pub mod Passages
+pub mod RunLaws
+pub mod PairFolds
+pub mod PairLaws
+pub mod PairRuns

@@ -1,0 +1,11 @@
+pub mod Stream
+pub mod World
+pub mod Fold
+pub mod Fetches
+pub mod Agreement
+pub mod Passages
+pub mod RunLaws
+pub mod Pairs
+pub mod PairFit
+pub mod PairRuns
+pub mod PairLaws
