@@ -11,9 +11,9 @@ use Rattle.style_edits.specs.Splices.{after_splice, back_by, back_splice}
 use Rattle.pipe_frames.specs.Frames.{framed}
 use Rattle.cdp_messages.specs.Events.{sheet_changed}
 use Rattle.client_views.specs.Moves.{Move, replied, move_text, frames_of_moves}
-use Rattle.cdp_messages.specs.Replies.{event}
+use Rattle.cdp_messages.specs.Replies.{event, message_frame, message_frames}
 use Rattle.cdp_messages.specs.declared.css_edit.CssEdit.{CssEdit}
-use Rattle.css_agent.specs.Told.{changed_message, message_frame, message_frames}
+use Rattle.css_agent.specs.Told.{changed_message}
 use Rattle.css_agent.specs.Edits.{CssDone, CssEdited, css_edited, css_splices, splice_moves, moves_with_reply, edit_moves}
 use Rattle.css_agent.specs.EditLaws.{back_splices}
 use Rattle.css_agent.proofs.DoneLemmas.{css-leads}

@@ -6,14 +6,16 @@ use Rattle.css_objects.specs.declared.rules.Rule.{Rule}
 use Rattle.sheet_reader.specs.declared.book.SheetEntry.{SheetEntry}
 use Rattle.sheet_reader.specs.Books.{IsStored, entry_of}
 use Rattle.sheet_reader.specs.Forms.{RuleForm}
+use Rattle.sheet_reader.specs.Preludes.{BeginsIn}
 use Rattle.sheet_reader.specs.Sheets.{sheet_of}
 use Rattle.style_edits.specs.declared.rule_places.RulePlace.{RulePlace}
 use Rattle.style_edits.specs.declared.splice.Splice.{Splice}
 use Rattle.style_edits.specs.Splices.{after_splice, back_splice}
-use Rattle.style_edits.specs.Edits.{Found, rule_splice}
+use Rattle.style_edits.specs.Edits.{Found, selector_splice, rule_splice}
 use Rattle.style_edits.specs.EditedRules.{edited_rule, edited_rules, IsRuleThere, made_rule, new_range, StandsIn}
 use Rattle.style_edits.proofs.MadeRules.{is_there, styles_made}
 use Rattle.style_edits.proofs.AddedRules.{rule_made}
+use Rattle.style_edits.proofs.NewPreludes.{prelude_made}
 use Rattle.cdp_messages.specs.declared.css_edit.CssEdit.{CssEdit}
 use Rattle.cdp_messages.specs.declared.css_edit.CssEdit.TheVariants as edit
 use Rattle.css_agent.specs.Edits.{number_named, line_range, style_edit, empty_rule, CssDone, css_edited, one_splice}
@@ -55,7 +57,10 @@ rules-told (edit.SetStyleTexts edits) book d all texts h =
     let xs = map style_edit edits in
     All-weaker (IsRuleThere d.book) (IsRuleTold d.book) (λ p there. rule-told d.book p there) (edited_rules xs book)
     (styles_made xs book d.book d.backs all (texts-all edits texts) (styles-are-done edits book d h).done)
-rules-told (edit.SetRuleSelector sheet range selector) book d all texts h = tt
+rules-told (edit.SetRuleSelector sheet range selector) book d all texts h =
+    λ plain. one-tells (selector_splice (number_named sheet) (line_range range) selector book) book
+    (λ s found. made-told book s (BeginsIn (new_range s))
+    (prelude_made (number_named sheet) (line_range range) selector texts plain book s all found))
 rules-told (edit.SetStyleSheetText sheet text) book d all texts h = tt
 rules-told (edit.AddRule sheet rule_text location) book d all texts h =
     one-tells (rule_splice (number_named sheet) (line_range location) rule_text book) book

@@ -4,7 +4,8 @@ use Rattle.std.specs.List.{slice_get}
 use Rattle.std.proofs.lemmas.List.{append_assoc}
 use Rattle.sheet_reader.specs.declared.book.SheetEntry.{SheetEntry}
 use Rattle.cascade_match.proofs.MatchLemmas.{drop-at}
-use Rattle.css_agent.specs.Told.{added_message, message_frames, message_frame}
+use Rattle.css_agent.specs.Told.{added_message}
+use Rattle.cdp_messages.specs.Replies.{message_frames, message_frame}
 
 -- the sheet at a place is told, and those behind it are left
 pub told-turn : (book : List SheetEntry) (i : ℕ) (e : SheetEntry) (before after : List ℕ) → slice_get book i ≡ Some e

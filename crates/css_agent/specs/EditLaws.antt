@@ -1,5 +1,5 @@
 -- What always holds of a client's edit of sheets that has no fault.
-use Rattle.std.specs.Prelude.{◌≡◌, ℕ, List, [], ◌∷◌, All, map, length, Some, true, Ok, ⊤}
+use Rattle.std.specs.Prelude.{◌≡◌, ℕ, List, [], ◌∷◌, All, map, length, Some, true, false, Ok, ⊤}
 use Rattle.std.specs.Str.{IsUtf8}
 use Rattle.cdp_json.specs.Kinds.{is_counted}
 use Rattle.cdp_messages.specs.declared.command.Command.TheVariants.{EditCss}
@@ -11,6 +11,7 @@ use Rattle.cdp_messages.specs.Laws.{answers}
 use Rattle.client_views.specs.Moves.{IsPlainReply}
 use Rattle.sheet_reader.specs.declared.book.SheetEntry.{SheetEntry}
 use Rattle.sheet_reader.specs.Books.{IsStored}
+use Rattle.sheet_reader.specs.Preludes.{ends_return}
 use Rattle.style_edits.specs.declared.rule_places.RulePlace.{RulePlace}
 use Rattle.style_edits.specs.declared.splice.Splice.{Splice}
 use Rattle.style_edits.specs.Splices.{after_splice, back_splice, after_splices, TakesSplice}
@@ -84,11 +85,12 @@ IsRuleTold book p = found_at book p ≡ Some (told_at book p)
 abbrev pub TellsMade : List SheetEntry → Splice → Type 0
 TellsMade book s = IsRuleTold (after_splice s book) (edited_rule (after_splice s book) (back_splice s book))
 
--- What is told of style rules is so: of those whose bodies are edited, each as it stands after all of these edits; and of one that is
--- added
+-- What is told of style rules is so: of those whose bodies are edited, each as it stands after all of these edits; of one that is added;
+-- and of one whose prelude is edited, where the new one does not end in a CR
 abbrev pub TellsRules : List SheetEntry → CssEdit → CssDone → Type 0
 TellsRules book (edit.SetStyleTexts edits) d = All (IsRuleTold d.book) (edited_rules (map style_edit edits) book)
-TellsRules book (edit.SetRuleSelector sheet range selector) d = ⊤
+TellsRules book (edit.SetRuleSelector sheet range selector) d =
+    ends_return selector ≡ false → All (TellsMade book) (css_splices book (edit.SetRuleSelector sheet range selector))
 TellsRules book (edit.SetStyleSheetText sheet text) d = ⊤
 TellsRules book (edit.AddRule sheet rule_text location) d =
     All (TellsMade book) (css_splices book (edit.AddRule sheet rule_text location))

@@ -63,7 +63,7 @@ empty_rule sheet = record {
   media = [];
 }
 
--- the style rule that an edit made, as it is told. That it is there after an edit of bodies, and where a rule is added, is in `IsDone`.
+-- the style rule that an edit made, as it is told. That it is there is in `IsDone`.
 abbrev pub told_at : List SheetEntry → RulePlace → Rule
 told_at book p = unwrap_or (found_at book p) (empty_rule p.sheet)
 

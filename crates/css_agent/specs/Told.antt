@@ -1,7 +1,6 @@
 -- What messages tell of the sheets of a book.
 use Rattle.std.specs.Prelude.{ℕ, List, [], ◌∷◌, map, Bool, cond, not, ◌&&◌}
-use Rattle.std.specs.List.{sum_by, flat_map}
-use Rattle.serde_json.specs.Written.{compact_text}
+use Rattle.std.specs.List.{sum_by}
 use Rattle.css_objects.specs.declared.sheets.SheetOrigin.{SheetOrigin}
 use Rattle.css_objects.specs.declared.sheets.SheetOrigin.TheVariants as told
 use Rattle.css_objects.specs.declared.sheets.Header.{Header}
@@ -10,9 +9,8 @@ use Rattle.sheet_reader.specs.declared.book.Origin.TheVariants.{UserAgent, Regul
 use Rattle.sheet_reader.specs.declared.book.SheetEntry.{SheetEntry}
 use Rattle.sheet_reader.specs.Positions.{units_at}
 use Rattle.style_edits.specs.declared.splice.Splice.{Splice}
-use Rattle.pipe_frames.specs.Frames.{framed}
 use Rattle.cdp_messages.specs.Events.{News, sheet_added, sheet_changed}
-use Rattle.cdp_messages.specs.Replies.{Message, event, message_data}
+use Rattle.cdp_messages.specs.Replies.{Message, event}
 
 -- where a sheet comes from, as messages tell it
 abbrev pub told_origin : Origin → SheetOrigin
@@ -42,11 +40,3 @@ turn_messages was is book = cond (is && not was) (map added_message book) []
 -- the messages that tell an event: it is told while the domain is on
 abbrev pub event_messages : Bool → News → List Message
 event_messages on news = cond on (event news ∷ []) []
-
--- the text of a message as one frame, with its zero byte
-abbrev pub message_frame : Message → List ℕ
-message_frame m = framed (compact_text (message_data m))
-
--- the frames of messages, one after the other
-abbrev pub message_frames : List Message → List ℕ
-message_frames ms = flat_map message_frame ms

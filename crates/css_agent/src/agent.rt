@@ -2,7 +2,8 @@ ghost use Rattle.std.specs.Prelude.{◌≡◌, ◌++◌, [], ◌∷◌, false, O
 ghost use Rattle.client_views.specs.Moves.{frames_of_moves};
 ghost use Rattle.cdp_messages.specs.Events.{news_of};
 ghost use Rattle.style_edits.specs.Edits.{IfFault};
-ghost use Rattle.css_agent.specs.Told.{turn_messages, event_messages, message_frames};
+ghost use Rattle.css_agent.specs.Told.{turn_messages, event_messages};
+ghost use Rattle.cdp_messages.specs.Replies.{message_frames};
 ghost use Rattle.css_agent.specs.Asks.{NodeIsThere, styled_page, css_outcome, answer_move};
 ghost use Rattle.css_agent.specs.Edits.{css_edited, edit_splices, edit_moves};
 

@@ -2,9 +2,9 @@
 ghost use Rattle.std.specs.Prelude.{◌≡◌, ◌++◌, cond, [], ◌∷◌, map, OnOk};
 ghost use Rattle.cdp_messages.specs.Events.{sheet_changed};
 ghost use Rattle.client_views.specs.Moves.{replied, frames_of_moves};
-ghost use Rattle.cdp_messages.specs.Replies.{event};
+ghost use Rattle.cdp_messages.specs.Replies.{event, message_frames};
 ghost use Rattle.sheet_reader.specs.Books.{IsEntry};
-ghost use Rattle.css_agent.specs.Told.{added_message, changed_message, message_frames};
+ghost use Rattle.css_agent.specs.Told.{added_message, changed_message};
 ghost use Rattle.css_agent.specs.Asks.{answer_move};
 
 use crate::headers::told_header;

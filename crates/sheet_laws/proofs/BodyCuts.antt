@@ -16,7 +16,7 @@ use Rattle.sheet_reader.proofs.ItemForms.{items_spelled, items_only}
 use Rattle.sheet_laws.specs.Said.{AreSaid}
 use Rattle.sheet_laws.specs.Values.{ItemDeclares, declares, AreDeclarations}
 use Rattle.sheet_laws.specs.Readings.{IsStyle}
-use Rattle.sheet_laws.proofs.Cutting.{cuts_only}
+use Rattle.sheet_reader.proofs.Cutting.{cuts_only}
 use Rattle.sheet_laws.proofs.SaidLists.{listed, Tells, said_is, said_only}
 use Rattle.sheet_laws.proofs.DeclarationCuts.{declaration_reads, declaration_spelled}
 

@@ -17,10 +17,10 @@ use Rattle.sheet_reader.specs.Lone.{is_blank_kind, is_blank_piece}
 use Rattle.sheet_reader.specs.Brackets.{nesting}
 use Rattle.sheet_reader.specs.Declarations.{is_bad_kind, is_stray_nesting, holds_bad, is_custom, name_by, is_important, plain_value}
 use Rattle.sheet_reader.specs.Declarations.{value_range, property, unless_empty, declared_by, declared_in, declaration_of}
-use Rattle.sheet_laws.specs.Solids.{AreBlank, Covers}
+use Rattle.sheet_reader.specs.Solids.{AreBlank, Covers}
 use Rattle.sheet_laws.specs.Values.{AreMatched, IsValueRange, some_value, no_value, IsDeclaration}
-use Rattle.sheet_laws.proofs.WordCuts.{solid_first, blank_words, words_blank, word_stands, stands_among, covers_words, words_cover}
-use Rattle.sheet_laws.proofs.WordCuts.{has_last, get_last}
+use Rattle.sheet_reader.proofs.WordCuts.{solid_first, blank_words, words_blank, word_stands, stands_among, covers_words, words_cover}
+use Rattle.sheet_reader.proofs.WordCuts.{has_last, get_last}
 use Rattle.sheet_laws.proofs.ImportantCuts.{character_of, mark_of, character_solid, importance_is, importance_found}
 use Rattle.sheet_laws.proofs.BracketPairs.{counted_matched, matched_counted}
 

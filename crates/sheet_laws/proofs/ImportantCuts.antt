@@ -18,10 +18,10 @@ use Rattle.selectors.specs.Words.{word_kind, word_of, words_after, is_mark}
 use Rattle.selectors.specs.Reading.{lower_of}
 use Rattle.sheet_reader.specs.Lone.{is_blank_kind, is_blank_piece}
 use Rattle.sheet_reader.specs.Declarations.{names_important, is_important_by, is_important, plain_value}
-use Rattle.sheet_laws.specs.Solids.{is_character_kind, IsCharacter}
+use Rattle.sheet_reader.specs.Solids.{is_character_kind, IsCharacter}
 use Rattle.sheet_laws.specs.Values.{EndsImportant, HasImportance}
 use Rattle.sheet_laws.specs.Values as values
-use Rattle.sheet_laws.proofs.WordCuts.{blank_words, words_blank, word_stands, stands_among, get_seam, has_last}
+use Rattle.sheet_reader.proofs.WordCuts.{blank_words, words_blank, word_stands, stands_among, get_seam, has_last}
 
 -- ---- pieces of one character
 

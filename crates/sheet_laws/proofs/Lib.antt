@@ -1,6 +1,3 @@
-pub mod Cutting
-pub mod WordCuts
-pub mod ListCuts
 pub mod RuleCuts
 pub mod BracketPairs
 pub mod ImportantCuts

@@ -18,11 +18,11 @@ use Rattle.sheet_reader.specs.Grammar.{AreParts}
 use Rattle.sheet_reader.specs.Sheets.{is_closed_comment, passed_place, ending_place, place_of, places_in, sheet_of}
 use Rattle.sheet_reader.proofs.GrammarForms.{parts_spelled}
 use Rattle.sheet_laws.specs.Said.{AreSaid, none_said, says_and, silent_and}
-use Rattle.sheet_laws.specs.Solids.{StandBetween}
+use Rattle.sheet_reader.specs.Solids.{StandBetween}
 use Rattle.sheet_laws.specs.Places.{IsWholeEnding, whole_semicolon, whole_block, is_comment_kind, EndsComment, IsWholePart, whole_passed}
 use Rattle.sheet_laws.specs.Places.{whole_comment, whole_at_rule, whole_qualified, IsPlaceBehind, IsBetweenParts, AscendFrom}
-use Rattle.sheet_laws.proofs.Cutting.{pieces_stand}
-use Rattle.sheet_laws.proofs.WordCuts.{get_last}
+use Rattle.sheet_reader.proofs.Cutting.{pieces_stand}
+use Rattle.sheet_reader.proofs.WordCuts.{get_last}
 use Rattle.sheet_laws.proofs.RuleCuts.{StandCut, stand_cut}
 use Rattle.sheet_laws.proofs.SaidLists.{listed, Tells, said_is}
 
@@ -213,7 +213,8 @@ pub places_between : (text : List ℕ) (place : ℕ) → Contains (sheet_of text
     → (place ≡ 0) ⊎ IsBetweenParts text (parts (level_of None) (pieces text)) place
 places_between text place (zero, less, is) = inl (sym is)
 places_between text place (suc k, less, is) = inr
-    (said_between text (parts (level_of None) (pieces text)) (places_in text (parts (level_of None) (pieces text))) place (places_said text (parts (level_of None) (pieces text)))
+    (said_between text (parts (level_of None) (pieces text))
+    (places_in text (parts (level_of None) (pieces text))) place (places_said text (parts (level_of None) (pieces text)))
     (k, omega (arith, less), is))
 
 in_more : (o : Option ℕ) (ns : List ℕ) (n : ℕ) → Contains ns n → Contains (option_to_list o ++ ns) n

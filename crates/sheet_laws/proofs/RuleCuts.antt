@@ -20,12 +20,12 @@ use Rattle.sheet_reader.proofs.LayoutForms.{laid_spelled}
 use Rattle.sheet_reader.proofs.UsableForms.{MediaIs, media_is, no_rule, rules_append}
 use Rattle.sheet_reader.specs.Sheets.{body_end, rule_by, rule_of, rules_in, sheet_of}
 use Rattle.sheet_reader.proofs.GrammarForms.{parts_spelled}
-use Rattle.sheet_laws.specs.Solids.{StandBetween}
-use Rattle.sheet_laws.specs.SelectorLists.{AreSelectorList}
+use Rattle.sheet_reader.specs.Solids.{StandBetween}
+use Rattle.sheet_reader.specs.SelectorLists.{AreSelectorList}
 use Rattle.sheet_laws.specs.Readings.{HasPrelude}
-use Rattle.sheet_laws.proofs.Cutting.{pieces_stand}
-use Rattle.sheet_laws.proofs.WordCuts.{covers_words}
-use Rattle.sheet_laws.proofs.ListCuts.{prelude_spells}
+use Rattle.sheet_reader.proofs.Cutting.{pieces_stand}
+use Rattle.sheet_reader.proofs.WordCuts.{covers_words}
+use Rattle.sheet_reader.proofs.ListCuts.{prelude_spells}
 
 -- what is read of a style rule with this prelude and this ending
 pub record RuleIs (text : List ℕ) (around : Option ℕ) (prelude : List Token) (ending : EndingForm) (r : RuleForm) : Type 0 where
@@ -47,8 +47,13 @@ rule_is text around prelude (semicolon t) r e = absurd (none_some r e)
 rule_is text around prelude (block brace inside close) r e =
     let words = words_after text false prelude in
     let body = range brace.end (body_end text close) in
-    let of : Range → List SelectorForm
-    → RuleForm = λ own selectors. record { prelude = own; selectors = selectors; body = body; properties = declarations text inside; media = around } in
+    let of : Range → List SelectorForm → RuleForm = λ own selectors. record {
+      prelude = own;
+      selectors = selectors;
+      body = body;
+      properties = declarations text inside;
+      media = around;
+    } in
     let a = bind_some (range_of words) (λ own. selector_list_of (word_reading text words) >>= λ selectors. Some (of own selectors)) r e in
     let b = bind_some (selector_list_of (word_reading text words)) (λ selectors. Some (of a.0 selectors)) r a.2 in
     let same = some_is {A = RuleForm} (of a.0 b.0) r b.2 in
@@ -78,8 +83,13 @@ rule_again text around prelude ending r f =
       properties = declarations text f.inside;
       media = around;
     } in
-    let whole : of r.prelude r.selectors
-    ≡ r = λ i. record { prelude = r.prelude; selectors = r.selectors; body = sym f.body i; properties = sym f.properties i; media = sym f.media i } in
+    let whole : of r.prelude r.selectors ≡ r = λ i. record {
+      prelude = r.prelude;
+      selectors = r.selectors;
+      body = sym f.body i;
+      properties = sym f.properties i;
+      media = sym f.media i;
+    } in
     ap (rule_by text around prelude) f.is
     ∙ ap (λ (o : Option Range). o >>= λ own. selector_list_of (word_reading text words) >>= λ selectors. some_rule
     (of own selectors)) f.span

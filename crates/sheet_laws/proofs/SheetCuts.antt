@@ -17,9 +17,9 @@ use Rattle.sheet_laws.specs.Said.{AreSaid}
 use Rattle.sheet_laws.specs.Values.{AreDeclarations}
 use Rattle.sheet_laws.specs.Places.{IsPlaceBehind}
 use Rattle.sheet_laws.specs.Readings.{IsStyleRule, IsMediaRule, IsReading}
-use Rattle.sheet_laws.proofs.Cutting.{cuts_only}
-use Rattle.sheet_laws.proofs.WordCuts.{covers_words, words_cover}
-use Rattle.sheet_laws.proofs.ListCuts.{prelude_reads, prelude_spells}
+use Rattle.sheet_reader.proofs.Cutting.{cuts_only}
+use Rattle.sheet_reader.proofs.WordCuts.{covers_words, words_cover}
+use Rattle.sheet_reader.proofs.ListCuts.{prelude_reads, prelude_spells}
 use Rattle.sheet_laws.proofs.RuleCuts.{rule_is, rule_again}
 use Rattle.sheet_laws.proofs.SaidLists.{listed, Tells, said_is, said_only}
 use Rattle.sheet_laws.proofs.BodyCuts.{body_spelled, body_only}
@@ -137,5 +137,6 @@ sheet_only text s f =
     let places_are : f.places ≡ places_in text (parts (level_of None) (pieces text)) =
     said_only AnyPart (IsPlaceBehind text) (place_of text) (places_tell text) f.parts f.places (any_parts f.parts) f.behind ∙ sym
     (places_listed text f.parts) ∙ ap (places_in text) parts_are in
-    let all_are : s.places ≡ 0 ∷ places_in text (parts (level_of None) (pieces text)) = f.all_places ∙ ap (λ (ns : List ℕ). 0 ∷ ns) places_are in
+    let all_are : s.places ≡ 0 ∷ places_in text (parts (level_of None) (pieces text)) =
+    f.all_places ∙ ap (λ (ns : List ℕ). 0 ∷ ns) places_are in
     λ i. record { rules = rules_are i; places = all_are i; media = media_are i }

@@ -12,8 +12,8 @@ use Rattle.sheet_reader.specs.Parts.{PartForm, qualified, block}
 use Rattle.sheet_reader.specs.Grammar.{AreParts}
 use Rattle.sheet_reader.specs.Sheets.{body_end}
 use Rattle.sheet_laws.specs.Said.{AreSaid}
-use Rattle.sheet_laws.specs.Solids.{Covers, StandBetween}
-use Rattle.sheet_laws.specs.SelectorLists.{AreSelectorList}
+use Rattle.sheet_reader.specs.Solids.{Covers, StandBetween}
+use Rattle.sheet_reader.specs.SelectorLists.{AreSelectorList}
 use Rattle.sheet_laws.specs.Values.{AreDeclarations}
 use Rattle.sheet_laws.specs.Places.{IsPlaceBehind}
 

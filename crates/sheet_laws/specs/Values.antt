@@ -12,7 +12,7 @@ use Rattle.sheet_reader.specs.Forms.{range}
 use Rattle.sheet_reader.specs.Grammar.{is_closing, AreItems, AreNested}
 use Rattle.sheet_reader.specs.Declarations.{ItemForm, candidate, name_by, is_custom, is_bad_kind}
 use Rattle.sheet_laws.specs.Said.{AreSaid}
-use Rattle.sheet_laws.specs.Solids.{AreBlank, Covers, codes_of, IsCharacter}
+use Rattle.sheet_reader.specs.Solids.{AreBlank, Covers, codes_of, IsCharacter}
 
 -- each closing bracket has its opening one, while an opening one may be left open to the end
 pub data AreMatched : List Token → Type 0 where

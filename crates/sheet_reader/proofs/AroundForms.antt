@@ -219,7 +219,8 @@ laid_known text around k _ _ (media_laid p m inner ps within ls e is_inner own o
 
 pub sheet_there : (text : List ℕ) → AreThere (sheet_of text)
 sheet_there text =
-    let k = laid_known text None 0 (parts Top (pieces text)) (laid_out text None 0 (pieces text)) (laid_spelled text None 0 (pieces text)) tt in
+    let k =
+    laid_known text None 0 (parts Top (pieces text)) (laid_out text None 0 (pieces text)) (laid_spelled text None 0 (pieces text)) tt in
     record {
       media = k.media;
       rules = rules_more (0 + length (media_in text (laid_out text None 0 (pieces text))))

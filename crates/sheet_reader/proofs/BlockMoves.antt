@@ -12,14 +12,14 @@ use Rattle.sheet_reader.specs.declared.brackets.Bracket.{Bracket}
 use Rattle.sheet_reader.specs.declared.brackets.Bracket.TheVariants.{Curly}
 use Rattle.sheet_reader.specs.declared.brackets.Stop.TheVariants as stops
 use Rattle.sheet_reader.specs.Brackets.{opened_by, closed_by, open_after, is_none_open, stops_at, until_in, until}
-use Rattle.sheet_reader.specs.Parts.{EndingForm, block}
+use Rattle.sheet_reader.specs.Parts.{block}
 use Rattle.sheet_reader.specs.Grammar.{outside, is_closing, AreValues, IsEnding, in_block, in_open_block, AreNested}
 use Rattle.sheet_reader.proofs.Raised.{raised}
 use Rattle.sheet_reader.proofs.BracketLemmas.{stop_here, go_on}
 use Rattle.sheet_reader.proofs.ValueForms.{closes_one, until_is, until_splits}
 use Rattle.sheet_reader.proofs.OpenForms.{opens, passes, under_by, some_open, values_shut}
 use Rattle.sheet_reader.proofs.ExchangeForms.{nested_on, reaches, opens_one}
-use Rattle.sheet_reader.proofs.PartMoves.{cons_follows, values_rest, until_raised, to_list_raised, map_append, map_length}
+use Rattle.sheet_reader.proofs.PartMoves.{cons_follows, values_rest, until_raised, map_append, map_length}
 
 -- a body that is closed ends at its `}`
 abbrev pub BodyShut : List Token → Option Token → Type 0

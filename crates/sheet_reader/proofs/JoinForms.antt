@@ -1,20 +1,17 @@
 -- Parts of two texts, one behind the other, and what they lay out.
-use Rattle.std.proofs.Common.{◌≡◌, ◌⊎◌, inl, inr, ℕ, zero, suc, ◌+◌, Bool, true, false, List, [], ◌∷◌, ◌++◌, map, length}
+use Rattle.std.proofs.Common.{◌≡◌, ◌⊎◌, inl, inr, ℕ, suc, ◌+◌, true, false, List, [], ◌∷◌, ◌++◌, map, length}
 use Rattle.std.proofs.Common.{Option, Some, None, refl, sym, ap, subst, ◌∙◌, append_assoc, length-append, arith}
 use Rattle.std.specs.Prelude.{option_map, option_to_list}
 use Rattle.css_tokens.specs.declared.token.Range.{Range}
 use Rattle.css_tokens.specs.declared.token.Token.{Token}
 use Rattle.css_tokens.specs.declared.token.TokenKind.TheVariants as tokens
-use Rattle.selectors.specs.declared.words.Word.{Word}
 use Rattle.selectors.specs.Words.{word_reading, words_after}
 use Rattle.selectors.specs.Forms.{SelectorForm, ◌>>=◌}
 use Rattle.selectors.specs.Reading.{range_of, selector_list_of}
-use Rattle.selectors.specs.Moves.{placed_range, placed_selector}
 use Rattle.sheet_reader.specs.declared.brackets.Stop.{Stop}
 use Rattle.sheet_reader.specs.declared.brackets.Stop.TheVariants as stops
 use Rattle.sheet_reader.specs.declared.parts.Level.{Level}
 use Rattle.sheet_reader.specs.declared.sheet.MediaRule.{MediaRule}
-use Rattle.sheet_reader.specs.declared.sheet.Property.{Property}
 use Rattle.sheet_reader.specs.Forms.{range, RuleForm}
 use Rattle.sheet_reader.specs.Parts.{EndingForm, text_end, semicolon, block, PartForm, passed, at_rule, qualified, ending_pieces}
 use Rattle.sheet_reader.specs.Parts.{part_pieces}
@@ -22,12 +19,11 @@ use Rattle.sheet_reader.specs.Layout.{MediaForm, media_form, media_rule, media_o
 use Rattle.sheet_reader.specs.Layout.{AreLaid, none_laid, part_laid, media_laid}
 use Rattle.sheet_reader.specs.Declarations.{declarations}
 use Rattle.sheet_reader.specs.Lone.{is_closed_ending}
-use Rattle.sheet_reader.specs.Joins.{is_shut_part, ends_shut, behind_rule, behind_media}
-use Rattle.sheet_reader.specs.Moves.{placed_property, placed_media, placed_rule}
-use Rattle.sheet_reader.specs.Sheets.{body_end, style_rule, rule_by, rule_of, place_of, rules_in, places_in}
+use Rattle.sheet_reader.specs.Joins.{is_shut_part, ends_shut}
+use Rattle.sheet_reader.specs.Sheets.{body_end, rule_of, place_of, rules_in, places_in}
 use Rattle.sheet_reader.specs.Grammar.{outside, AreValues, EndsBefore, IsEnding, at_text_end, at_semicolon, in_block, in_open_block, IsRule}
 use Rattle.sheet_reader.specs.Grammar.{IsPart}
-use Rattle.sheet_reader.specs.Grammar.{BeginsQualified, passed_part, at_rule_part, qualified_part, AreParts, AreShut}
+use Rattle.sheet_reader.specs.Grammar.{BeginsQualified, passed_part, at_rule_part, qualified_part, AreShut}
 use Rattle.sheet_reader.proofs.Raised.{flat}
 use Rattle.sheet_reader.proofs.FrameForms.{media_append, media_cons}
 use Rattle.sheet_reader.proofs.PartMoves.{AreFlat, cons_follows, values_rest, part_rest}
@@ -257,7 +253,8 @@ laid_numbered text n around k _ _ (media_laid p m inner ps within ls e is own ar
     let around2 = option_map (λ m. n + m) around in
     subst (λ (xs : List Laid). AreLaid text around2 (n + k) (p ∷ ps) (laid around2 p ∷ xs)) (sym (map_append (numbered n) within ls))
     (media_laid p m inner ps (map (numbered n) within) (map (numbered n) ls) e is
-    (subst (λ (j : ℕ). AreLaid text (Some (n + k)) j inner (map (numbered n) within)) here (laid_numbered text n (Some k) (suc k) inner within own))
+    (subst (λ (j : ℕ). AreLaid text (Some (n + k)) j inner (map (numbered n) within)) here
+    (laid_numbered text n (Some k) (suc k) inner within own))
     (subst (λ (j : ℕ). AreLaid text around2 j ps (map (numbered n) ls)) behind
     (laid_numbered text n around (suc k + length (media_in text within)) ps ls are)))
 

@@ -1,7 +1,6 @@
 -- Where a text ends with a rule, what stands behind it is read as it is alone.
-use Rattle.std.proofs.Common.{◌≡◌, ◌⊎◌, inl, inr, ℕ, zero, suc, ◌+◌, ◌≤◌, Bool, true, false, List, [], ◌∷◌, ◌++◌, map, length}
-use Rattle.std.proofs.Common.{Option, Some, None, refl, sym, ap, subst, ◌∙◌, append_assoc, length-append, arith}
-use Rattle.std.specs.Prelude.{option_map, option_to_list}
+use Rattle.std.proofs.Common.{◌≡◌, inl, inr, ℕ, ◌+◌, true, List, [], ◌∷◌, ◌++◌, map, length}
+use Rattle.std.proofs.Common.{None, refl, sym, ap, subst, ◌∙◌, length-append, arith}
 use Rattle.std.proofs.lemmas.List.{append-nil}
 use Rattle.css_tokens.specs.declared.token.Token.{Token}
 use Rattle.css_tokens.specs.declared.token.TokenKind.TheVariants as tokens
@@ -9,16 +8,12 @@ use Rattle.css_tokens.specs.Rows.{piece}
 use Rattle.css_tokens.specs.Pieces.{pieces, pieces_after}
 use Rattle.css_tokens.specs.Seams.{IsWholeBefore, no_more}
 use Rattle.css_tokens.proofs.SeamPieces.{pieces_at, whole_before}
-use Rattle.selectors.specs.Forms.{SelectorForm}
-use Rattle.selectors.specs.Moves.{placed_range, placed_selector}
+use Rattle.selectors.specs.Moves.{placed_selector}
 use Rattle.sheet_reader.specs.declared.parts.Level.TheVariants.{Top}
-use Rattle.sheet_reader.specs.declared.sheet.MediaRule.{MediaRule}
-use Rattle.sheet_reader.specs.declared.sheet.Property.{Property}
-use Rattle.sheet_reader.specs.declared.sheet.Sheet.{Sheet}
 use Rattle.sheet_reader.specs.Forms.{RuleForm}
 use Rattle.sheet_reader.specs.Parts.{PartForm, parts}
 use Rattle.sheet_reader.specs.Layout.{media_in, Laid, laid_out, AreLaid}
-use Rattle.sheet_reader.specs.Joins.{ends_shut, is_shut_text, behind_rule, behind_media, joined}
+use Rattle.sheet_reader.specs.Joins.{is_shut_text, behind_rule, behind_media, joined}
 use Rattle.sheet_reader.specs.Moves.{placed_property, placed_media, placed_rule}
 use Rattle.sheet_reader.specs.Sheets.{rules_in, places_in, sheet_of}
 use Rattle.sheet_reader.proofs.Raised.{raised, raised_part, raised_laid, flat}
@@ -29,10 +24,10 @@ use Rattle.sheet_reader.proofs.UsableForms.{rules_append}
 use Rattle.sheet_reader.proofs.SealedCuts.{split_at, no_pieces, close_first, close_piece, one_more}
 use Rattle.sheet_reader.proofs.PartMoves.{AreFlat, flat_of, flat_parts}
 use Rattle.sheet_reader.proofs.WordMoves.{SamePart}
-use Rattle.sheet_reader.proofs.ReadMoves.{AllTokens, LaidIn, LaidMoved, rules_same, media_same, places_same}
+use Rattle.sheet_reader.proofs.ReadMoves.{AllTokens, rules_same, media_same, places_same}
 use Rattle.sheet_reader.proofs.TextMoves.{pieces_from, whole_tokens, widen, same_part}
 use Rattle.sheet_reader.proofs.LaidMoves.{laid_in, laid_again, flat_raised, flat_again, parts_kept, laid_kept, laid_shut, any_moved}
-use Rattle.sheet_reader.proofs.JoinForms.{LastClose, flat_append, flat_join, all_shut, parts_close, laid_join, numbered, rule_numbered}
+use Rattle.sheet_reader.proofs.JoinForms.{flat_append, flat_join, all_shut, parts_close, laid_join, numbered, rule_numbered}
 use Rattle.sheet_reader.proofs.JoinForms.{media_numbered, rules_numbered, medias_numbered, laid_numbered, places_append}
 
 -- a text whose last piece is a `}` is whole before anything

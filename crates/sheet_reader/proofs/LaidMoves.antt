@@ -1,29 +1,27 @@
 -- Parts that are laid out, with their places moved: they are laid out so again; and those that stay.
 use Rattle.std.proofs.Common.{◌≡◌, ◌⊎◌, inl, inr, ℕ, suc, ◌+◌, ◌-◌, ◌<◌, ◌≤◌, Bool, true, false, cond, nat_le, List, [], ◌∷◌, ◌++◌, map}
 use Rattle.std.proofs.Common.{length}
-use Rattle.std.proofs.Common.{Option, Some, None, refl, sym, ap, subst, ◌∙◌, append_assoc, arith}
+use Rattle.std.proofs.Common.{Option, Some, None, refl, sym, ap, subst, ◌∙◌, arith}
 use Rattle.std.specs.Prelude.{option_map, option_to_list}
 use Rattle.std.proofs.lemmas.Bool.Decides.{nat_tests}
 use Rattle.css_tokens.specs.declared.token.Token.{Token}
-use Rattle.css_tokens.specs.declared.token.TokenKind.{TokenKind}
 use Rattle.css_tokens.specs.declared.token.TokenKind.TheVariants as tokens
-use Rattle.selectors.specs.Words.{between}
 use Rattle.selectors.specs.Moves.{Cut, moved_place}
 use Rattle.sheet_reader.specs.declared.parts.Level.{Level}
 use Rattle.sheet_reader.specs.declared.parts.Level.TheVariants.{Inner}
 use Rattle.sheet_reader.specs.Parts.{EndingForm, text_end, semicolon, block, PartForm, passed, at_rule, qualified, ending_pieces}
 use Rattle.sheet_reader.specs.Parts.{part_pieces, parts}
-use Rattle.sheet_reader.specs.Layout.{names_media, media_by, MediaForm, media_form, media_in, Laid, laid, level_of}
+use Rattle.sheet_reader.specs.Layout.{MediaForm, media_form, media_in, Laid, laid}
 use Rattle.sheet_reader.specs.Layout.{AreLaid, none_laid, part_laid, media_laid}
 use Rattle.sheet_reader.specs.Grammar.{IsEnding, IsPart, at_rule_part, qualified_part, passed_part, AreParts, IsShutEnding, IsShut, AreShut}
 use Rattle.sheet_reader.specs.Grammar.{at_text_end, at_semicolon, in_block, in_open_block}
 use Rattle.sheet_reader.proofs.Raised.{raised, raised_ending, raised_part, raised_laid, raised_media, flat}
 use Rattle.sheet_reader.proofs.GrammarForms.{parts_only, parts_spelled}
 use Rattle.sheet_reader.proofs.OpenForms.{inside_shut}
-use Rattle.sheet_reader.proofs.UsableForms.{MediaIs, media_is}
+use Rattle.sheet_reader.proofs.UsableForms.{media_is}
 use Rattle.sheet_reader.proofs.PartMoves.{AreFlat, flat_of, flat_parts, parts_raised, map_append, map_length, part_pieces_raised}
 use Rattle.sheet_reader.proofs.WordMoves.{SamePart}
-use Rattle.sheet_reader.proofs.ReadMoves.{AllTokens, tokens_split, CloseMoved, EndingMoved, PartMoved, LaidIn, LaidMoved, form_in}
+use Rattle.sheet_reader.proofs.ReadMoves.{AllTokens, tokens_split, PartMoved, LaidIn, LaidMoved, form_in}
 use Rattle.sheet_reader.proofs.ReadMoves.{form_same, media_same}
 
 pub laid_in_append : (lo hi : ℕ) (xs ys : List Laid) → LaidIn lo hi xs → LaidIn lo hi ys → LaidIn lo hi (xs ++ ys)

@@ -1,5 +1,5 @@
 -- The reading of a sheet where the body of a rule is replaced by a sealed text is the old one with its places moved.
-use Rattle.std.proofs.Common.{◌≡◌, ◌⊎◌, inl, inr, ℕ, suc, ◌+◌, ◌-◌, ◌<◌, ◌≤◌, Bool, true, false, cond, List, [], ◌∷◌, ◌++◌, map, take, drop}
+use Rattle.std.proofs.Common.{◌≡◌, ◌⊎◌, inl, inr, ℕ, suc, ◌+◌, true, false, cond, List, [], ◌∷◌, ◌++◌, map, take, drop}
 use Rattle.std.proofs.Common.{length}
 use Rattle.std.proofs.Common.{Option, Some, None, refl, ap, sym, ◌∙◌, subst, append_assoc, length-append, arith}
 use Rattle.std.specs.Prelude.{slice_get, option_map, option_to_list}
@@ -18,7 +18,6 @@ use Rattle.selectors.specs.Forms.{SelectorForm, ◌>>=◌}
 use Rattle.selectors.specs.Reading.{range_of, selector_list_of}
 use Rattle.selectors.specs.Moves.{Cut, moved_place, placed_range, placed_selector}
 use Rattle.sheet_reader.specs.declared.sheet.Property.{Property}
-use Rattle.sheet_reader.specs.declared.sheet.Sheet.{Sheet}
 use Rattle.sheet_reader.specs.declared.brackets.Nesting.{Nesting}
 use Rattle.sheet_reader.specs.declared.brackets.Nesting.TheVariants.{Closed, Stray}
 use Rattle.sheet_reader.specs.declared.brackets.Bracket.{Bracket}
@@ -26,7 +25,7 @@ use Rattle.css_tokens.specs.declared.token.TokenKind.{TokenKind}
 use Rattle.sheet_reader.specs.declared.parts.Level.TheVariants.{Top}
 use Rattle.sheet_reader.specs.Forms.{range, RuleForm}
 use Rattle.sheet_reader.specs.Brackets.{nesting, nesting_in, is_stray, open_after}
-use Rattle.sheet_reader.specs.Parts.{block, PartForm, qualified, parts}
+use Rattle.sheet_reader.specs.Parts.{PartForm, parts}
 use Rattle.sheet_reader.specs.Layout.{Laid, media_in, laid_out, AreLaid}
 use Rattle.sheet_reader.specs.Declarations.{declarations, style_of}
 use Rattle.sheet_reader.specs.Grammar.{AreNested}
@@ -91,7 +90,7 @@ raised_twice f g h e (t ∷ ts) =
     λ i. (record { kind = t.kind; start = e t.start i; end = e t.end i }) ∷ more i
 
 -- ---- a sealed text is nested
-white_last : (bs : List Bracket) (us : List Token) (w : Token) → w.kind ≡ tokens.WhiteSpace → nesting_in bs (us ++ w ∷ [])
+pub white_last : (bs : List Bracket) (us : List Token) (w : Token) → w.kind ≡ tokens.WhiteSpace → nesting_in bs (us ++ w ∷ [])
     ≡ nesting_in bs us
 unfolding nesting_in
 white_last bs [] w e = by w.kind e
@@ -101,11 +100,11 @@ white_last bs [] w e = by w.kind e
     by _ e = absurd (cc)
 white_last bs (u ∷ us) w e = ap (λ (n : Nesting). cond (is_stray bs u.kind) Stray n) (white_last (open_after bs u.kind) us w e)
 
-closed_is : (n : Nesting) → is_closed_nesting n ≡ true → n ≡ Closed
+pub closed_is : (n : Nesting) → is_closed_nesting n ≡ true → n ≡ Closed
 closed_is Closed e = refl
 closed_is _ e = absurd (cc)
 
-sealed_nesting : (t : List ℕ) → is_sealed t ≡ true → nesting (pieces t) ≡ Closed
+pub sealed_nesting : (t : List ℕ) → is_sealed t ≡ true → nesting (pieces t) ≡ Closed
 sealed_nesting t e =
     let s = sealed_pieces t e in
     let us : nesting s.us ≡ Closed =

@@ -11,15 +11,15 @@ use Rattle.sheet_reader.specs.declared.parts.Level.{Level}
 use Rattle.sheet_reader.specs.declared.parts.Level.TheVariants.{Inner}
 use Rattle.sheet_reader.specs.declared.brackets.Stop.TheVariants as stops
 use Rattle.sheet_reader.specs.Forms.{RuleForm}
-use Rattle.sheet_reader.specs.Parts.{EndingForm, block, PartForm, at_rule, qualified, part_pieces}
+use Rattle.sheet_reader.specs.Parts.{block, PartForm, at_rule, part_pieces}
 use Rattle.sheet_reader.specs.Layout.{names_media, MediaForm, media_form, media_rule, media_in, Laid, laid, level_of}
-use Rattle.sheet_reader.specs.Layout.{AreLaid, none_laid, part_laid, media_laid}
+use Rattle.sheet_reader.specs.Layout.{AreLaid, part_laid, media_laid}
 use Rattle.sheet_reader.specs.Sheets.{rule_of, closing_place, place_of, rules_in, places_in}
-use Rattle.sheet_reader.specs.Grammar.{outside, IsEnding, IsPart, at_rule_part, AreParts, AreNested}
+use Rattle.sheet_reader.specs.Grammar.{outside, IsEnding, IsPart, at_rule_part, AreNested}
 use Rattle.sheet_reader.proofs.Raised.{raised, raised_part, raised_laid, raised_media, flat}
 use Rattle.sheet_reader.specs.Moves.{placed_media, placed_rule, rebodied}
 use Rattle.sheet_reader.proofs.FrameForms.{media_append, media_cons}
-use Rattle.sheet_reader.proofs.UsableForms.{MediaIs, media_is, rules_append, no_rule}
+use Rattle.sheet_reader.proofs.UsableForms.{media_is, rules_append, no_rule}
 use Rattle.sheet_reader.proofs.PartMoves.{AreFlat, flat_of, flat_parts, cons_follows, values_rest, part_rest, new_rule, to_list_raised}
 use Rattle.sheet_reader.proofs.PartMoves.{map_append, map_length}
 use Rattle.sheet_reader.proofs.WordMoves.{SamePart}

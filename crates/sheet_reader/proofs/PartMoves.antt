@@ -1,6 +1,6 @@
 -- Another body in the midst of parts: the parts before it stay, and those behind it.
-use Rattle.std.proofs.Common.{◌≡◌, ℕ, zero, suc, ◌+◌, ◌-◌, ◌<◌, ◌≤◌, Bool, true, false, cond, ◌&&◌, List, [], ◌∷◌, ◌++◌, map, take, drop}
-use Rattle.std.proofs.Common.{length, Option, Some, None, refl, ap, sym, ◌∙◌, subst, append_assoc, length-append, arith}
+use Rattle.std.proofs.Common.{◌≡◌, ℕ, zero, suc, ◌+◌, ◌-◌, Bool, true, false, cond, ◌&&◌, List, [], ◌∷◌, ◌++◌, map, take, drop}
+use Rattle.std.proofs.Common.{length, Option, Some, None, refl, ap, sym, ◌∙◌, subst}
 use Rattle.std.specs.Prelude.{slice_get, option_map, option_to_list}
 use Rattle.css_tokens.specs.declared.token.Token.{Token}
 use Rattle.css_tokens.specs.declared.token.TokenKind.{TokenKind}
@@ -9,12 +9,11 @@ use Rattle.sheet_reader.specs.declared.brackets.Bracket.{Bracket}
 use Rattle.sheet_reader.specs.declared.brackets.Stop.{Stop}
 use Rattle.sheet_reader.specs.declared.brackets.Stop.TheVariants as stops
 use Rattle.sheet_reader.specs.declared.parts.Level.{Level}
-use Rattle.sheet_reader.specs.declared.parts.Level.TheVariants.{Top, Inner}
 use Rattle.sheet_reader.specs.Brackets.{opened_by, closed_by, open_after, is_none_open, stops_at, until_in, until}
 use Rattle.sheet_reader.specs.Parts.{EndingForm, text_end, semicolon, block, PartForm, passed, at_rule, qualified, is_passed, ending_pieces}
 use Rattle.sheet_reader.specs.Parts.{part_pieces, ending_by, ending_at, block_at, at_rule_at, qualified_at, part_by, part_at, parts_after}
 use Rattle.sheet_reader.specs.Parts.{parts}
-use Rattle.sheet_reader.specs.Grammar.{Place, outside, inside, is_closing, is_closing_by, value_ends_before, AreValues, no_values}
+use Rattle.sheet_reader.specs.Grammar.{Place, outside, inside, is_closing_by, value_ends_before, AreValues, no_values}
 use Rattle.sheet_reader.specs.Grammar.{piece_and, block_and, open_block}
 use Rattle.sheet_reader.specs.Grammar.{EndsBefore, IsEnding, at_text_end, at_semicolon, in_block, in_open_block, BeginsQualified, IsRule}
 use Rattle.sheet_reader.specs.Grammar.{IsPart}
@@ -22,7 +21,6 @@ use Rattle.sheet_reader.specs.Grammar.{passed_part, at_rule_part, qualified_part
 use Rattle.sheet_reader.proofs.Raised.{raised, raised_ending, raised_part, raised_item, flat}
 use Rattle.sheet_reader.specs.Declarations as body
 use Rattle.sheet_reader.specs.Declarations.{item_by, item_at, item_pieces, items_after}
-use Rattle.sheet_reader.proofs.GrammarForms.{parts_only, parts_spelled}
 
 -- ---- nested pieces are component values
 abbrev pub AtClose : Place → Type 0

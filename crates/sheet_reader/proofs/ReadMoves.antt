@@ -1,7 +1,7 @@
 -- Pieces whose places are moved, with the text that they stand in: what is read from them is the same, with its ranges moved.
-use Rattle.std.proofs.Common.{◌≡◌, ◌⊎◌, inl, inr, ℕ, zero, suc, ◌+◌, ◌-◌, ◌<◌, ◌≤◌, ◌==◌, Bool, true, false, cond, ◌&&◌, ◌||◌, not, nat_lt}
-use Rattle.std.proofs.Common.{nat_le, List, [], ◌∷◌, ◌++◌, map, take, drop}
-use Rattle.std.proofs.Common.{length, Option, Some, None, refl, ap, sym, ◌∙◌, subst, append_assoc, length-append, arith, nat_eq}
+use Rattle.std.proofs.Common.{◌≡◌, ℕ, zero, suc, ◌+◌, ◌-◌, ◌<◌, ◌≤◌, ◌==◌, Bool, true, false, cond, ◌&&◌, ◌||◌, not, nat_lt}
+use Rattle.std.proofs.Common.{nat_le, List, [], ◌∷◌, ◌++◌, map, take}
+use Rattle.std.proofs.Common.{length, Option, Some, None, refl, ap, sym, ◌∙◌, subst, arith}
 use Rattle.std.specs.Prelude.{slice_get, slice_index, option_map, option_to_list, codes}
 use Rattle.std.specs.Str.{bytes_eq}
 use Rattle.std.specs.Char.{to_ascii_lowercase}
@@ -17,14 +17,14 @@ use Rattle.selectors.specs.declared.words.WordKind.{WordKind}
 use Rattle.selectors.specs.declared.words.WordKind.TheVariants.{Ident}
 use Rattle.selectors.specs.Words.{word_reading, word_kind, word_of, passed_over, words_by, words_after, is_mark, between}
 use Rattle.selectors.specs.Forms.{SelectorForm, ◌>>=◌}
-use Rattle.selectors.specs.Reading.{word_value, lower_of, range_of, is_over, selector_list_of}
+use Rattle.selectors.specs.Reading.{word_value, range_of, is_over, selector_list_of}
 use Rattle.sheet_reader.specs.declared.sheet.Property.{Property}
 use Rattle.sheet_reader.specs.declared.brackets.Bracket.{Bracket}
 use Rattle.sheet_reader.specs.declared.brackets.Nesting.{Nesting}
 use Rattle.sheet_reader.specs.declared.brackets.Nesting.TheVariants.{Stray}
 use Rattle.sheet_reader.specs.Forms.{range, RuleForm}
-use Rattle.sheet_reader.specs.Brackets.{open_after, is_stray, nesting_in, nesting}
-use Rattle.sheet_reader.specs.Parts.{EndingForm, text_end, semicolon, block, PartForm, passed, at_rule, qualified, ending_pieces}
+use Rattle.sheet_reader.specs.Brackets.{open_after, is_stray, nesting_in}
+use Rattle.sheet_reader.specs.Parts.{EndingForm, text_end, semicolon, block, PartForm, passed, at_rule, qualified}
 use Rattle.sheet_reader.specs.Parts.{part_pieces}
 use Rattle.sheet_reader.specs.Declarations as body
 use Rattle.sheet_reader.specs.Declarations.{items_after, names_important, is_important_by, is_important, plain_value, is_bad_kind}
@@ -33,7 +33,7 @@ use Rattle.sheet_reader.specs.Declarations.{is_custom, name_by, value_range, pro
 use Rattle.sheet_reader.specs.Declarations.{declaration_of, item_property, properties_in}
 use Rattle.sheet_reader.specs.Declarations.{declarations, item_pieces}
 use Rattle.sheet_reader.specs.Grammar.{AreItems}
-use Rattle.sheet_reader.specs.Sheets.{body_end, style_rule, rule_by, rule_of, is_closed_comment, passed_place, closing_place, ending_place}
+use Rattle.sheet_reader.specs.Sheets.{body_end, style_rule, rule_by, rule_of, is_closed_comment, passed_place, ending_place}
 use Rattle.sheet_reader.specs.Sheets.{place_of}
 use Rattle.sheet_reader.specs.Sheets.{rules_in, places_in}
 use Rattle.sheet_reader.proofs.Raised.{raised, raised_word, raised_ending, raised_part, raised_item, raised_laid, raised_media, flat}
@@ -42,8 +42,8 @@ use Rattle.sheet_reader.specs.declared.sheet.MediaRule.{MediaRule}
 use Rattle.sheet_reader.specs.Layout.{MediaForm, names_media, media_by, media_form, prelude_range, media_rule, Laid, media_of, media_in}
 use Rattle.sheet_reader.specs.Moves.{placed_property, placed_rule, placed_media}
 use Rattle.sheet_reader.proofs.ItemForms.{items_spelled}
-use Rattle.sheet_reader.proofs.UsableForms.{MediaIs, media_is}
-use Rattle.sheet_reader.proofs.PartMoves.{map_append, map_take, map_get, map_length, items_raised}
+use Rattle.sheet_reader.proofs.UsableForms.{media_is}
+use Rattle.sheet_reader.proofs.PartMoves.{map_take, map_get, map_length, items_raised}
 use Rattle.sheet_reader.proofs.WordMoves as words
 use Rattle.sheet_reader.proofs.WordMoves.{SamePart, InWord, AllIn}
 

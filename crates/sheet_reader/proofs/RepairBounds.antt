@@ -1,6 +1,6 @@
 -- Where the ranges and places of a reading stand: at or before the end of its text.
-use Rattle.std.proofs.Common.{◌≡◌, ℕ, ◌+◌, ◌<◌, ◌≤◌, Bool, true, false, cond, List, [], ◌∷◌, ◌++◌, map, drop, length, All}
-use Rattle.std.proofs.Common.{Option, Some, None, refl, sym, ap, subst, ◌∙◌, arith}
+use Rattle.std.proofs.Common.{◌≡◌, ℕ, ◌+◌, ◌<◌, ◌≤◌, Bool, true, false, cond, List, [], ◌∷◌, ◌++◌, map, length, All}
+use Rattle.std.proofs.Common.{Option, Some, None, refl, ap, subst, arith}
 use Rattle.std.specs.Prelude.{option_to_list}
 use Rattle.std.proofs.lemmas.List.Elements.{All-nil, All-cons}
 use Rattle.css_tokens.specs.declared.token.Range.{Range}
@@ -12,14 +12,13 @@ use Rattle.selectors.specs.Forms.{SelectorForm}
 use Rattle.selectors.specs.Moves.{placed_range, placed_selector}
 use Rattle.sheet_reader.specs.declared.parts.Level.TheVariants.{Top}
 use Rattle.sheet_reader.specs.declared.sheet.MediaRule.{MediaRule}
-use Rattle.sheet_reader.specs.declared.sheet.Property.{Property}
 use Rattle.sheet_reader.specs.Forms.{RuleForm}
 use Rattle.sheet_reader.specs.Parts.{EndingForm, text_end, semicolon, block, PartForm, passed, at_rule, qualified, part_pieces}
 use Rattle.sheet_reader.specs.Parts.{ending_pieces, parts}
-use Rattle.sheet_reader.specs.Layout.{laid_out, media_in, Laid}
-use Rattle.sheet_reader.specs.Moves.{placed_property, placed_media, placed_rule, IsWithin, IsPropertyWithin}
+use Rattle.sheet_reader.specs.Layout.{laid_out}
+use Rattle.sheet_reader.specs.Moves.{placed_media, placed_rule, IsWithin}
 use Rattle.sheet_reader.specs.Repairs.{IsRuleWithin}
-use Rattle.sheet_reader.specs.Sheets.{is_closed_comment, passed_place, ending_place, place_of, places_in, rules_in, sheet_of}
+use Rattle.sheet_reader.specs.Sheets.{is_closed_comment, passed_place, ending_place, place_of, places_in, sheet_of}
 use Rattle.sheet_reader.proofs.Raised.{flat}
 use Rattle.sheet_reader.proofs.GrammarForms.{parts_spelled}
 use Rattle.sheet_reader.proofs.LayoutForms.{laid_spelled}

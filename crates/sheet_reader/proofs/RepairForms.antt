@@ -1,19 +1,17 @@
 -- The plan for a part that is read anew leads to the reading of the new text.
-use Rattle.std.proofs.Common.{◌≡◌, ◌⊎◌, inl, inr, ℕ, zero, suc, ◌+◌, ◌-◌, ◌<◌, ◌≤◌, Bool, true, false, ◌&&◌, ◌||◌, List, [], ◌∷◌, ◌++◌, map}
+use Rattle.std.proofs.Common.{◌≡◌, ◌⊎◌, inl, inr, ℕ, suc, ◌+◌, ◌-◌, ◌<◌, ◌≤◌, Bool, true, false, ◌&&◌, ◌||◌, List, [], ◌∷◌, ◌++◌, map}
 use Rattle.std.proofs.Common.{take, drop}
-use Rattle.std.proofs.Common.{length, All, Option, Some, None, refl, sym, ap, subst, ◌∙◌, append_assoc, length-append, arith, nat_eq}
+use Rattle.std.proofs.Common.{length, All, Option, Some, None, refl, sym, ap, subst, ◌∙◌, length-append, arith, nat_eq}
 use Rattle.std.specs.Prelude.{nat_le, nat_lt, slice_get, slice_range, option_map, is_none, is_some}
 use Rattle.std.specs.List.{list_any, list_all}
 use Rattle.std.proofs.lemmas.Bool.{eqb-true}
-use Rattle.std.proofs.lemmas.List.{append-nil, length-map, length-take-le, length-drop}
+use Rattle.std.proofs.lemmas.List.{length-map, length-take-le, length-drop}
 use Rattle.std.proofs.lemmas.Option.{slice_get_within, slice_get-map}
 use Rattle.std.proofs.lemmas.List.Elements.{All-nil, All-cons, All-head, All-tail, All-append}
 use Rattle.std.proofs.lemmas.Bool.Decides.{nat_tests}
 use Rattle.node_tree.specs.Numbers.{number_limit}
 use Rattle.css_tokens.specs.declared.token.Range.{Range}
-use Rattle.css_tokens.specs.Pieces.{pieces}
-use Rattle.selectors.specs.Moves.{Cut, cut, moved_place, CanPlace, CanPlaceRange}
-use Rattle.sheet_reader.specs.declared.parts.Level.TheVariants.{Top}
+use Rattle.selectors.specs.Moves.{Cut, cut, moved_place, CanPlace}
 use Rattle.sheet_reader.specs.declared.repairs.NewPart.{NewPart}
 use Rattle.sheet_reader.specs.declared.repairs.Share.{Share}
 use Rattle.sheet_reader.specs.declared.repairs.Stretch.{Stretch}
@@ -22,7 +20,7 @@ use Rattle.sheet_reader.specs.declared.sheet.MediaRule.{MediaRule}
 use Rattle.sheet_reader.specs.declared.sheet.Sheet.{Sheet}
 use Rattle.sheet_reader.specs.declared.sheet.StyleRule.{StyleRule}
 use Rattle.sheet_reader.specs.Forms.{RuleForm, rule_seen}
-use Rattle.sheet_reader.specs.Joins.{is_shut_text, behind_rule, behind_media, joined}
+use Rattle.sheet_reader.specs.Joins.{is_shut_text, behind_rule, behind_media}
 use Rattle.sheet_reader.specs.Moves.{placed_rule, placed_media, IsWithin, CanPlaceMedia, CanPlaceRule, replaced}
 use Rattle.sheet_reader.specs.Repairs.{starts_between, IsRuleWithin, IsStretch, IsSeam, StandsAlone, IsNewPart, CanRepair, IsShare}
 use Rattle.sheet_reader.specs.Repairs.{part_cut}
@@ -34,7 +32,7 @@ use Rattle.sheet_reader.proofs.JoinedLaw.{joined_holds}
 use Rattle.sheet_reader.proofs.RepairSeams.{Between, between, ends_there, joined_or, new_between, empty_rules, empty_media, empty_places}
 use Rattle.sheet_reader.proofs.RepairBounds.{AreFrom, all_within, medias_within, places_from}
 use Rattle.sheet_reader.proofs.RepairLaw.{twice_rule, twice_media, count, rules_can, media_can, places_can, places_of, three_media}
-use Rattle.sheet_reader.proofs.RepairLaw.{rules_taken, rules_left, new_rules}
+use Rattle.sheet_reader.proofs.RepairLaw.{rules_left, new_rules}
 use Rattle.sheet_reader.proofs.RepairLaw.{new_media, count_before, count_to, places_left, new_places, three_rules, three_places}
 
 -- ---- no media rule starts in the part
@@ -76,7 +74,8 @@ own_media front own behind shut own_shut clear =
     let p = length front in
     let m = length own in
     let k = length (sheet_of front).media in
-    let both : (sheet_of (front ++ (own ++ behind))).media ≡ (sheet_of front).media ++ map (behind_media p k) (sheet_of (own ++ behind)).media =
+    let both : (sheet_of (front ++ (own ++ behind))).media ≡ (sheet_of front).media ++ map (behind_media p k) (sheet_of
+    (own ++ behind)).media =
     ap (λ (s : Sheet). s.media) (joined_holds front (own ++ behind) shut) in
     let inner : (sheet_of (own ++ behind)).media
     ≡ (sheet_of own).media ++ map (behind_media m (length (sheet_of own).media)) (sheet_of behind).media =
@@ -270,16 +269,19 @@ part_leads text put new_text own_text old range stretch own new stop read replac
         (omega (arith, stop_is, b.size, b.stop)) in
         let part_is_text : slice_range new_text (length b.front) stop ≡ own_text =
         ap (λ (x : ℕ). slice_range new_text x stop) b.size ∙ sym own_is in
-        let new_is : new_text ≡ b.front ++ (own_text ++ b.behind) = spelled ∙ ap (λ (x : List ℕ). b.front ++ (x ++ b.behind)) part_is_text in
+        let new_is : new_text ≡ b.front ++ (own_text ++ b.behind) =
+        spelled ∙ ap (λ (x : List ℕ). b.front ++ (x ++ b.behind)) part_is_text in
         let sheet : StandsAlone (sheet_of own_text) (length own_text) (nat_eq stretch.end (length text)) =
         subst (λ (s : Sheet). StandsAlone s (length own_text) (nat_eq stretch.end (length text))) reads alone in
         let total = ap (λ (x : List ℕ). length x) b.is ∙ length-append b.front (b.own ++ b.behind) in
         let total2 = length-append b.own b.behind in
         let shut : (is_shut_text own_text ≡ true) ⊎ (b.behind ≡ []) = elim sheet.shut [
-          | inl last ↦ inr (nothing b.behind (let e = eqb-true stretch.end (length text) last in omega (arith, e, total, total2, b.size, b.stop)))
+          | inl last ↦ inr (nothing b.behind
+              (let e = eqb-true stretch.end (length text) last in omega (arith, e, total, total2, b.size, b.stop)))
           | inr seam ↦ inl (ends_there own_text _ seam)
         ] in
-        let clear_text : list_any (starts_between (length b.front) (length b.front + length b.own)) (sheet_of (b.front ++ (b.own ++ b.behind))).media
+        let clear_text : list_any (starts_between (length b.front) (length b.front + length b.own)) (sheet_of
+        (b.front ++ (b.own ++ b.behind))).media
         ≡ false =
         (λ i. list_any (starts_between (b.size i) ((ap (λ (x : ℕ). x + length b.own) b.size ∙ b.stop) i)) (sheet_of (sym b.is i)).media)
         ∙ ap (λ (s : Sheet). list_any (starts_between stretch.start stretch.end) s.media) (sym read) ∙ clear in
@@ -295,9 +297,11 @@ part_leads text put new_text own_text old range stretch own new stop read replac
         let end : length b.front + length b.own ≡ stretch.end = omega (arith, b.size, b.stop) in
         let to : length (sheet_of b.front).rules + length (sheet_of b.own).rules ≡ stretch.rules.to =
         omega (arith, b.front_rules, b.own_rules) in
-        let can = part_can b.front b.own own_text b.behind b.front_shut b.own_shut b.some shut no_media no_new sheet.top room stretch new there
+        let can =
+        part_can b.front b.own own_text b.behind b.front_shut b.own_shut b.some shut no_media no_new sheet.top room stretch new there
         b.size end b.front_rules to in
-        let same = part_is b.front b.own own_text b.behind b.front_shut b.own_shut b.some shut no_media no_new sheet.top room stretch new there
+        let same =
+        part_is b.front b.own own_text b.behind b.front_shut b.own_shut b.some shut no_media no_new sheet.top room stretch new there
         b.size end b.front_rules to in
         record {
           can = subst (λ (t : List ℕ). CanRepair (sheet_of t) new) (sym b.is) can;
@@ -344,7 +348,8 @@ new_short text put new_text range e order fits short =
 pub places_all : (own_text : List ℕ) (own : Sheet) → own ≡ sheet_of own_text → All (λ place. place ≤ length own_text) own.places
 places_all own_text own reads =
     subst (λ (s : Sheet). All (λ place. place ≤ length own_text) s.places) (sym reads)
-    (All-cons (λ (place : ℕ). place ≤ length own_text) 0 (places_of own_text) (omega arith) (each (places_of own_text) (places_from own_text)))
+    (All-cons (λ (place : ℕ). place ≤ length own_text) 0 (places_of own_text) (omega arith)
+    (each (places_of own_text) (places_from own_text)))
   where
     each : (xs : List ℕ) → AreFrom 0 (length own_text) xs → All (λ place. place ≤ length own_text) xs
     each [] all = All-nil (λ (place : ℕ). place ≤ length own_text)

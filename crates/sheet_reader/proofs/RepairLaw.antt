@@ -1,18 +1,18 @@
 -- A reading of which a part is read anew is that of the new text.
-use Rattle.std.proofs.Common.{◌≡◌, ◌⊎◌, inl, inr, ℕ, zero, suc, ◌+◌, ◌-◌, ◌<◌, ◌≤◌, Bool, true, false, cond, List, [], ◌∷◌, ◌++◌, map, take}
+use Rattle.std.proofs.Common.{◌≡◌, ◌⊎◌, inl, inr, ℕ, suc, ◌+◌, ◌<◌, ◌≤◌, Bool, true, false, cond, List, [], ◌∷◌, ◌++◌, map, take}
 use Rattle.std.proofs.Common.{drop}
-use Rattle.std.proofs.Common.{length, All, Option, Some, None, refl, sym, ap, subst, ◌∙◌, append_assoc, length-append, arith}
+use Rattle.std.proofs.Common.{length, All, None, refl, sym, ap, subst, ◌∙◌, append_assoc, length-append, arith}
 use Rattle.std.specs.Prelude.{nat_le, option_map}
-use Rattle.std.specs.List.{list_any, prefix_len}
-use Rattle.std.proofs.lemmas.List.{append-nil, length-map}
-use Rattle.std.proofs.lemmas.List.Elements.{All-nil, All-cons, All-head, All-tail, All-append}
+use Rattle.std.specs.List.{prefix_len}
+use Rattle.std.proofs.lemmas.List.{length-map}
+use Rattle.std.proofs.lemmas.List.Elements.{All-nil, All-cons, All-head, All-tail}
 use Rattle.std.proofs.lemmas.Bool.Decides.{nat_tests}
 use Rattle.std.proofs.Math.Seq.{drop-append_seam, take-append_seam}
 use Rattle.node_tree.specs.Numbers.{number_limit}
 use Rattle.css_tokens.specs.declared.token.Range.{Range}
 use Rattle.css_tokens.specs.Pieces.{pieces}
 use Rattle.selectors.specs.Forms.{SelectorForm}
-use Rattle.selectors.specs.Moves.{Cut, cut, moved_place, placed_range, placed_selector, CanPlace, CanPlaceRange}
+use Rattle.selectors.specs.Moves.{cut, moved_place, placed_range, placed_selector, CanPlace, CanPlaceRange}
 use Rattle.sheet_reader.specs.declared.parts.Level.TheVariants.{Top}
 use Rattle.sheet_reader.specs.declared.sheet.MediaRule.{MediaRule}
 use Rattle.sheet_reader.specs.declared.sheet.Property.{Property}
@@ -21,15 +21,15 @@ use Rattle.sheet_reader.specs.Forms.{RuleForm}
 use Rattle.sheet_reader.specs.Joins.{is_shut_text, behind_rule, behind_media, joined}
 use Rattle.sheet_reader.specs.Moves.{placed_property, placed_media, placed_rule, IsWithin, IsPropertyWithin, CanPlaceProperty}
 use Rattle.sheet_reader.specs.Moves.{CanPlaceMedia}
-use Rattle.sheet_reader.specs.Moves.{CanPlaceHead, CanPlaceRule}
+use Rattle.sheet_reader.specs.Moves.{CanPlaceRule}
 use Rattle.sheet_reader.specs.Parts.{parts}
-use Rattle.sheet_reader.specs.Repairs.{starts_between, IsRuleWithin}
+use Rattle.sheet_reader.specs.Repairs.{IsRuleWithin}
 use Rattle.sheet_reader.specs.Sheets.{places_in, sheet_of}
 use Rattle.sheet_reader.proofs.LaidMoves.{stays, goes}
-use Rattle.sheet_reader.proofs.JoinedLaw.{joined_holds, same_list, map_both}
+use Rattle.sheet_reader.proofs.JoinedLaw.{joined_holds, map_both}
 use Rattle.sheet_reader.proofs.JoinForms.{map_append}
 use Rattle.sheet_reader.proofs.RepairSeams.{empty_rules, empty_media, empty_places, joined_or}
-use Rattle.sheet_reader.proofs.RepairBounds.{all_within, medias_within, media_stays, places_from, AreFrom, raised_from}
+use Rattle.sheet_reader.proofs.RepairBounds.{media_stays, places_from, AreFrom, raised_from}
 
 -- ---- what stands behind the part, with all its places moved
 -- a rule behind n bytes and k media rules, and then behind others
@@ -50,8 +50,10 @@ far_form h k r = record {
 
 twice_is : (p k m : ℕ) (r : RuleForm) → twice_rule p k m r ≡ far_form (λ x. p + (m + x)) k r
 twice_is p k m r =
-    let ss = map_both (placed_selector (λ x. p + x)) (placed_selector (λ x. m + x)) (placed_selector (λ x. p + (m + x))) (λ s. refl) r.selectors in
-    let ps = map_both (placed_property (λ x. p + x)) (placed_property (λ x. m + x)) (placed_property (λ x. p + (m + x))) (λ s. refl) r.properties in
+    let ss =
+    map_both (placed_selector (λ x. p + x)) (placed_selector (λ x. m + x)) (placed_selector (λ x. p + (m + x))) (λ s. refl) r.selectors in
+    let ps =
+    map_both (placed_property (λ x. p + x)) (placed_property (λ x. m + x)) (placed_property (λ x. p + (m + x))) (λ s. refl) r.properties in
     λ i. record {
       prelude = placed_range (λ x. p + (m + x)) r.prelude;
       selectors = ss i;

@@ -1,12 +1,11 @@
 -- The rules of a part further back, and lists of which a share makes way for others.
-use Rattle.std.proofs.Common.{◌≡◌, ℕ, ◌+◌, ◌-◌, ◌<◌, ◌≤◌, List, [], ◌∷◌, ◌++◌, map, take, drop, length, All}
-use Rattle.std.proofs.Common.{refl, sym, ap, subst, ◌∙◌, append_assoc, length-append, arith}
+use Rattle.std.proofs.Common.{◌≡◌, ℕ, ◌+◌, ◌-◌, ◌<◌, List, [], ◌∷◌, ◌++◌, map, All}
+use Rattle.std.proofs.Common.{refl, sym, ap, subst, ◌∙◌, arith}
 use Rattle.std.proofs.lemmas.List.Elements.{All-nil, All-cons, All-head, All-tail}
 use Rattle.node_tree.specs.Numbers.{number_limit}
-use Rattle.css_tokens.specs.declared.token.Range.{Range}
 use Rattle.selectors.specs.Forms.{SelectorForm}
 use Rattle.selectors.specs.Lists.{moved_selector, CanMove}
-use Rattle.selectors.specs.Moves.{placed_range, placed_selector}
+use Rattle.selectors.specs.Moves.{placed_selector}
 use Rattle.sheet_reader.specs.declared.sheet.StyleRule.{StyleRule}
 use Rattle.sheet_reader.specs.Forms.{RuleForm, rule_seen}
 use Rattle.sheet_reader.specs.Moves.{IsWithin}

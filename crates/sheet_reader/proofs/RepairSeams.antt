@@ -1,25 +1,23 @@
 -- A text taken apart at the seams around a part of it.
-use Rattle.std.proofs.Common.{◌≡◌, ◌⊎◌, inl, inr, ℕ, zero, suc, ◌+◌, ◌-◌, ◌<◌, ◌≤◌, Bool, true, false, List, [], ◌∷◌, ◌++◌, map, take, drop}
-use Rattle.std.proofs.Common.{length, Option, Some, None, refl, sym, ap, subst, ◌∙◌, append_assoc, length-append, arith}
+use Rattle.std.proofs.Common.{◌≡◌, ◌⊎◌, inl, inr, ℕ, zero, suc, ◌+◌, ◌-◌, ◌<◌, ◌≤◌, true, List, [], ◌∷◌, ◌++◌, map, take, drop}
+use Rattle.std.proofs.Common.{length, Option, Some, None, refl, sym, ap, subst, ◌∙◌, length-append, arith}
 use Rattle.std.specs.Prelude.{slice_get, slice_range, option_map}
-use Rattle.std.proofs.lemmas.List.{append-nil, length-map, take-append-drop, length-drop, length-take-le, drop-drop, drop-append-le}
+use Rattle.std.proofs.lemmas.List.{append-nil, length-map, take-append-drop, length-take-le, drop-drop}
 use Rattle.std.proofs.lemmas.List.{take-append-le}
 use Rattle.std.proofs.Math.Seq.{drop-append_seam, take-append_seam}
 use Rattle.css_tokens.specs.declared.token.Range.{Range}
-use Rattle.css_tokens.specs.Pieces.{pieces, pieces_after}
-use Rattle.sheet_reader.specs.declared.parts.Level.TheVariants.{Top}
+use Rattle.css_tokens.specs.Pieces.{pieces_after}
 use Rattle.sheet_reader.specs.declared.repairs.Stretch.{Stretch}
 use Rattle.sheet_reader.specs.declared.sheet.Sheet.{Sheet}
-use Rattle.sheet_reader.specs.declared.sheet.MediaRule.{MediaRule}
 use Rattle.sheet_reader.specs.Forms.{RuleForm}
-use Rattle.sheet_reader.specs.Parts.{parts, parts_after}
-use Rattle.sheet_reader.specs.Layout.{media_in, laid_out, laid_to, laid_with}
+use Rattle.sheet_reader.specs.Parts.{parts_after}
+use Rattle.sheet_reader.specs.Layout.{media_in, laid_to}
 use Rattle.sheet_reader.specs.Joins.{is_shut_text, behind_rule, behind_media, joined}
 use Rattle.sheet_reader.specs.Repairs.{IsSeam, at_start, behind_rule as seam_rule, IsSecondSeam, at_end, behind_other, IsStretch}
 use Rattle.sheet_reader.specs.Moves.{replaced}
 use Rattle.sheet_reader.specs.Sheets.{rules_in, places_in, sheet_of}
 use Rattle.sheet_reader.proofs.JoinedLaw.{joined_holds}
-use Rattle.sheet_reader.proofs.ShutForms.{ShutAt, shut_at}
+use Rattle.sheet_reader.proofs.ShutForms.{shut_at}
 
 -- ---- an empty text says nothing
 pub empty_rules : (sheet_of []).rules ≡ []
@@ -212,7 +210,8 @@ new_between front own behind put new_text part is starts order ends stop stop_is
     let first : take n lead ≡ front = taken n part.start text starts ∙ take-append_seam front (own ++ behind) in
     let one : take n new_text ≡ front =
     ap (take n) is ∙ take-append-le n lead (put ++ rest) (omega (arith, lead_size, starts)) ∙ first in
-    let stop_at : stop ≡ length lead + (length put + (n + length own - part.end)) = omega (arith, stop_is, lead_size, order, ends, starts) in
+    let stop_at : stop ≡ length lead + (length put + (n + length own - part.end)) =
+    omega (arith, stop_is, lead_size, order, ends, starts) in
     let past : part.end + (n + length own - part.end) ≡ n + length own = omega (arith, ends) in
     let whole : n + (stop - n) ≡ stop = omega (arith, stop_at, lead_size, starts) in
     let last : drop stop new_text ≡ behind =

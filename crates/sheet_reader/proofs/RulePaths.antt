@@ -1,5 +1,5 @@
 -- The way to a rule in a sheet, through the media rules around it.
-use Rattle.std.proofs.Common.{◌≡◌, ◌⊎◌, inl, inr, ℕ, zero, suc, ◌+◌, ◌-◌, List, [], ◌∷◌, ◌++◌, length, Option, Some, None}
+use Rattle.std.proofs.Common.{◌≡◌, ℕ, zero, suc, ◌+◌, List, [], ◌∷◌, ◌++◌, length, Option, Some, None}
 use Rattle.std.proofs.Common.{refl, sym, ap, subst, ◌∙◌, append_assoc, length-append, arith}
 use Rattle.std.specs.Prelude.{slice_get, option_to_list}
 use Rattle.css_tokens.specs.declared.token.Token.{Token}
@@ -8,15 +8,15 @@ use Rattle.sheet_reader.specs.declared.brackets.Stop.TheVariants as stops
 use Rattle.sheet_reader.specs.declared.parts.Level.{Level}
 use Rattle.sheet_reader.specs.declared.parts.Level.TheVariants.{Inner}
 use Rattle.sheet_reader.specs.Forms.{RuleForm}
-use Rattle.sheet_reader.specs.Parts.{EndingForm, text_end, semicolon, block, PartForm, passed, at_rule, qualified, ending_pieces}
-use Rattle.sheet_reader.specs.Parts.{part_pieces, parts}
-use Rattle.sheet_reader.specs.Layout.{MediaForm, media_form, media_in, Laid, laid, level_of, AreLaid, none_laid, part_laid, media_laid}
-use Rattle.sheet_reader.specs.Sheets.{rule_by, rule_of, rules_in}
-use Rattle.sheet_reader.specs.Grammar.{outside, AreValues, IsEnding, in_block, in_open_block, IsPart, at_rule_part, qualified_part}
+use Rattle.sheet_reader.specs.Parts.{text_end, semicolon, block, PartForm, passed, at_rule, qualified}
+use Rattle.sheet_reader.specs.Parts.{part_pieces}
+use Rattle.sheet_reader.specs.Layout.{MediaForm, media_form, media_in, Laid, laid, AreLaid, none_laid, part_laid, media_laid}
+use Rattle.sheet_reader.specs.Sheets.{rule_of, rules_in}
+use Rattle.sheet_reader.specs.Grammar.{outside, IsEnding, in_block, in_open_block, IsPart, at_rule_part, qualified_part}
 use Rattle.sheet_reader.specs.Grammar.{AreParts}
 use Rattle.sheet_reader.specs.Grammar.{IsShutEnding, AreShut}
 use Rattle.sheet_reader.proofs.Raised.{flat}
-use Rattle.sheet_reader.proofs.UsableForms.{MediaIs, media_is, rules_append, no_rule}
+use Rattle.sheet_reader.proofs.UsableForms.{media_is, rules_append, no_rule}
 use Rattle.sheet_reader.proofs.PartMoves.{AreFlat, flat_of, cons_follows, values_rest}
 use Rattle.sheet_reader.proofs.BlockMoves.{BodyShut}
 use Rattle.sheet_reader.proofs.LaidMoves.{media_shut}
@@ -63,11 +63,12 @@ pub record Found (text : List ℕ) (r : RuleForm) (around : Option ℕ) (k : ℕ
   pub path : Path text r q around k ps ls rs xs more
   pub number : length rs ≡ j
 
-record BlockPart (text : List ℕ) (around : Option ℕ) (p : PartForm) (r : RuleForm) : Type 0 where
-  q : RulePart
-  is : p ≡ rule_part q
+pub record BlockPart (text : List ℕ) (around : Option ℕ) (p : PartForm) (r : RuleForm) : Type 0 where
+  pub q : RulePart
+  pub is : p ≡ rule_part q
 
-as_block : (text : List ℕ) (around : Option ℕ) (p : PartForm) (r : RuleForm) → rule_of text around p ≡ Some r → BlockPart text around p r
+pub as_block : (text : List ℕ) (around : Option ℕ) (p : PartForm) (r : RuleForm) → rule_of text around p ≡ Some r
+    → BlockPart text around p r
 unfolding rule_of
 as_block text around (passed t) r e = absurd (cc)
 as_block text around (at_rule keyword prelude ending) r e = absurd (cc)

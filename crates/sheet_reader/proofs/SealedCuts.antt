@@ -1,7 +1,7 @@
 -- A sealed text is cut into the same whole pieces by itself, before a stop, and before the text's end.
-use Rattle.std.proofs.Common.{◌≡◌, ◌⊎◌, inl, inr, ℕ, zero, suc, ◌+◌, ◌-◌, ◌<◌, ◌≤◌, ◌==◌, Bool, true, false, cond, ◌&&◌, List, [], ◌∷◌}
+use Rattle.std.proofs.Common.{◌≡◌, ◌⊎◌, inl, inr, ℕ, ◌+◌, ◌-◌, ◌<◌, ◌≤◌, ◌==◌, Bool, true, false, cond, ◌&&◌, List, [], ◌∷◌}
 use Rattle.std.proofs.Common.{◌++◌}
-use Rattle.std.proofs.Common.{length, take, drop, Option, Some, None, refl, ap, sym, ◌∙◌, subst, append_assoc, length-append, arith, nat_eq}
+use Rattle.std.proofs.Common.{length, take, drop, Some, None, refl, ap, sym, ◌∙◌, subst, append_assoc, length-append, arith, nat_eq}
 use Rattle.std.specs.Prelude.{slice_get, slice_index}
 use Rattle.std.specs.List.{list_all}
 use Rattle.std.proofs.lemmas.List.{take-append-drop, length-take-le, length-drop, append-nil}
@@ -15,12 +15,12 @@ use Rattle.css_tokens.specs.Marks.{HasMarks}
 use Rattle.css_tokens.specs.Codes.{begins, is_white}
 use Rattle.css_tokens.specs.Escapes.{escape_len}
 use Rattle.css_tokens.specs.Runs.{number_len}
-use Rattle.css_tokens.specs.Rows.{piece, first_piece, comment, white_space, mark_kind, ◌or◌, when, string, bad_string, hash, numeric, cdc}
+use Rattle.css_tokens.specs.Rows.{piece, first_piece, comment, white_space, mark_kind, string, bad_string, hash, numeric, cdc}
 use Rattle.css_tokens.specs.Rows.{url, bad_url}
 use Rattle.css_tokens.specs.Rows.{opens_url, ident, cdo, at_keyword, mark}
 use Rattle.css_tokens.proofs.Unescaping.{same_code}
 use Rattle.css_tokens.specs.Pieces.{pieces, pieces_after}
-use Rattle.css_tokens.specs.Seams.{is_stop, IsWholeBefore, no_more, piece_and}
+use Rattle.css_tokens.specs.Seams.{IsWholeBefore, no_more, piece_and}
 use Rattle.css_tokens.specs.Forms.{a_percentage, a_dimension, a_number, WhiteSpaceForm}
 use Rattle.css_tokens.specs.Table.{PieceRow, comment_row, white_space_row, string_row, bad_string_row, hash_row, numeric_row, cdc_row}
 use Rattle.css_tokens.specs.Table.{url_row, bad_url_row, ident_row, cdo_row, at_keyword_row, mark_row, FormOf}
@@ -28,13 +28,15 @@ use Rattle.css_tokens.proofs.Cuts.{piece_first, none_at_end}
 use Rattle.css_tokens.proofs.Ends.{first_whole}
 use Rattle.css_tokens.proofs.RowForms.{white_row_law}
 use Rattle.css_tokens.proofs.TableForms.{first_fits, first_is_first}
-use Rattle.css_tokens.proofs.SeamPieces.{pieces_at, whole_before}
+use Rattle.css_tokens.proofs.SeamPieces.{pieces_at}
+use Rattle.css_tokens.proofs.SeamUnits.{stop_facts}
 use Rattle.sheet_reader.specs.Sealing.{is_white_kind, is_close_kind, is_closed_nesting, kind_passes, last_is, all_but_last, ends_sealed}
 use Rattle.sheet_reader.specs.Sealing.{is_sealed}
 use Rattle.sheet_reader.specs.Brackets.{nesting}
 use Rattle.sheet_reader.proofs.Behind.{spaced, IsBehind, at_end, at_stop, Piece}
-use Rattle.sheet_reader.proofs.SpaceUnits.{Facts, facts_behind}
-use Rattle.sheet_reader.proofs.SpaceNames.{piece_keeps}
+use Rattle.sheet_reader.specs.Preludes.{ends_return}
+use Rattle.sheet_reader.proofs.SpaceUnits.{Facts, facts_behind, Apart, apart_behind, apart_behind_front}
+use Rattle.sheet_reader.proofs.SpaceNames.{piece_kept}
 
 -- ---- the first piece of a text with pieces
 pub record FirstOf (text : List ℕ) (place : ℕ) (t : Token) (ts : List Token) : Type 0 where
@@ -208,16 +210,22 @@ split_text (b ∷ t) (a ∷ f) g e long =
     (more.0, (λ i. same i ∷ more.1 i), more.2)
 
 -- ---- what stands before the white space at the end stays
-keep_whole : (v : List ℕ) → IsBehind v → (g : List ℕ) (place : ℕ) (f : List ℕ) (us : List Token)
+pub whole_kept : (v : List ℕ) → Facts v → (g : List ℕ) (place : ℕ) (f : List ℕ) (us : List Token) → Apart (f ++ g) v
     → IsWholeBefore (g ++ spaced) place f us → IsWholeBefore (g ++ v) place f us
-keep_whole v b g place f us no_more = no_more
-keep_whole v b g place text us (piece_and {ts = more} p front rest is len found whole) =
+whole_kept v b g place f us m no_more = no_more
+whole_kept v b g place text us m (piece_and {ts = more} p front rest is len found whole) =
     let fits = first_fits (text ++ (g ++ spaced)) 0 p (omega arith) found in
     let here : first_piece ((text ++ g) ++ spaced) ≡ Some p = ap first_piece (append_assoc text g spaced) ∙ found in
-    let there = piece_keeps v b (text ++ g) p fits.0
+    let there = piece_kept v b (text ++ g) p m fits.0
     (omega (arith, len, ap length is, length-append front rest, length-append text g)) here in
     piece_and p front rest is len (sym (ap first_piece (append_assoc text g v)) ∙ there)
-    (keep_whole v b g (place + p.len) rest more whole)
+    (whole_kept v b g (place + p.len) rest more
+    (apart_behind_front v front (rest ++ g) (ap (λ (x : List ℕ). ends_return x && begins (λ d. d == 10) v)
+    (sym (append_assoc front rest g) ∙ ap (λ (x : List ℕ). x ++ g) (sym is)) ∙ m)) whole)
+
+keep_whole : (v : List ℕ) → IsBehind v → (g : List ℕ) (place : ℕ) (f : List ℕ) (us : List Token)
+    → IsWholeBefore (g ++ spaced) place f us → IsWholeBefore (g ++ v) place f us
+keep_whole v b g place f us whole = whole_kept v (facts_behind v b) g place f us (apart_behind v b (f ++ g)) whole
 
 not_white : (k kind : TokenKind) → kind ≡ k → is_white_kind k ≡ false → is_white_kind kind ≡ true → ⊥
 not_white k kind e a b = clash (is_white_kind kind) b (ap is_white_kind e ∙ a)
@@ -282,6 +290,22 @@ all_front (a ∷ g) h e =
     let t = both (is_white a) (list_all is_white (g ++ h)) e in
     let one = t.0 in rw one (all_front g h t.1)
 
+no_white : (v : List ℕ) → IsBehind v → begins is_white v ≡ false
+no_white _ at_end = refl
+no_white _ (at_stop c rest stop) = (stop_facts c stop).white
+
+-- a piece of white space up to and with the space begins with white space alone
+trail_white : (a : ℕ) (g : List ℕ) (p : Piece) → is_white_kind p.kind ≡ true → p.len ≡ length (a ∷ g) + 1
+    → first_piece ((a ∷ g) ++ spaced) ≡ Some p → list_all is_white (a ∷ g) ≡ true
+trail_white a g p kind size found =
+    let first = first_is_first ((a ∷ g) ++ spaced) p found in
+    let l = first.longest in
+    let form = white_row first.row p.kind l.front l.rest kind l.form in
+    let is : l.front ++ l.rest ≡ ((a ∷ g) ++ 32 ∷ []) ++ 125 ∷ [] = sym l.is ∙ sym (append_assoc (a ∷ g) (32 ∷ []) (125 ∷ [])) in
+    let halves = equal_halves l.front l.rest ((a ∷ g) ++ 32 ∷ []) (125 ∷ []) is
+    (omega (arith, l.len, size, length-append (a ∷ g) (32 ∷ []))) in
+    all_front (a ∷ g) (32 ∷ []) (sym (ap (list_all is_white) halves.0) ∙ form.run.0)
+
 -- white space before the space is white space before what stands behind
 white_there : (v : List ℕ) → IsBehind v → (a : ℕ) (g : List ℕ) (p : Piece) → is_white_kind p.kind ≡ true
     → p.len ≡ length (a ∷ g) + 1 → first_piece ((a ∷ g) ++ spaced) ≡ Some p → first_piece ((a ∷ g) ++ v)
@@ -296,7 +320,7 @@ white_there v b a g p kind size found =
     (omega (arith, l.len, size, length-append (a ∷ g) (32 ∷ []))) in
     let all : list_all is_white (a ∷ g) ≡ true = all_front (a ∷ g) (32 ∷ []) (sym (ap (list_all is_white) halves.0) ∙ form.run.0) in
     let there = white_row_law.only WhiteSpace (a ∷ g) v
-    (record { named = refl; some = omega arith; run = (all, (facts_behind v b).white) }) in
+    (record { named = refl; some = omega arith; run = (all, no_white v b) }) in
     let no_slash : nat_eq 47 a ≡ false = apart a (both (is_white a) (list_all is_white g) all).0 in
     rw no_slash (rw there refl)
   where
@@ -304,6 +328,9 @@ white_there v b a g p kind size found =
     apart a e = grind (arith, nat_tests)
 
 -- ---- a sealed text
+abbrev pub AllWhite : List ℕ → Type 0
+AllWhite xs = list_all is_white xs ≡ true
+
 -- the pieces of a text that is sealed, whole before whatever stands behind
 pub record SealedPieces (t : List ℕ) : Type 0 where
   pub us : List Token
@@ -313,6 +340,12 @@ pub record SealedPieces (t : List ℕ) : Type 0 where
   pub nested : is_closed_nesting (nesting (us ++ white ∷ [])) ≡ true
   pub either : (own ≡ us) ⊎ ((w : Token) × (own ≡ us ++ w ∷ []) × (w.kind ≡ WhiteSpace))
   pub whole : (v : List ℕ) → IsBehind v → IsWholeBefore v 0 t own
+  -- the text without white space at its end, which joins with white space behind
+  pub front : List ℕ
+  pub trail : List ℕ
+  pub parted : t ≡ front ++ trail
+  pub blank : AllWhite trail
+  pub before : (v : List ℕ) → Facts v → Apart t v → IsWholeBefore (trail ++ v) 0 front us
 
 pub one_more : (after g : List ℕ) (p : Piece) (place : ℕ) (f : List ℕ) (us : List Token)
     → IsWholeBefore (g ++ after) place f us → p.len ≡ length g → first_piece (g ++ after) ≡ Some p
@@ -353,6 +386,11 @@ sealed_pieces t e =
       nested = nested;
       either = inl refl;
       whole = λ v b. subst (λ (x : List ℕ). IsWholeBefore v 0 x us) (sym (is ∙ append-nil f)) (keep_whole v b [] 0 f us whole);
+      front = f;
+      trail = [];
+      parted = is;
+      blank = refl;
+      before = λ v k m. whole_kept v k [] 0 f us (subst (λ (x : List ℕ). Apart x v) is m) whole;
     }
     by (a ∷ g) us f p is w white nested kind whole found len = record {
       us = us;
@@ -365,6 +403,11 @@ sealed_pieces t e =
           (us ++ (record { kind = WhiteSpace; start = 0 + length f; end = 0 + length f + length (a ∷ g) }) ∷ [])) (sym is)
           (one_more v (a ∷ g) (piece WhiteSpace (length (a ∷ g))) 0 f us (keep_whole v b (a ∷ g) 0 f us whole) refl
           (white_there v b a g p kind len found));
+      front = f;
+      trail = a ∷ g;
+      parted = is;
+      blank = trail_white a g p kind len found;
+      before = λ v k m. whole_kept v k (a ∷ g) 0 f us (subst (λ (x : List ℕ). Apart x v) is m) whole;
     }
 
 -- alone it has just these pieces

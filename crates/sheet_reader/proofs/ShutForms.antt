@@ -1,9 +1,8 @@
 -- A text ends at the `}` of each of its rules at top level: what stands before it is a text of its own.
-use Rattle.std.proofs.Common.{◌≡◌, ◌⊎◌, inl, inr, ℕ, zero, suc, ◌+◌, ◌<◌, ◌≤◌, Bool, true, false, List, [], ◌∷◌, ◌++◌, map, take, length}
+use Rattle.std.proofs.Common.{◌≡◌, ℕ, suc, ◌+◌, ◌<◌, true, false, List, [], ◌∷◌, ◌++◌, map, length}
 use Rattle.std.proofs.Common.{Option, Some, None, refl, sym, ap, subst, ◌∙◌, append_assoc, length-append, arith}
-use Rattle.std.specs.Prelude.{slice_get, option_map, option_to_list}
+use Rattle.std.specs.Prelude.{slice_get, option_to_list}
 use Rattle.std.proofs.lemmas.List.{append-nil}
-use Rattle.std.proofs.Math.Seq.{take-append_seam}
 use Rattle.css_tokens.specs.declared.token.Range.{Range}
 use Rattle.css_tokens.specs.declared.token.Token.{Token}
 use Rattle.css_tokens.specs.declared.token.TokenKind.TheVariants as tokens
@@ -15,19 +14,18 @@ use Rattle.selectors.specs.Words.{words_after}
 use Rattle.sheet_reader.specs.declared.parts.Level.{Level}
 use Rattle.sheet_reader.specs.declared.parts.Level.TheVariants.{Top}
 use Rattle.sheet_reader.specs.Forms.{range, RuleForm}
-use Rattle.sheet_reader.specs.Parts.{EndingForm, block, PartForm, qualified, ending_pieces, part_pieces, parts}
-use Rattle.sheet_reader.specs.Layout.{MediaForm, media_form, media_in, Laid, laid, laid_out, level_of, AreLaid, none_laid, part_laid}
+use Rattle.sheet_reader.specs.Parts.{block, PartForm, qualified, part_pieces, parts}
+use Rattle.sheet_reader.specs.Layout.{media_form, media_in, Laid, laid, laid_out, AreLaid, none_laid, part_laid}
 use Rattle.sheet_reader.specs.Layout.{media_laid}
 use Rattle.sheet_reader.specs.Joins.{is_shut_part, ends_shut, is_shut_text}
 use Rattle.sheet_reader.specs.Moves.{placed_rule}
 use Rattle.sheet_reader.specs.Sheets.{body_end, rule_of, rules_in, sheet_of}
-use Rattle.sheet_reader.specs.Grammar.{IsPart, AreParts}
-use Rattle.sheet_reader.proofs.Raised.{raised_part, raised_laid, flat}
+use Rattle.sheet_reader.proofs.Raised.{raised_laid, flat}
 use Rattle.sheet_reader.proofs.GrammarForms.{parts_only, parts_spelled}
 use Rattle.sheet_reader.proofs.LayoutForms.{laid_spelled, laid_only}
 use Rattle.sheet_reader.proofs.UsableForms.{rules_append}
 use Rattle.sheet_reader.proofs.SealedCuts.{split_at, close_first, close_piece, one_more}
-use Rattle.sheet_reader.proofs.PartMoves.{AreFlat, flat_of, flat_parts, part_rest, append_follows, cons_follows}
+use Rattle.sheet_reader.proofs.PartMoves.{AreFlat, flat_of, flat_parts, part_rest}
 use Rattle.sheet_reader.proofs.BlockMoves.{BodyShut}
 use Rattle.sheet_reader.proofs.WordMoves.{SamePart}
 use Rattle.sheet_reader.proofs.ReadMoves.{AllTokens, rules_same}
@@ -35,7 +33,7 @@ use Rattle.sheet_reader.proofs.TextMoves.{widen, whole_tokens, same_part}
 use Rattle.sheet_reader.proofs.LaidMoves.{laid_in, laid_again, parts_kept, laid_kept, laid_shut}
 use Rattle.sheet_reader.proofs.RulePaths.{RulePart, rule_part, Path, here, past_part, past_media, in_media, find, path_ends}
 use Rattle.sheet_reader.proofs.MovedLaw.{head_of, path_body}
-use Rattle.sheet_reader.proofs.JoinForms.{shut_rest, some_piece, flat_append, all_shut, laid_join}
+use Rattle.sheet_reader.proofs.JoinForms.{shut_rest, some_piece, flat_append, all_shut}
 use Rattle.sheet_reader.proofs.JoinedLaw.{same_list, same_rule}
 
 -- ---- the parts up to a rule at top level
@@ -148,13 +146,15 @@ shut_here front behind k r q rs c f close number whole size =
     let n = length front in
     let ps = f.fs ++ rule_part q ∷ [] in
     let ls = f.fl ++ laid None (rule_part q) ∷ [] in
-    let shut_q : is_shut_part (rule_part q) ≡ true = ap (λ (o : Option Token). is_shut_part (qualified q.prelude (block q.brace q.body o))) close in
+    let shut_q : is_shut_part (rule_part q) ≡ true =
+    ap (λ (o : Option Token). is_shut_part (qualified q.prelude (block q.brace q.body o))) close in
     let both = flat_of Top (parts Top (pieces text)) (pieces text) (parts_spelled Top (pieces text)) in
     let all = flat_front Top f.fs (rule_part q) f.rest shut_q (subst (AreFlat Top) f.is both.1) in
     let tokens : pieces front ≡ flat ps = sym (ap pieces (append-nil front)) ∙ pieces_at [] front (flat ps) whole ∙ append-nil (flat ps) in
     let new_parts : ps ≡ parts Top (pieces front) = parts_only Top ps (flat ps) (flat_parts Top ps all) ∙ ap (parts Top) (sym tokens) in
     let ends : ends_shut ps ≡ true = ends_last f.fs (rule_part q) ∙ shut_q in
-    let inside_all : AllTokens 0 n (flat ps) = widen 0 (0 + n) 0 n (flat ps) (omega arith) (omega arith) (whole_tokens [] 0 front (flat ps) whole) in
+    let inside_all : AllTokens 0 n (flat ps) =
+    widen 0 (0 + n) 0 n (flat ps) (omega arith) (omega arith) (whole_tokens [] 0 front (flat ps) whole) in
     let same = front_alone front behind in
     let laid_all = laid_in 0 n text None 0 ps ls f.are_laid inside_all in
     let moved = laid_shut text front (λ x. x) None 0 ps ls f.are_laid Top all (all_shut Top ps ends all) in

@@ -1,20 +1,19 @@
 -- Names and urls before a space and `}`; with them, the first piece whose row takes.
 use Rattle.std.proofs.Common.{◌≡◌, ◌⊎◌, inl, inr, ℕ, zero, suc, ◌+◌, ◌-◌, ◌<◌, ◌≤◌, ◌==◌, Bool, true, false, cond, ◌&&◌, not}
 use Rattle.std.proofs.Common.{List, [], ◌∷◌, ◌++◌, length, drop, take, min, Option, Some, None, refl, ap, sym, ◌∙◌, subst}
-use Rattle.std.proofs.Common.{arith, length-append}
-use Rattle.std.specs.List.{prefix_len}
+use Rattle.std.proofs.Common.{arith}
 use Rattle.std.proofs.lemmas.List.{drop-append-le, take-append-le, length-drop, drop-drop}
 use Rattle.css_tokens.specs.declared.token.TokenKind.TheVariants.{Ident, Function, Url, BadUrl}
 use Rattle.css_tokens.specs.Codes.{begins, is_white, is_quote}
-use Rattle.css_tokens.specs.Escapes.{escape_len}
 use Rattle.css_tokens.specs.Runs.{run, run_after, unit_then, url_unit, bad_url_unit, name_len, starts_ident, white_run, ends_url}
 use Rattle.css_tokens.specs.Rows.{◌or◌, when, piece, open_url_len, is_url, opens_url, url_body_len}
 use Rattle.css_tokens.specs.Rows.{closes_url, first_piece, comment, white_space, string, bad_string, hash, numeric, cdc, url, bad_url}
 use Rattle.css_tokens.specs.Rows.{ident, cdo, at_keyword, mark}
 use Rattle.css_tokens.proofs.Ends.{run_stops}
 use Rattle.sheet_reader.proofs.Behind.{spaced, Piece, IsBehind}
-use Rattle.sheet_reader.proofs.SpaceUnits.{Facts, facts_behind, Short, short_add, short_suc, short_cond, short_else, begins_at, prefix_at}
-use Rattle.sheet_reader.proofs.SpaceUnits.{prefix_in, starts_at, escape_at, bad_url_at, run_at}
+use Rattle.sheet_reader.proofs.SpaceUnits.{Facts, facts_behind, Short, short_add, short_cond, short_else, begins_at}
+use Rattle.sheet_reader.proofs.SpaceUnits.{StartsSame, starts_at, escape_at, bad_url_at, run_at, Apart, apart_tail, apart_drop}
+use Rattle.sheet_reader.proofs.SpaceUnits.{apart_behind}
 use Rattle.sheet_reader.proofs.SpaceRows.{Keeps, keeps_none, keeps_same, keeps_long, or_keeps, same_keeps, short_keeps, less, closed_short}
 use Rattle.sheet_reader.proofs.SpaceRows.{longer, as_long}
 use Rattle.sheet_reader.proofs.SpaceRows.{comment_keeps, white_short, white_keeps, strings_keeps, name_short, hash_keeps, at_keeps}
@@ -62,8 +61,9 @@ brief n a b (inl same) = inl same
 brief n a b (inr far) = inr (omega (arith, far))
 
 -- the length of the url unit before the space is that before what stands behind, unless it is past the text
-url_more : (v : List ℕ) → Facts v → (a : ℕ) (x : List ℕ) → Short (length (a ∷ x)) (url_unit (a ∷ (x ++ spaced))) (url_unit (a ∷ (x ++ v)))
-url_more v f a x = short_else (ends_url a) (length (a ∷ x)) _ _ 0 (short_cond (a == 92) (length (a ∷ x)) _ _ 1 (escape_at v f (a ∷ x)))
+url_more : (v : List ℕ) → Facts v → (a : ℕ) (x : List ℕ) → Apart (a ∷ x) v
+    → Short (length (a ∷ x)) (url_unit (a ∷ (x ++ spaced))) (url_unit (a ∷ (x ++ v)))
+url_more v f a x m = short_else (ends_url a) (length (a ∷ x)) _ _ 0 (short_cond (a == 92) (length (a ∷ x)) _ _ 1 (escape_at v f (a ∷ x) m))
 
 run_far : (unit : List ℕ → ℕ) (x : List ℕ) (k : ℕ) → length x < k → length x < run_after unit k (x ++ spaced)
 unfolding run_after
@@ -89,27 +89,28 @@ brief_at : (n u u' : ℕ) (f g : ℕ → ℕ) → Short (suc n) u u' → ((k : �
 brief_at n u u' f g (inl same) h far = subst (λ (w : ℕ). Brief (suc n) (unit_then u f) (unit_then w g)) same (brief_then n u f g h)
 brief_at n u u' f g (inr long) h far = inr (far_then n u f long far)
 
-url_run : (v : List ℕ) → Facts v → (skip : ℕ) (x : List ℕ)
+url_run : (v : List ℕ) → Facts v → (skip : ℕ) (x : List ℕ) → Apart x v
     → Brief (length x) (run_after url_unit skip (x ++ spaced)) (run_after url_unit skip (x ++ v))
 unfolding run_after
-url_run v f skip [] = inr (omega arith)
-url_run v f (suc skip) (a ∷ x) = brief_suc (length x) _ _ (url_run v f skip x)
-url_run v f zero (a ∷ x) = brief_at (length x) (url_unit (a ∷ (x ++ spaced))) (url_unit (a ∷ (x ++ v)))
-    (λ k. run_after url_unit k (x ++ spaced)) (λ k. run_after url_unit k (x ++ v)) (url_more v f a x) (λ k. url_run v f k x)
+url_run v f skip [] m = inr (omega arith)
+url_run v f (suc skip) (a ∷ x) m = brief_suc (length x) _ _ (url_run v f skip x (apart_tail v a x m))
+url_run v f zero (a ∷ x) m = brief_at (length x) (url_unit (a ∷ (x ++ spaced))) (url_unit (a ∷ (x ++ v)))
+    (λ k. run_after url_unit k (x ++ spaced)) (λ k. run_after url_unit k (x ++ v)) (url_more v f a x m)
+    (λ k. url_run v f k x (apart_tail v a x m))
     (λ k e. run_far url_unit x k e)
 
 white_first : (t : List ℕ) → begins is_white t ≡ true → 0 < white_run t
 white_first [] e = cc
 white_first (c ∷ t) e = rw e (omega arith)
 
-pub body_short : (v : List ℕ) → Facts v → (z : List ℕ) → Short (length z) (url_body_len (z ++ spaced)) (url_body_len (z ++ v))
+pub body_short : (v : List ℕ) → Facts v → (z : List ℕ) → Apart z v → Short (length z) (url_body_len (z ++ spaced)) (url_body_len (z ++ v))
 unfolding url_body_len
-body_short v f z =
+body_short v f z m =
     let s = white_run (z ++ spaced) in
     let t = white_run (z ++ v) in
     let u = run url_unit (drop s (z ++ spaced)) in
     let w = run url_unit (drop t (z ++ v)) in
-    elim (white_short v z f.white) [
+    elim (white_short v z) [
       | inr far ↦ inr (omega (arith, far))
       | inl s_same ↦ elim (less (length z) s) [
         | inl past ↦ inr (omega arith)
@@ -125,11 +126,12 @@ body_short v f z =
                   let three : drop (s + u) (z ++ spaced) ≡ drop (s + u) z ++ spaced = drop-append-le (s + u) z spaced within in
                   let left : length (drop (s + u) z) ≡ length z - (s + u) = length-drop (s + u) z in
                   let white : white_run (drop (s + u) (z ++ spaced)) ≡ white_run (drop (s + u) z ++ spaced) = ap white_run three in
-                  elim (url_run v f 0 (drop s z)) [
+                  elim (url_run v f 0 (drop s z) (apart_drop v s z m)) [
                     | inr far ↦
                         let at : s + u ≡ length z = omega (arith, far, u_is, size, s_fits, within) in
                         let none : drop (s + u) z ≡ [] = no_codes (drop (s + u) z) (omega (arith, left, at)) in
-                        let first : begins is_white (drop (s + u) z ++ spaced) ≡ true = ap (λ (d : List ℕ). begins is_white (d ++ spaced)) none in
+                        let first : begins is_white (drop (s + u) z ++ spaced) ≡ true =
+                        ap (λ (d : List ℕ). begins is_white (d ++ spaced)) none in
                         let some = white_first (drop (s + u) z ++ spaced) first in
                         inr (omega (arith, some, white, at))
                     | inl same ↦
@@ -137,7 +139,7 @@ body_short v f z =
                         let four : drop (t + w) (z ++ v) ≡ drop (s + u) z ++ v =
                         ap (λ (k : ℕ). drop k (z ++ v)) (sym k_same) ∙ drop-append-le (s + u) z v within in
                         let white2 : white_run (drop (t + w) (z ++ v)) ≡ white_run (drop (s + u) z ++ v) = ap white_run four in
-                        elim (white_short v (drop (s + u) z) f.white) [
+                        elim (white_short v (drop (s + u) z)) [
                           | inl e ↦ inl (omega (arith, k_same, e, white, white2))
                           | inr far ↦ inr (omega (arith, far, left, white, within))
                         ]
@@ -196,11 +198,7 @@ opens_by s b u q = ((s && b) && u) && not q
 -- a quote behind white space: white space up to the space is followed by no quote
 quote_at : (v : List ℕ) → Facts v → (z : List ℕ)
     → begins is_quote (drop (white_run (z ++ spaced)) (z ++ spaced)) ≡ begins is_quote (drop (white_run (z ++ v)) (z ++ v))
-quote_at v f [] = sym (none v f.white f.quote)
-  where
-    none : (v : List ℕ) → begins is_white v ≡ false → begins is_quote v ≡ false → begins is_quote (drop (white_run v) v) ≡ false
-    none [] a b = refl
-    none (c ∷ v) a b = rw a b
+quote_at v f [] = sym f.quoted
 quote_at v f (a ∷ z) = by (is_white a) (quote_at v f z)
   where
     by : (b : Bool) → begins is_quote (drop (white_run (z ++ spaced)) (z ++ spaced)) ≡ begins is_quote (drop (white_run (z ++ v)) (z ++ v))
@@ -233,8 +231,10 @@ opens_same v f x same fits =
     ≡ begins is_quote (drop (white_run (drop (name_len (x ++ v) + 1) (x ++ v))) (drop (name_len (x ++ v) + 1) (x ++ v))) =
     ap (λ (t : List ℕ). begins is_quote (drop (white_run t) t)) three ∙ quote_at v f z ∙ sym
     (ap (λ (t : List ℕ). begins is_quote (drop (white_run t) t)) four) in
-    let starts = starts_at v f x in
-    λ i. opens_by (starts i) (round i) (is_url (name i)) (quote i)
+    elim (starts_at v f x) [
+      | inl starts ↦ λ i. opens_by (starts i) (round i) (is_url (name i)) (quote i)
+      | inr far ↦ absurd (omega (arith, far.1, fits))
+    ]
 
 -- the group as it is computed
 names_of : List ℕ → Option Piece
@@ -311,11 +311,11 @@ some_left [] e = cc
 some_left (a ∷ w) e = omega arith
 
 -- where a url opens in both
-opened_keeps : (v : List ℕ) → Facts v → (x : List ℕ) (n : ℕ) → name_len (x ++ spaced) ≡ n → name_len (x ++ v) ≡ n
+opened_keeps : (v : List ℕ) → Facts v → (x : List ℕ) → Apart x v → (n : ℕ) → name_len (x ++ spaced) ≡ n → name_len (x ++ v) ≡ n
     → n + 1 ≤ length x → opens_url (x ++ spaced) ≡ true → opens_url (x ++ v) ≡ true
     → Keeps (length x) (names_of (x ++ spaced)) (names_of (x ++ v))
 unfolding names_of
-opened_keeps v f x n first second fits opens opens' =
+opened_keeps v f x m n first second fits opens opens' =
     let t = x ++ spaced in
     let t' = x ++ v in
     let z = drop (n + 1) x in
@@ -332,7 +332,7 @@ opened_keeps v f x n first second fits opens opens' =
     let s = starts_ident t in
     let far : length x < o → Keeps (length x) (names_of t) (names_of t') = λ a.
     long_keeps (length x) (names_of t) (names_of t') (url_far_at t (length x) opens a more) in
-    elim (body_short v f z) [
+    elim (body_short v f z (apart_drop v (n + 1) x m)) [
       | inr past ↦ far (omega (arith, o_is, past, size))
       | inl same ↦
           let o_same : o ≡ o' = omega (arith, o_is, o_is', same) in
@@ -349,7 +349,7 @@ opened_keeps v f x n first second fits opens opens' =
                 let some = some_left w (sym (ap (begins is_white) behind) ∙ body_then (z ++ spaced)) in
                 let near = subst (λ (k : ℕ). Short k (o + run bad_url_unit (w ++ spaced)) (o + run bad_url_unit (w ++ v)))
                 (size_of o (length w) (length x) w_size within)
-                (short_add o (length w) _ _ (run_at bad_url_unit v (bad_url_at v f) w)) in
+                (short_add o (length w) _ _ (run_at bad_url_unit v (bad_url_at v f) w (apart_drop v o x m))) in
                 let close_fits : closes_url (w ++ spaced) ≡ true → o + 1 ≤ length x = λ e. omega (arith, some, w_size) in
                 let bad_fits : closes_url (w ++ spaced) ≡ false → o + run bad_url_unit (w ++ spaced) ≤ length x
                 → o + run bad_url_unit (w ++ spaced) + 1 ≤ length x = λ _ short.
@@ -385,11 +385,11 @@ opened_keeps v f x n first second fits opens opens' =
           ]
     ]
 
-by_name : (v : List ℕ) → Facts v → (x : List ℕ) → starts_ident (x ++ spaced) ≡ true → starts_ident (x ++ v) ≡ true
+by_name : (v : List ℕ) → Facts v → (x : List ℕ) → Apart x v → starts_ident (x ++ spaced) ≡ true → starts_ident (x ++ v) ≡ true
     → Short (length x) (name_len (x ++ spaced)) (name_len (x ++ v))
     → Keeps (length x) (names_of (x ++ spaced)) (names_of (x ++ v))
-by_name v f x s s' (inr far) = long_keeps (length x) _ _ (name_far_at (x ++ spaced) (length x) s far (longer x))
-by_name v f x s s' (inl same) =
+by_name v f x m s s' (inr far) = long_keeps (length x) _ _ (name_far_at (x ++ spaced) (length x) s far (longer x))
+by_name v f x m s s' (inl same) =
     let t = x ++ spaced in
     let t' = x ++ v in
     let n = name_len t in
@@ -412,20 +412,22 @@ by_name v f x s s' (inl same) =
                   | false ↦ λ closed. same_keeps _ _ _
                       (plain_function t n refl s round closed ∙ sym
                       (plain_function t' n (sym same) s' (sym round_same ∙ round) (sym opens_is ∙ closed)))
-                  | true ↦ λ opens. opened_keeps v f x n refl (sym same) fits opens (sym opens_is ∙ opens)
+                  | true ↦ λ opens. opened_keeps v f x m n refl (sym same) fits opens (sym opens_is ∙ opens)
                 ] refl
           ] refl
     ]
 
-named_keeps : (v : List ℕ) → Facts v → (x : List ℕ) → Keeps (length x) (names_of (x ++ spaced)) (names_of (x ++ v))
-named_keeps v f x =
-    let t = x ++ spaced in
-    let t' = x ++ v in
-    let starts : starts_ident t ≡ starts_ident t' = starts_at v f x in
-    elim (starts_ident t) as (λ b. starts_ident t ≡ b → Keeps (length x) (names_of t) (names_of t')) [
-      | false ↦ λ none. same_keeps _ _ _ (no_start t none ∙ sym (no_start t' (sym starts ∙ none)))
-      | true ↦ λ s. by_name v f x s (sym starts ∙ s) (name_short v f x)
-    ] refl
+named_keeps : (v : List ℕ) → Facts v → (x : List ℕ) → Apart x v → Keeps (length x) (names_of (x ++ spaced)) (names_of (x ++ v))
+named_keeps v f x m = by (starts_at v f x)
+  where
+    by : StartsSame v x → Keeps (length x) (names_of (x ++ spaced)) (names_of (x ++ v))
+    by (inl starts) =
+        elim (starts_ident (x ++ spaced)) as
+        (λ b. starts_ident (x ++ spaced) ≡ b → Keeps (length x) (names_of (x ++ spaced)) (names_of (x ++ v))) [
+          | false ↦ λ none. same_keeps _ _ _ (no_start (x ++ spaced) none ∙ sym (no_start (x ++ v) (sym starts ∙ none)))
+          | true ↦ λ s. by_name v f x m s (sym starts ∙ s) (name_short v f x m)
+        ] refl
+    by (inr far) = long_keeps (length x) _ _ (name_far_at (x ++ spaced) (length x) far.0 far.1 (longer x))
 
 -- the rows in their order, where strings and names stand together
 rows_together : (text : List ℕ)
@@ -448,17 +450,17 @@ rows_together text =
     three None (Some p) d e = refl
     three None None d e = refl
 
-pub space_first : (v : List ℕ) → Facts v → (a : ℕ) (x : List ℕ)
+pub space_first : (v : List ℕ) → Facts v → (a : ℕ) (x : List ℕ) → Apart (a ∷ x) v
     → Keeps (length (a ∷ x)) (first_piece (a ∷ (x ++ spaced))) (first_piece (a ∷ (x ++ v)))
-space_first v f a x =
+space_first v f a x m =
     let n = length (a ∷ x) in
     let all = or_keeps n _ _ _ _ (comment_keeps v f a x)
-    (or_keeps n _ _ _ _ (white_keeps v f a x) (or_keeps n _ _ _ _ (strings_keeps v f a x)
-    (or_keeps n _ _ _ _ (hash_keeps v f a x)
-    (or_keeps n _ _ _ _ (numeric_keeps v f (a ∷ x)) (or_keeps n _ _ _ _ (cdc_keeps v f a x)
-    (or_keeps n _ _ _ _ (named_keeps v f (a ∷ x))
+    (or_keeps n _ _ _ _ (white_keeps v f a x) (or_keeps n _ _ _ _ (strings_keeps v f a x m)
+    (or_keeps n _ _ _ _ (hash_keeps v f a x m)
+    (or_keeps n _ _ _ _ (numeric_keeps v f (a ∷ x) m) (or_keeps n _ _ _ _ (cdc_keeps v f a x)
+    (or_keeps n _ _ _ _ (named_keeps v f (a ∷ x) m)
     (or_keeps n _ _ _ _ (cdo_keeps v f a x)
-    (or_keeps n _ _ _ _ (at_keeps v f a x) (mark_keeps n a (x ++ spaced) (x ++ v)))))))))) in
+    (or_keeps n _ _ _ _ (at_keeps v f a x m) (mark_keeps n a (x ++ spaced) (x ++ v)))))))))) in
     subst (λ (o : Option Piece). Keeps n o (first_piece (a ∷ (x ++ v)))) (sym (rows_together (a ∷ (x ++ spaced))))
     (subst (Keeps n _) (sym (rows_together (a ∷ (x ++ v)))) all)
 
@@ -468,7 +470,11 @@ short_same n a b p keeps_none e fits = cc
 short_same n a b p (keeps_same q) e fits = e
 short_same n a b p (keeps_long q r far) e fits = let same : q ≡ p = cc in absurd (omega (arith, ap (λ (x : Piece). x.len) same, far))
 
+pub piece_kept : (v : List ℕ) → Facts v → (text : List ℕ) (p : Piece) → Apart text v → 0 < p.len → p.len ≤ length text
+    → first_piece (text ++ spaced) ≡ Some p → first_piece (text ++ v) ≡ Some p
+piece_kept v f [] p m some fits e = absurd (omega arith)
+piece_kept v f (a ∷ x) p m some fits e = short_same (length (a ∷ x)) _ _ p (space_first v f a x m) e fits
+
 pub piece_keeps : (v : List ℕ) → IsBehind v → (text : List ℕ) (p : Piece) → 0 < p.len → p.len ≤ length text
     → first_piece (text ++ spaced) ≡ Some p → first_piece (text ++ v) ≡ Some p
-piece_keeps v b [] p some fits e = absurd (omega arith)
-piece_keeps v b (a ∷ x) p some fits e = short_same (length (a ∷ x)) _ _ p (space_first v (facts_behind v b) a x) e fits
+piece_keeps v b text p some fits e = piece_kept v (facts_behind v b) text p (apart_behind v b text) some fits e

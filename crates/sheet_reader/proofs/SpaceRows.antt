@@ -1,5 +1,5 @@
 -- Rows before a space and `}` against rows before a stop or the text's end: a piece that ends before the space is the same.
-use Rattle.std.proofs.Common.{◌≡◌, ◌⊎◌, inl, inr, ℕ, suc, ◌+◌, ◌-◌, ◌<◌, ◌≤◌, ◌==◌, Bool, true, false, cond, ◌&&◌, ◌||◌, not, nat_lt}
+use Rattle.std.proofs.Common.{◌≡◌, ◌⊎◌, inl, inr, ℕ, suc, ◌+◌, ◌<◌, ◌≤◌, ◌==◌, Bool, true, false, cond, ◌&&◌, ◌||◌, not, nat_lt}
 use Rattle.std.proofs.Common.{List, [], ◌∷◌, ◌++◌, length, drop, min, nat_eq, Option, Some, None, refl, ap, sym, ◌∙◌, subst}
 use Rattle.std.proofs.Common.{length-append, arith}
 use Rattle.std.specs.Char.{is_ascii_digit}
@@ -17,8 +17,9 @@ use Rattle.css_tokens.specs.Rows.{comment, white_space, string, bad_string, hash
 use Rattle.css_tokens.specs.Rows.{cdo, at_keyword, mark}
 use Rattle.css_tokens.proofs.Ends.{run_stops}
 use Rattle.sheet_reader.proofs.Behind.{spaced}
-use Rattle.sheet_reader.proofs.SpaceUnits.{Facts, Short, short_add, short_one, begins_at, prefix_at, prefix_in, starts_at, comment_at}
-use Rattle.sheet_reader.proofs.SpaceUnits.{name_at, string_at, run_at}
+use Rattle.sheet_reader.proofs.SpaceUnits.{Facts, Short, short_add, short_one, begins_at, prefix_at, prefix_in, StartsSame, starts_at}
+use Rattle.sheet_reader.proofs.SpaceUnits.{comment_run}
+use Rattle.sheet_reader.proofs.SpaceUnits.{name_at, string_at, run_at, Apart, apart_tail, apart_drop}
 
 -- an answer of a row before the space, and one before what stands behind: both none, the same, or the first is past n codes
 pub data Keeps (n : ℕ) : Option Piece → Option Piece → Type 0 where
@@ -100,15 +101,15 @@ comment_keeps v f a (b ∷ x) =
     let size : 2 + length x ≡ length (a ∷ b ∷ x) = omega arith in
     let near : Short (length (a ∷ b ∷ x)) (2 + run comment_unit (x ++ spaced)) (2 + run comment_unit (x ++ v)) = subst
     (λ (n : ℕ). Short n (2 + run comment_unit (x ++ spaced)) (2 + run comment_unit (x ++ v))) size
-    (short_add 2 (length x) _ _ (run_at comment_unit v (comment_at v f) x)) in
+    (short_add 2 (length x) _ _ (comment_run v x)) in
     short_keeps (length (a ∷ b ∷ x)) (nat_eq 47 a && (nat_eq 42 b && true)) Comment _ _
     (closed_short (length (a ∷ b ∷ x)) 2 _ _ _ _ (longer (a ∷ b ∷ x)) (as_long (a ∷ b ∷ x) v) near
     (λ within. let fits = comment_fits x (omega arith) in omega arith))
 
 -- white space: a run up to the space takes it
-pub white_short : (v x : List ℕ) → begins is_white v ≡ false → Short (length x) (white_run (x ++ spaced)) (white_run (x ++ v))
-white_short v [] e = inr (omega arith)
-white_short v (a ∷ x) e = by (is_white a) (white_short v x e)
+pub white_short : (v x : List ℕ) → Short (length x) (white_run (x ++ spaced)) (white_run (x ++ v))
+white_short v [] = inr (omega arith)
+white_short v (a ∷ x) = by (is_white a) (white_short v x)
   where
     by : (b : Bool) → Short (length x) (white_run (x ++ spaced)) (white_run (x ++ v))
         → Short (length (a ∷ x)) (cond b (1 + white_run (x ++ spaced)) 0) (cond b (1 + white_run (x ++ v)) 0)
@@ -118,7 +119,7 @@ white_short v (a ∷ x) e = by (is_white a) (white_short v x e)
 pub white_keeps : (v : List ℕ) → Facts v → (a : ℕ) (x : List ℕ)
     → Keeps (length (a ∷ x)) (white_space (a ∷ (x ++ spaced))) (white_space (a ∷ (x ++ v)))
 unfolding white_space
-white_keeps v f a x = short_keeps (length (a ∷ x)) (is_white a) WhiteSpace _ _ (white_short v (a ∷ x) f.white)
+white_keeps v f a x = short_keeps (length (a ∷ x)) (is_white a) WhiteSpace _ _ (white_short v (a ∷ x))
 
 -- strings and bad strings, together
 no_space : (quote : ℕ) → is_quote quote ≡ true → (32 == quote) ≡ false
@@ -159,14 +160,18 @@ strings_short n m all all' true true d e fits = keeps_same (piece BadString m)
 strings_short n m all all' true false d e fits = let here = fits refl in same_keeps n _ _
     (ap (λ (k : ℕ). Some (piece Str k)) (omega (arith, here)))
 
-strings_by : (v : List ℕ) → Facts v → (a : ℕ) (x : List ℕ) → is_quote a ≡ true
+begins_some : (p : ℕ → Bool) (v w : List ℕ) → 0 < length w → begins p (w ++ spaced) ≡ begins p (w ++ v)
+begins_some p v [] some = absurd (omega (arith, some))
+begins_some p v (c ∷ w) some = refl
+
+strings_by : (v : List ℕ) → Facts v → (a : ℕ) (x : List ℕ) → Apart (a ∷ x) v → is_quote a ≡ true
     → Keeps (length (a ∷ x)) (string (a ∷ (x ++ spaced)) or bad_string (a ∷ (x ++ spaced)))
     (string (a ∷ (x ++ v)) or bad_string (a ∷ (x ++ v)))
 unfolding string bad_string strings
-strings_by v f a x is_a =
+strings_by v f a x m is_a =
     let r = run (string_unit a) (x ++ spaced) in
     let s = run (string_unit a) (x ++ v) in
-    let near : Short (length x) r s = run_at (string_unit a) v (string_at a v is_a f) x in
+    let near : Short (length x) r s = run_at (string_unit a) v (string_at a v is_a f) x (apart_tail v a x m) in
     let n = length (a ∷ x) in
     let more = longer (a ∷ x) in
     let further = as_long (a ∷ x) v in
@@ -184,7 +189,7 @@ strings_by v f a x is_a =
             let line : begins is_newline (drop (1 + r) (a ∷ (x ++ spaced))) ≡ begins is_newline (drop (1 + s) (a ∷ (x ++ v))) =
             ap (λ (k : ℕ). begins is_newline (drop k (a ∷ (x ++ spaced)))) one ∙ ap (begins is_newline)
             (drop-append-le r x spaced within)
-            ∙ begins_at is_newline v (drop r x) refl f.newline
+            ∙ begins_some is_newline v (drop r x) (let fits = string_fits a x is_a within in omega (arith, fits, length-drop r x))
             ∙ sym (ap (λ (k : ℕ). begins is_newline (drop k (a ∷ (x ++ v)))) two ∙ ap (begins is_newline)
             (drop-append-le r x v within)) in
             let length_same : 1 + r ≡ 1 + s = omega (arith, same) in
@@ -200,46 +205,65 @@ strings_by v f a x is_a =
       ]
     ]
 
-pub strings_keeps : (v : List ℕ) → Facts v → (a : ℕ) (x : List ℕ)
+pub strings_keeps : (v : List ℕ) → Facts v → (a : ℕ) (x : List ℕ) → Apart (a ∷ x) v
     → Keeps (length (a ∷ x)) (string (a ∷ (x ++ spaced)) or bad_string (a ∷ (x ++ spaced)))
     (string (a ∷ (x ++ v)) or bad_string (a ∷ (x ++ v)))
 unfolding string bad_string
-strings_keeps v f a x =
+strings_keeps v f a x m =
     elim (is_quote a) as (λ b. is_quote a ≡ b → Keeps (length (a ∷ x)) (string (a ∷ (x ++ spaced)) or bad_string (a ∷ (x ++ spaced)))
     (string (a ∷ (x ++ v)) or bad_string (a ∷ (x ++ v)))) [
-      | true ↦ λ e. strings_by v f a x e
+      | true ↦ λ e. strings_by v f a x m e
       | false ↦ λ e. rw e keeps_none
     ] refl
 
 -- hashes and at-keywords
-pub name_short : (v : List ℕ) → Facts v → (x : List ℕ) → Short (length x) (name_len (x ++ spaced)) (name_len (x ++ v))
-name_short v f x = run_at name_unit v (name_at v f) x
+pub name_short : (v : List ℕ) → Facts v → (x : List ℕ) → Apart x v → Short (length x) (name_len (x ++ spaced)) (name_len (x ++ v))
+name_short v f x m = run_at name_unit v (name_at v f) x m
 
 positive : (k n : ℕ) → n < k → nat_lt 0 k ≡ true
 positive k n e = grind (arith, nat_tests)
 
-pub hash_keeps : (v : List ℕ) → Facts v → (a : ℕ) (x : List ℕ)
+pub hash_keeps : (v : List ℕ) → Facts v → (a : ℕ) (x : List ℕ) → Apart (a ∷ x) v
     → Keeps (length (a ∷ x)) (hash (a ∷ (x ++ spaced))) (hash (a ∷ (x ++ v)))
 unfolding hash
-hash_keeps v f a x = by (name_len (x ++ spaced)) (name_len (x ++ v)) (starts_ident (x ++ spaced)) (starts_ident (x ++ v)) (a == 35)
-    (name_short v f x) (starts_at v f x)
+hash_keeps v f a x far_from = by (starts_at v f x)
   where
-    by : (m k : ℕ) (s t b : Bool) → Short (length x) m k → s ≡ t
+    long : (m k : ℕ) (s t b : Bool) → length x < m
         → Keeps (length (a ∷ x)) (when (b && nat_lt 0 m) (piece (Hash s) (1 + m))) (when (b && nat_lt 0 k) (piece (Hash t) (1 + k)))
-    by m k s t b (inl same) e = same_keeps _ _ _ (λ i. when (b && nat_lt 0 (same i)) (piece (Hash (e i)) (1 + same i)))
-    by m k s t false (inr far) e = keeps_none
-    by m k s t true (inr far) e = let some = positive m (length x) far in rw some
+    long m k s t false far = keeps_none
+    long m k s t true far = let some = positive m (length x) far in rw some
         (keeps_long (piece (Hash s) (1 + m)) (when (true && nat_lt 0 k) (piece (Hash t) (1 + k))) (omega (arith, far)))
 
-pub at_keeps : (v : List ℕ) → Facts v → (a : ℕ) (x : List ℕ)
+    same : (m k : ℕ) (s t b : Bool) → Short (length x) m k → s ≡ t
+        → Keeps (length (a ∷ x)) (when (b && nat_lt 0 m) (piece (Hash s) (1 + m))) (when (b && nat_lt 0 k) (piece (Hash t) (1 + k)))
+    same m k s t b (inl e) h = same_keeps _ _ _ (λ i. when (b && nat_lt 0 (e i)) (piece (Hash (h i)) (1 + e i)))
+    same m k s t b (inr far) h = long m k s t b far
+
+    by : StartsSame v x → Keeps (length (a ∷ x)) (hash (a ∷ (x ++ spaced))) (hash (a ∷ (x ++ v)))
+    by (inl e) = same (name_len (x ++ spaced)) (name_len (x ++ v)) (starts_ident (x ++ spaced)) (starts_ident (x ++ v)) (a == 35)
+        (name_short v f x (apart_tail v a x far_from)) e
+    by (inr far) = long (name_len (x ++ spaced)) (name_len (x ++ v)) (starts_ident (x ++ spaced)) (starts_ident (x ++ v)) (a == 35) far.1
+
+-- a piece that is past n codes, where the test of the first holds
+long_when : (n : ℕ) (b s t : Bool) (p q : Piece) → s ≡ true → n < p.len → Keeps n (when (b && s) p) (when (b && t) q)
+long_when n false s t p q e far = keeps_none
+long_when n true true t p q e far = keeps_long p (when t q) far
+long_when n true false t p q e far = cc
+
+pub at_keeps : (v : List ℕ) → Facts v → (a : ℕ) (x : List ℕ) → Apart (a ∷ x) v
     → Keeps (length (a ∷ x)) (at_keyword (a ∷ (x ++ spaced))) (at_keyword (a ∷ (x ++ v)))
 unfolding at_keyword
-at_keeps v f a x =
-    let starts : starts_ident (x ++ spaced) ≡ starts_ident (x ++ v) = starts_at v f x in
-    subst (λ (b : Bool). Keeps (length (a ∷ x))
-    (when (a == 64 && starts_ident (x ++ spaced)) (piece AtKeyword (1 + name_len (x ++ spaced))))
-    (when (a == 64 && b) (piece AtKeyword (1 + name_len (x ++ v))))) starts
-    (short_keeps (length (a ∷ x)) (a == 64 && starts_ident (x ++ spaced)) AtKeyword _ _ (short_one (length x) _ _ (name_short v f x)))
+at_keeps v f a x m = by (starts_at v f x)
+  where
+    by : StartsSame v x → Keeps (length (a ∷ x)) (at_keyword (a ∷ (x ++ spaced))) (at_keyword (a ∷ (x ++ v)))
+    by (inl starts) =
+        subst (λ (b : Bool). Keeps (length (a ∷ x))
+        (when (a == 64 && starts_ident (x ++ spaced)) (piece AtKeyword (1 + name_len (x ++ spaced))))
+        (when (a == 64 && b) (piece AtKeyword (1 + name_len (x ++ v))))) starts
+        (short_keeps (length (a ∷ x)) (a == 64 && starts_ident (x ++ spaced)) AtKeyword _ _
+        (short_one (length x) _ _ (name_short v f x (apart_tail v a x m))))
+    by (inr far) = long_when (length (a ∷ x)) (a == 64) (starts_ident (x ++ spaced)) (starts_ident (x ++ v)) _ _ far.0
+        (omega (arith, far.1))
 
 -- numbers
 record NumberAt (v x : List ℕ) (len : List ℕ → ℕ) : Type 0 where
@@ -369,9 +393,20 @@ numbers_keeps size n m m' true starts near = same_keeps size _ _ refl
 numbers_keeps size n m m' false true near = short_keeps size (nat_lt 0 n) Dimension _ _ near
 numbers_keeps size n m m' false false near = same_keeps size _ _ refl
 
-pub numeric_keeps : (v : List ℕ) → Facts v → (x : List ℕ) → Keeps (length x) (numeric (x ++ spaced)) (numeric (x ++ v))
+numbers_far : (size n m m' : ℕ) (percent starts other : Bool) → starts ≡ true → size < n + m
+    → Keeps size (numbers n percent starts m) (numbers n percent other m')
+unfolding numbers
+numbers_far size n m m' true starts other e far = same_keeps size _ _ refl
+numbers_far size n m m' false true other e far = by (nat_lt 0 n)
+  where
+    by : (b : Bool) → Keeps size (when b (piece Dimension (n + m))) (when b (cond other (piece Dimension (n + m')) (piece Number n)))
+    by true = keeps_long (piece Dimension (n + m)) (Some (cond other (piece Dimension (n + m')) (piece Number n))) far
+    by false = keeps_none
+numbers_far size n m m' false false other e far = cc
+
+pub numeric_keeps : (v : List ℕ) → Facts v → (x : List ℕ) → Apart x v → Keeps (length x) (numeric (x ++ spaced)) (numeric (x ++ v))
 unfolding numeric numbers
-numeric_keeps v f x =
+numeric_keeps v f x m =
     let b = number_both v f x in
     let n = number_len (x ++ spaced) in
     let k = number_len (x ++ v) in
@@ -380,22 +415,31 @@ numeric_keeps v f x =
     ≡ drop n x ++ v = ap (λ (j : ℕ). drop j (x ++ v)) (sym b.same) ∙ drop-append-le n x v b.within in
     let size : n + length (drop n x) ≡ length x = omega (arith, length-drop n x, b.within) in
     let near = subst (λ (j : ℕ). Short j (n + name_len (drop n x ++ spaced)) (n + name_len (drop n x ++ v))) size
-    (short_add n (length (drop n x)) _ _ (name_short v f (drop n x))) in
-    let here = numbers_keeps (length x) n (name_len (drop n x ++ spaced)) (name_len (drop n x ++ v))
-    (begins (λ c. c == 37) (drop n x ++ spaced)) (starts_ident (drop n x ++ spaced)) near in
+    (short_add n (length (drop n x)) _ _ (name_short v f (drop n x) (apart_drop v n x m))) in
     let left : numeric (x ++ spaced)
     ≡ numbers n (begins (λ c. c == 37) (drop n x ++ spaced)) (starts_ident (drop n x ++ spaced)) (name_len (drop n x ++ spaced)) =
     ap (λ (t : List ℕ). numbers n (begins (λ c. c == 37) t) (starts_ident t) (name_len t)) one in
     let right : numeric (x ++ v)
-    ≡ numbers n (begins (λ c. c == 37) (drop n x ++ spaced)) (starts_ident (drop n x ++ spaced))
+    ≡ numbers n (begins (λ c. c == 37) (drop n x ++ spaced)) (starts_ident (drop n x ++ v))
     (name_len (drop n x ++ v)) =
     ap (λ (t : List ℕ). numbers k (begins (λ c. c == 37) t) (starts_ident t) (name_len t)) two
     ∙ ap (λ (j : ℕ). numbers j (begins (λ c. c == 37) (drop n x ++ v)) (starts_ident (drop n x ++ v))
     (name_len (drop n x ++ v))) (sym b.same)
     ∙ ap (λ (t : Bool). numbers n t (starts_ident (drop n x ++ v)) (name_len (drop n x ++ v)))
-    (sym (begins_at (λ c. c == 37) v (drop n x) refl f.percent))
-    ∙ ap (λ (t : Bool). numbers n (begins (λ c. c == 37) (drop n x ++ spaced)) t (name_len (drop n x ++ v)))
-    (sym (starts_at v f (drop n x))) in
+    (sym (begins_at (λ c. c == 37) v (drop n x) refl f.percent)) in
+    let here : Keeps (length x)
+    (numbers n (begins (λ c. c == 37) (drop n x ++ spaced)) (starts_ident (drop n x ++ spaced)) (name_len (drop n x ++ spaced)))
+    (numbers n (begins (λ c. c == 37) (drop n x ++ spaced)) (starts_ident (drop n x ++ v)) (name_len (drop n x ++ v))) =
+    elim (starts_at v f (drop n x)) [
+      | inl e ↦ subst (λ (t : Bool). Keeps (length x)
+          (numbers n (begins (λ c. c == 37) (drop n x ++ spaced)) (starts_ident (drop n x ++ spaced)) (name_len (drop n x ++ spaced)))
+          (numbers n (begins (λ c. c == 37) (drop n x ++ spaced)) t (name_len (drop n x ++ v)))) e
+          (numbers_keeps (length x) n (name_len (drop n x ++ spaced)) (name_len (drop n x ++ v))
+          (begins (λ c. c == 37) (drop n x ++ spaced)) (starts_ident (drop n x ++ spaced)) near)
+      | inr far ↦ numbers_far (length x) n (name_len (drop n x ++ spaced)) (name_len (drop n x ++ v))
+          (begins (λ c. c == 37) (drop n x ++ spaced)) (starts_ident (drop n x ++ spaced)) (starts_ident (drop n x ++ v)) far.0
+          (omega (arith, far.1, size))
+    ] in
     subst (λ (o : Option Piece). Keeps (length x) o (numeric (x ++ v))) (sym left)
     (subst (λ (o : Option Piece). Keeps (length x)
     (numbers n (begins (λ c. c == 37) (drop n x ++ spaced)) (starts_ident (drop n x ++ spaced))

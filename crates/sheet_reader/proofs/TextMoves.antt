@@ -1,9 +1,9 @@
 -- The pieces of a text behind another front, and what stands in both texts.
-use Rattle.std.proofs.Common.{◌≡◌, ◌⊎◌, inl, inr, ℕ, zero, suc, ◌+◌, ◌-◌, ◌<◌, ◌≤◌, Bool, true, false, List, [], ◌∷◌, ◌++◌, map, take, drop}
-use Rattle.std.proofs.Common.{length, Option, Some, None, refl, ap, sym, ◌∙◌, subst, append_assoc, length-append, arith}
-use Rattle.std.specs.Prelude.{slice_get, slice_index}
-use Rattle.std.proofs.lemmas.List.{drop-append-le, take-append-le, length-drop, drop-drop, append-nil}
-use Rattle.std.proofs.Math.Seq.{drop-append_seam, take-append_seam}
+use Rattle.std.proofs.Common.{◌≡◌, ℕ, zero, suc, ◌+◌, ◌-◌, ◌<◌, ◌≤◌, List, [], ◌∷◌, ◌++◌, map, take, drop}
+use Rattle.std.proofs.Common.{length, Option, Some, None, refl, ap, sym, ◌∙◌, length-append, arith}
+use Rattle.std.specs.Prelude.{slice_index}
+use Rattle.std.proofs.lemmas.List.{drop-append-le, take-append-le, length-drop, drop-drop}
+use Rattle.std.proofs.Math.Seq.{drop-append_seam}
 use Rattle.css_tokens.specs.declared.token.Token.{Token}
 use Rattle.css_tokens.specs.Rows.{first_piece}
 use Rattle.css_tokens.specs.Pieces.{pieces, pieces_after, piece_then}
@@ -14,7 +14,7 @@ use Rattle.selectors.specs.Words.{between}
 use Rattle.sheet_reader.proofs.Behind.{Piece}
 use Rattle.sheet_reader.proofs.Raised.{raised}
 use Rattle.sheet_reader.proofs.WordMoves.{SamePart}
-use Rattle.sheet_reader.proofs.ReadMoves.{InToken, AllTokens}
+use Rattle.sheet_reader.proofs.ReadMoves.{AllTokens}
 
 -- ---- pieces further back
 pub pieces_moved : (d place skip : ℕ) (text : List ℕ) → pieces_after (d + place) skip text

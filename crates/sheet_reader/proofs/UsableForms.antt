@@ -293,7 +293,7 @@ part_some level _ rest (passed_part t e) = omega arith
 part_some level _ rest (at_rule_part keyword prelude ending e rule) = omega arith
 part_some level _ rest (qualified_part prelude ending first rule) = begins_some level (prelude ++ ending_pieces ending) first
 
-tiles_some : (text : List ℕ) (from end : ℕ) (ts : List Token) → 0 < length ts → AreTiles text from end ts → from < end
+pub tiles_some : (text : List ℕ) (from end : ℕ) (ts : List Token) → 0 < length ts → AreTiles text from end ts → from < end
 tiles_some text from end [] some all = absurd (omega (arith, some))
 tiles_some text from end (t ∷ ts) some all = let more = tiles_order text t.end end ts all.2 in omega (arith, all.0, all.1.0, more)
 
@@ -446,10 +446,10 @@ places_say text from level (p ∷ ps) ts is edge all =
     (λ n e. part_ends text from cut.seam p n cut.left e) (places_say text cut.seam level ps is.0 is.3 edge_behind cut.right)
 
 -- what some parts say, between two places
-record Says (text : List ℕ) (from to : ℕ) (rules : List RuleForm) (media : List MediaRule) : Type 0 where
-  ranges : AreBetween text from to (map rule_range rules)
-  each : All (IsRuleOf text) rules
-  preludes : AreBetween text from to (map (λ m. m.prelude) media)
+pub record Says (text : List ℕ) (from to : ℕ) (rules : List RuleForm) (media : List MediaRule) : Type 0 where
+  pub ranges : AreBetween text from to (map rule_range rules)
+  pub each : All (IsRuleOf text) rules
+  pub preludes : AreBetween text from to (map (λ m. m.prelude) media)
 
 says_append : (text : List ℕ) (from stop seam to : ℕ) (rs more : List RuleForm) (ms others : List MediaRule) → stop ≤ seam
     → Says text from stop rs ms → Says text seam to more others → Says text from to (rs ++ more) (ms ++ others)
@@ -510,7 +510,7 @@ part_which text end p ps (inr last) = (inr last, inr last)
 inner_which : (inner ps : List PartForm) (stop size : ℕ) → inner ≡ ps → AreShut ps ⊎ (stop ≡ size) → AreShut inner ⊎ (stop ≡ size)
 inner_which inner ps stop size same which = subst (λ (xs : List PartForm). AreShut xs ⊎ (stop ≡ size)) (sym same) which
 
-laid_say : (text : List ℕ) (around : Option ℕ) (k : ℕ) (ps : List PartForm) (ls : List Laid) → AreLaid text around k ps ls
+pub laid_say : (text : List ℕ) (around : Option ℕ) (k : ℕ) (ps : List PartForm) (ls : List Laid) → AreLaid text around k ps ls
     → (level : Level) (ts : List Token) (from to : ℕ) → AreParts level ps ts → IsCharBoundary text from → AreTiles text from to ts
     → AreShut ps ⊎ (to ≡ length text) → Says text from to (rules_in text ls) (media_in text ls)
 unfolding rules_in media_in
@@ -539,7 +539,8 @@ laid_say text around k _ _ (media_laid p m inner ps within ls e is_inner own oth
     let cut = tiles_cut text from to (part_pieces p) is.0 (subst (AreTiles text from to) is.1 all) in
     let edge_behind = tiles_edge text from cut.seam (part_pieces p) edge cut.left in
     let w = part_which text to p ps which in
-    let more = laid_say text around (suc k + length (media_in text within)) ps ls others level is.0 cut.seam to is.3 edge_behind cut.right w.1 in
+    let more =
+    laid_say text around (suc k + length (media_in text within)) ps ls others level is.0 cut.seam to is.3 edge_behind cut.right w.1 in
     let open_end = part_open text cut.seam to level p is.0 is.2 cut.right w.0 in
     let span = media_span text from cut.seam level p m is.0 (media_is text p m e) cut.left open_end is.2 in
     let inside = laid_say text (Some k) (suc k) inner within own Inner m.inside span.start span.stop is_inner span.edge span.tiles

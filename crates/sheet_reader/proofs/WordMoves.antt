@@ -1,27 +1,26 @@
 -- Words that stand further back in another text, with the same codes up to a place: selectors are read from them as before.
-use Rattle.std.proofs.Common.{◌≡◌, ◌⊎◌, inl, inr, ℕ, zero, suc, ◌+◌, ◌-◌, ◌<◌, ◌≤◌, ◌==◌, Bool, true, false, cond, ◌&&◌, ◌||◌, nat_lt, List}
-use Rattle.std.proofs.Common.{[], ◌∷◌, ◌++◌, map, take, drop}
-use Rattle.std.proofs.Common.{length, Option, Some, None, refl, ap, sym, ◌∙◌, subst, append_assoc, length-append, arith, nat_eq}
+use Rattle.std.proofs.Common.{◌≡◌, ℕ, zero, suc, ◌+◌, ◌-◌, ◌<◌, ◌≤◌, ◌==◌, Bool, true, false, cond, ◌&&◌, nat_lt, List}
+use Rattle.std.proofs.Common.{[], ◌∷◌, ◌++◌, map}
+use Rattle.std.proofs.Common.{length, Option, Some, None, refl, ap, sym, ◌∙◌, subst, arith}
 use Rattle.std.specs.Prelude.{ℤ, slice_get, slice_index, option_map, codes}
 use Rattle.std.specs.Char.{to_ascii_lowercase}
-use Rattle.std.specs.Str.{bytes_eq}
 use Rattle.std.proofs.lemmas.Bool.Decides.{nat_tests}
 use Rattle.css_tokens.specs.Escapes.{unescaped}
 use Rattle.css_tokens.specs.declared.token.Range.{Range}
 use Rattle.selectors.specs.declared.words.Word.{Word}
 use Rattle.selectors.specs.declared.words.WordKind.{WordKind}
-use Rattle.selectors.specs.declared.words.WordKind.TheVariants.{Ident, Function, Str, Id, Mark}
-use Rattle.selectors.specs.Words.{WordReading, word_reading, first_word_of, next_word, head, is_mark, between}
-use Rattle.selectors.specs.Forms.{TestForm, any, tag, id, class, attr, nth, never, SimpleForm, is, is_not, CompoundForm, SelectorForm}
+use Rattle.selectors.specs.declared.words.WordKind.TheVariants.{Ident, Function, Id, Mark}
+use Rattle.selectors.specs.Words.{WordReading, word_reading, is_mark, between}
+use Rattle.selectors.specs.Forms.{TestForm, any, tag, id, class, nth, never, is, is_not, SelectorForm}
 use Rattle.selectors.specs.Forms.{◌>>=◌}
 use Rattle.selectors.specs.Nth.{nth_of}
 use Rattle.selectors.specs.Parts.{with_front, many_in, many}
 use Rattle.selectors.specs.Forms as reading
 use Rattle.selectors.specs.Reading.{word_value, hash_value, string_end, string_of, lower_of, function_of, first_is, is_tight, take_mark}
 use Rattle.selectors.specs.Reading.{ident_value, with_rest}
-use Rattle.selectors.specs.Reading.{ident_at, tight_ident_at, operator_of, equals_at, operator_from, operator_at, operand_by, operand_at}
+use Rattle.selectors.specs.Reading.{ident_at, tight_ident_at, operator_of, equals_at, operator_at, operand_by, operand_at}
 use Rattle.selectors.specs.Reading.{exists_at, compare_at}
-use Rattle.selectors.specs.Reading.{attribute_after, attribute_at, is_named, pseudo_class, is_pseudo_element, nth_kind, closing, closing_at}
+use Rattle.selectors.specs.Reading.{attribute_at, is_named, pseudo_class, is_pseudo_element, nth_kind, closing}
 use Rattle.selectors.specs.Reading.{nth_at}
 use Rattle.selectors.specs.Reading.{tight_mark_at, lang_at, function_at, class_at, plain_by, plain_from, named_at, called_at, pseudo_by}
 use Rattle.selectors.specs.Reading.{pseudo_at}
@@ -29,7 +28,7 @@ use Rattle.selectors.specs.Reading.{argument_by, argument_from, argument_at, not
 use Rattle.selectors.specs.Reading.{colon_called}
 use Rattle.selectors.specs.Reading.{colon_by, colon_at, item_from, compound_item_at, first_by, first_from, first_part_at, combinator_of}
 use Rattle.selectors.specs.Reading.{ends_compound}
-use Rattle.selectors.specs.Reading.{tests_at, Joined, compound_of, compound_at, joint_of, joint_at, joined_at, is_over, ends_selector}
+use Rattle.selectors.specs.Reading.{tests_at, Joined, compound_of, compound_at, joint_of, joint_at, joined_at, ends_selector}
 use Rattle.selectors.specs.Reading.{compounds_at}
 use Rattle.selectors.specs.Reading.{range_by, range_of, selector_form, joined_of, selector_of, put_first, segments, selector_before}
 use Rattle.selectors.specs.Reading.{selectors_in, selector_list_of}

@@ -18,3 +18,6 @@ pub mod Moves
 pub mod Repairs
 pub mod Rereads
 pub mod Joins
+pub mod SelectorLists
+pub mod Solids
+pub mod Preludes

@@ -2,7 +2,7 @@
 use Rattle.std.specs.Prelude.{ℕ, zero, suc, ◌+◌, ◌<◌, ◌≤◌, All, List, [], ◌∷◌, ◌++◌, map, take, drop, slice_get, Option, Some, None}
 use Rattle.node_tree.specs.Numbers.{number_limit}
 use Rattle.css_tokens.specs.declared.token.Range.{Range}
-use Rattle.selectors.specs.Moves.{Cut, cut, moved_place, placed_range, placed_selector, CanPlace, CanPlaceRange}
+use Rattle.selectors.specs.Moves.{Cut, moved_place, placed_range, placed_selector, CanPlace, CanPlaceRange}
 use Rattle.sheet_reader.specs.declared.sheet.Property.{Property}
 use Rattle.sheet_reader.specs.declared.sheet.MediaRule.{MediaRule}
 use Rattle.sheet_reader.specs.declared.sheet.Sheet.{Sheet}

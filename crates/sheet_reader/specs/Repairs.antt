@@ -1,6 +1,6 @@
 -- What a reading becomes where a part of the sheet, between rules at top level, is read anew.
-use Rattle.std.specs.Prelude.{◌≡◌, ◌⊎◌, ℕ, ◌+◌, ◌-◌, ◌<◌, ◌≤◌, nat_le, Bool, true, ◌&&◌, All, List, [], ◌∷◌, ◌++◌}
-use Rattle.std.specs.Prelude.{map, take, drop, length, slice_get, Option, Some, None, vec_capacity}
+use Rattle.std.specs.Prelude.{◌≡◌, ◌⊎◌, ℕ, ◌+◌, ◌-◌, ◌<◌, ◌≤◌, nat_le, Bool, true, ◌&&◌, All, List, [], ◌++◌}
+use Rattle.std.specs.Prelude.{map, take, drop, length, slice_get, Some, None, vec_capacity}
 use Rattle.std.specs.List.{prefix_len}
 use Rattle.css_tokens.specs.declared.token.Range.{Range}
 use Rattle.selectors.specs.Moves.{Cut, cut, moved_place, CanPlace}

@@ -1,6 +1,7 @@
 //! Laws of the definitions: sheets and bodies in the words of their grammar.
 
-ghost use Rattle.std.specs.Prelude.{◌≡◌, ◌<◌, ◌≤◌, ◌+◌, ◌++◌, ◌∷◌, [], ℕ, Bool, true, List, length, take, slice_get, Option, Some, None};
+ghost use Rattle.std.specs.Prelude.{◌≡◌, ◌<◌, ◌≤◌, ◌+◌, ◌++◌, ◌∷◌, [], ℕ, Bool, true, false, List, length, take, slice_get, Option, Some};
+ghost use Rattle.std.specs.Prelude.{None};
 ghost use Rattle.node_tree.specs.Numbers.{number_limit};
 ghost use Rattle.css_tokens.specs.declared.token.Token.{Token};
 ghost use Rattle.sheet_reader.specs.declared.parts.Level.{Level};
@@ -19,7 +20,10 @@ ghost use Rattle.std.specs.Char.{encode_utf8};
 ghost use Rattle.std.specs.List.{sum_by};
 ghost use Rattle.std.specs.Str.{IsUtf8, IsCharBoundary};
 ghost use Rattle.sheet_reader.specs.Sheets.{sheet_of};
-ghost use Rattle.sheet_reader.specs.Forms.{RuleForm};
+ghost use Rattle.sheet_reader.specs.Forms.{range, RuleForm};
+ghost use Rattle.sheet_reader.specs.Preludes.{ends_return, HasPreludeIn};
+ghost use Rattle.selectors.specs.Forms.{SelectorForm};
+ghost use Rattle.selectors.specs.Reading.{selectors_of};
 ghost use Rattle.sheet_reader.specs.Sealing.{is_sealed};
 ghost use Rattle.sheet_reader.specs.Moves.{moved_sheet, replaced, CanMoveBody};
 ghost use Rattle.sheet_reader.specs.Around.{AreThere, AreBelow, IsBelow, AllHold, held, held_at};
@@ -95,4 +99,13 @@ pub fn joined_law()
         → r.body.end < length text → is_shut_text (take (r.body.end + 1) text) ≡ true }
     ensures rules { (text : List ℕ) (k : ℕ) (r : RuleForm) → slice_get (sheet_of text).rules k ≡ Some r → r.media ≡ None
         → r.body.end < length text → length (sheet_of (take (r.body.end + 1) text)).rules ≡ k + 1 }
+{}
+
+/// Where the prelude of a style rule is replaced by a sealed text that is a selector list, there is a rule with the new prelude: the
+/// first one whose body does not start before the new text, and its prelude starts in that text. So it is inside media rules too. (Of a
+/// text that ends in a CR this is not said: with an LF behind it the two are one newline.)
+pub fn prelude_law()
+    ensures { (text put : List ℕ) (k : ℕ) (r : RuleForm) (ss : List SelectorForm) → slice_get (sheet_of text).rules k ≡ Some r
+        → is_sealed put ≡ true → selectors_of put ≡ Some ss → ends_return put ≡ false → IsUtf8 (replaced text r.prelude put)
+        → HasPreludeIn (range r.prelude.start (r.prelude.start + length put)) (sheet_of (replaced text r.prelude put)).rules }
 {}

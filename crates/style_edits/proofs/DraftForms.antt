@@ -66,7 +66,8 @@ put_done s book next e text d back found same drafted changed back_is =
     λ i. record { sheet = id i; start = s.start; end = s.end; text = same i } in
     let done : edited book (Ok s) ≡ Ok (next, back) =
     ap (λ (x : Splice). edited book (Ok x)) (sym one)
-    ∙ draft_done book next e (Ok (splice_at e (range s.start s.end) text)) d back (entry_again s.sheet book e found) drafted changed back_is in
+    ∙ draft_done book next e (Ok (splice_at e (range s.start s.end) text))
+    d back (entry_again s.sheet book e found) drafted changed back_is in
     let both : ◌≡◌ {A = List SheetEntry × Splice} (after_splice s book, back_splice s book) (next, back) = cc in
     (sym (ap (λ (p : List SheetEntry × Splice). p.0) both), sym (ap (λ (p : List SheetEntry × Splice). p.1) both))
 

@@ -30,6 +30,7 @@ use Rattle.sheet_reader.proofs.ReadMoves.{AllTokens, rules_same}
 use Rattle.sheet_reader.proofs.TextMoves.{pieces_from, same_part}
 use Rattle.sheet_reader.proofs.LaidMoves.{laid_in, laid_again, flat_raised, flat_again, any_moved}
 use Rattle.sheet_reader.proofs.JoinedLaw.{all_there, whole_alone}
+use Rattle.sheet_reader.proofs.PassedTexts.{white_piece, all_both}
 
 -- ---- rules that stand further back
 
@@ -175,37 +176,6 @@ passed_front front other kind found over =
 
 -- ---- white space
 
-no_comment : (c : ℕ) (text : List ℕ) → is_white c ≡ true → comment (c ∷ text) ≡ None
-no_comment c text white = by (comment (c ∷ text)) refl
-  where
-    by : (o : _) → comment (c ∷ text) ≡ o → comment (c ∷ text) ≡ None
-    by None e = e
-    by (Some p) e =
-        let k = comment_row_law.form (c ∷ text) p e in
-        let same : c ∷ text ≡ 47 ∷ (42 ∷ ((k.form.body ++ k.form.close) ++ k.rest)) = k.is ∙ ap (λ (x : List ℕ). x ++ k.rest) k.form.is in
-        let slash : c ≡ 47 = cc in
-        let not_white : is_white 47 ≡ true = ap is_white (sym slash) ∙ white in
-        absurd (cc)
-
--- a run of white space is one piece
-white_piece : (front other : List ℕ) → list_all is_white front ≡ true → 0 < length front → begins is_white other ≡ false
-    → first_piece (front ++ other) ≡ Some (piece WhiteSpace (length front))
-unfolding first_piece
-white_piece [] other all some stops = absurd (omega arith)
-white_piece (c ∷ front) other all some stops =
-    let first = begins_all is_white (c ∷ front) other some all in
-    let own = white_row_law.only WhiteSpace (c ∷ front) other (record { named = refl; some = some; run = (all, stops) }) in
-    rw (no_comment c (front ++ other) first, own) refl
-
-all_both : (xs ys : List ℕ) → list_all is_white xs ≡ true → list_all is_white ys ≡ true → list_all is_white (xs ++ ys) ≡ true
-all_both [] ys a b = b
-all_both (x ∷ xs) ys a b = by (is_white x) a (λ h. all_both xs ys h b)
-  where
-    by : (t : Bool) → (t && list_all is_white xs) ≡ true → (list_all is_white xs ≡ true → list_all is_white (xs ++ ys) ≡ true)
-        → (t && list_all is_white (xs ++ ys)) ≡ true
-    by true h rest = rest h
-    by false h rest = cc
-
 -- white space has no rules, whatever stands behind it
 pub white_front : (front other : List ℕ) → list_all is_white front ≡ true → 0 < length front → IsPassedFront front other
 white_front front other all some =
@@ -224,72 +194,3 @@ white_front front other all some =
         (moved_less (length front) (length (c ∷ w)) (length both) (sheet_of rest).rules (sheet_of ((c ∷ w) ++ rest)).rules
         (sheet_of (front ++ ((c ∷ w) ++ rest))).rules sum own
         (subst (λ (t : List ℕ). AreMoved (length both) (sheet_of rest).rules (sheet_of t).rules) (append_assoc front (c ∷ w) rest) whole))
-
--- ---- comments
-
--- what is in a comment is in it before any text that begins with `*/`
-units_before : (body rest other : List ℕ) → Units CommentUnit body (42 ∷ 47 ∷ rest) → Units CommentUnit body (42 ∷ 47 ∷ other)
-units_before body rest other no_units = no_units
-units_before body rest other (unit_and {first = first} {others = others} is unit more) =
-    unit_and is (one first others unit) (units_before others rest other more)
-  where
-    one : (first others : List ℕ) → CommentUnit first (others ++ 42 ∷ 47 ∷ rest) → CommentUnit first (others ++ 42 ∷ 47 ∷ other)
-    one _ [] (comment_code apart) = comment_code apart
-    one _ (d ∷ others) (comment_code apart) = comment_code apart
-
--- the codes of a comment up to its end hold no `*/`
-no_mark : (body front rest : List ℕ) → Units CommentUnit body rest → body ≡ front ++ 42 ∷ 47 ∷ [] → ⊥
-no_mark body [] rest no_units e = absurd (cc)
-no_mark body (c ∷ front) rest no_units e = absurd (cc)
-no_mark body front rest (unit_and {others = others} is (comment_code {c = c} apart) more) e =
-    by front (sym is ∙ e) (λ xs h. no_mark others xs rest more h)
-  where
-    by : (front : List ℕ) → c ∷ others ≡ front ++ 42 ∷ 47 ∷ [] → ((xs : List ℕ) → others ≡ xs ++ 42 ∷ 47 ∷ [] → ⊥) → ⊥
-    by [] same again =
-        let star : c ≡ 42 = cc in
-        let slash : others ≡ 47 ∷ [] = cc in
-        let wrong : (42 == 42 && begins (λ d. d == 47) ((47 ∷ []) ++ rest)) ≡ false =
-        (λ i. sym star i == 42 && begins (λ d. d == 47) (sym slash i ++ rest)) ∙ apart in
-        absurd (cc)
-    by (x ∷ front) same again = again front (cc)
-
--- what begins with `/*` has the piece that the first row gives
-is_first : (inside other front : List ℕ) → front ≡ 47 ∷ 42 ∷ inside → comment (front ++ other) ≡ Some (piece Comment (length front))
-    → first_piece (front ++ other) ≡ Some (piece Comment (length front))
-unfolding first_piece
-is_first inside other front e row = rw row refl
-
-inside : {xs ys : List ℕ} → ◌≡◌ {A = List ℕ} (47 ∷ 42 ∷ xs) (47 ∷ 42 ∷ ys) → xs ≡ ys
-inside e = cc
-
-cut_off : (xs ys end : List ℕ) → xs ++ end ≡ ys ++ end → xs ≡ ys
-cut_off xs ys end e =
-    let size : length xs ≡ length ys = omega (arith, ap length e, length-append xs end, length-append ys end) in
-    sym (take-append_seam xs end) ∙ (λ i. take (size i) (e i)) ∙ take-append_seam ys end
-
--- what is in such a comment
-comment_units : (k : TokenKind) (front rest inner : List ℕ) → CommentForm k front rest → front ≡ 47 ∷ 42 ∷ (inner ++ 42 ∷ 47 ∷ [])
-    → Units CommentUnit inner (42 ∷ 47 ∷ rest)
-comment_units k front rest inner f is = by f.body f.close (inside (sym f.is ∙ is)) f.units f.closed
-  where
-    by : (body close : List ℕ) → body ++ close ≡ inner ++ 42 ∷ 47 ∷ [] → Units CommentUnit body (close ++ rest)
-        → ClosesWith (42 ∷ 47 ∷ []) close rest → Units CommentUnit inner (42 ∷ 47 ∷ rest)
-    by body close held units (inl closed) =
-        subst (λ (x : List ℕ). Units CommentUnit x (42 ∷ 47 ∷ rest))
-        (cut_off body inner (42 ∷ 47 ∷ []) (ap (λ (x : List ℕ). body ++ x) (sym closed) ∙ held))
-        (subst (λ (x : List ℕ). Units CommentUnit body (x ++ rest)) closed units)
-    by body close held units (inr none) =
-        absurd (no_mark body inner (close ++ rest) units (sym (append-nil body) ∙ ap (λ (x : List ℕ). body ++ x) (sym none.0) ∙ held))
-
--- a comment with its `*/` is one piece, whatever stands behind it
-pub comment_piece : (k : TokenKind) (front rest other inner : List ℕ) → CommentForm k front rest
-    → front ≡ 47 ∷ 42 ∷ (inner ++ 42 ∷ 47 ∷ []) → first_piece (front ++ other) ≡ Some (piece Comment (length front))
-comment_piece k front rest other inner f is =
-    is_first (inner ++ 42 ∷ 47 ∷ []) other front is (comment_row_law.only Comment front other (record {
-      named = refl;
-      body = inner;
-      close = 42 ∷ 47 ∷ [];
-      is = is;
-      units = units_before inner rest other (comment_units k front rest inner f is);
-      closed = inl refl;
-    }))

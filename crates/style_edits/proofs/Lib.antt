@@ -15,3 +15,4 @@ pub mod PlaceFronts
 pub mod AddedRules
 pub mod Fronts
 pub mod PassedPieces
+pub mod NewPreludes

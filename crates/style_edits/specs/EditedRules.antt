@@ -5,6 +5,7 @@ use Rattle.std.specs.List.{prefix_len}
 use Rattle.sheet_reader.specs.declared.book.SheetEntry.{SheetEntry}
 use Rattle.css_tokens.specs.declared.token.Range.{Range}
 use Rattle.sheet_reader.specs.Forms.{range, RuleForm}
+use Rattle.sheet_reader.specs.Preludes.{BeginsIn}
 use Rattle.sheet_reader.specs.Sheets.{sheet_of}
 use Rattle.sheet_reader.specs.Books.{IsStored, entry_of}
 use Rattle.sheet_reader.specs.Rereads.{HasBody}
@@ -70,6 +71,10 @@ pub record StandsIn (part : Range) (r : RuleForm) : Type 0 where
 -- there is a style rule, and it stands in the splice's text
 abbrev pub MakesRule : List SheetEntry → Splice → Type 0
 MakesRule book s = IsSomeAnd (made_rule book s) (StandsIn (new_range s))
+
+-- there is a style rule, and its prelude starts in the splice's text
+abbrev pub MakesPrelude : List SheetEntry → Splice → Type 0
+MakesPrelude book s = IsSomeAnd (made_rule book s) (BeginsIn (new_range s))
 
 -- so for each splice that an edit comes to in a book
 abbrev pub EachMakes : (List SheetEntry → Splice → Type 0) → (List SheetEntry → Found) → Type 0

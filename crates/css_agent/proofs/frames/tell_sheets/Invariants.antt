@@ -1,6 +1,7 @@
 -- What is sent and the sheets that are left make up the whole.
 use Rattle.std.proofs.Common.{◌≡◌, ◌++◌, map, drop}
-use Rattle.css_agent.specs.Told.{added_message, message_frames}
+use Rattle.css_agent.specs.Told.{added_message}
+use Rattle.cdp_messages.specs.Replies.{message_frames}
 use Rattle.css_agent.proofs.frames.tell_sheets.Given as goal
 
 abbrev pub invariant-loop-i : goal.invariant-loop-i

@@ -1,4 +1,4 @@
-use Rattle.sheet_laws.proofs.Cutting.{cuts_only, pieces_stand, characters}
+use Rattle.sheet_reader.proofs.Cutting.{cuts_only, pieces_stand, characters}
 use Rattle.sheet_laws.proofs.laws.cut_law.Goals as goal
 
 pub returns : goal.returns

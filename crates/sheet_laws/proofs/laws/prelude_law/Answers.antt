@@ -1,4 +1,4 @@
-use Rattle.sheet_laws.proofs.ListCuts.{prelude_reads, prelude_spells, whole_spells, whole_reads}
+use Rattle.sheet_reader.proofs.ListCuts.{prelude_reads, prelude_spells, whole_spells, whole_reads}
 use Rattle.sheet_laws.proofs.RuleCuts.{rules_have_preludes, rule_dropped}
 use Rattle.sheet_laws.proofs.laws.prelude_law.Goals as goal
 

@@ -12,12 +12,14 @@ apply-requires c = record {
 
 pub returns-clause-done : goal.returns-clause-done
 returns-clause-done c =
-    let own = put_done c.args.splice c.args.book.now c.apply.new.book c.in-Some.entry.now c.as_str.result.now c.in_ok-draft.draft c.apply.result
+    let own = put_done c.args.splice c.args.book.now c.apply.new.book c.in-Some.entry.now
+    c.as_str.result.now c.in_ok-draft.draft c.apply.result
     (sym c.in-Some.ensures.found) c.as_str.ensures c.in_ok-draft.ensures.drafts c.apply.ensures.changed c.apply.ensures.back in
     own.0
 
 pub returns-clause-back : goal.returns-clause-back
 returns-clause-back c =
-    let own = put_done c.args.splice c.args.book.now c.apply.new.book c.in-Some.entry.now c.as_str.result.now c.in_ok-draft.draft c.apply.result
+    let own = put_done c.args.splice c.args.book.now c.apply.new.book c.in-Some.entry.now
+    c.as_str.result.now c.in_ok-draft.draft c.apply.result
     (sym c.in-Some.ensures.found) c.as_str.ensures c.in_ok-draft.ensures.drafts c.apply.ensures.changed c.apply.ensures.back in
     own.1

@@ -1,7 +1,8 @@
 use Rattle.std.proofs.Common.{[], ◌∷◌, ◌++◌, List, map, ap, ◌∙◌}
 use Rattle.style_edits.specs.declared.splice.Splice.{Splice}
 use Rattle.client_views.specs.Moves.{replied, frames_of_moves}
-use Rattle.css_agent.specs.Told.{changed_message, message_frames}
+use Rattle.css_agent.specs.Told.{changed_message}
+use Rattle.cdp_messages.specs.Replies.{message_frames}
 use Rattle.css_agent.specs.Edits.{css_done}
 use Rattle.css_agent.proofs.EditLemmas.{edit_told}
 use Rattle.css_agent.proofs.agent.CssAgent.edit.Goals as goal

@@ -8,8 +8,10 @@ pub invariant_of-self-2 : goal.invariant_of-self-2
 invariant_of-self-2 c =
     let e : groups_in c.push.new.self.items
     ≡ c.args.group.items ∷ groups_in c.self.inside.groups.items = ap groups_in c.in_ok-push.ensures.items ∙ groups_in-push
-    c.self.inside.groups.items c.args.group in
-    (omega (arith, ap entry_count e, c.args.group.ok, c.len.ensures, c.self.invariant.0), omega (arith, c.args.group.ok, c.len.ensures, c.requires, ap entry_count c.self.view_is, c.self.invariant.0))
+    c.self.inside.groups.items c.args.group in (
+      omega (arith, ap entry_count e, c.args.group.ok, c.len.ensures, c.self.invariant.0),
+      omega (arith, c.args.group.ok, c.len.ensures, c.requires, ap entry_count c.self.view_is, c.self.invariant.0),
+    )
 
 pub returns-clause-ok : goal.returns-clause-ok
 returns-clause-ok c = ap groups_in c.in_ok-push.ensures.items ∙ groups_in-push c.self.inside.groups.items c.args.group ∙ ap

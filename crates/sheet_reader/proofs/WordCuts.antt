@@ -13,8 +13,8 @@ use Rattle.selectors.proofs.Choices.{none_some, some_is}
 use Rattle.selectors.proofs.WordForms.{passes, is_word}
 use Rattle.sheet_reader.specs.Forms.{range}
 use Rattle.sheet_reader.specs.Lone.{is_blank_kind, is_blank_piece}
-use Rattle.sheet_laws.specs.Solids.{AreBlank, Covers}
-use Rattle.sheet_laws.specs.SelectorLists.{AreWordsOf, no_words, past_comment, past_white, word_and}
+use Rattle.sheet_reader.specs.Solids.{AreBlank, Covers}
+use Rattle.sheet_reader.specs.SelectorLists.{AreWordsOf, no_words, past_comment, past_white, word_and}
 
 -- ---- a piece in front
 

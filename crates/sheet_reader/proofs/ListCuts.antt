@@ -13,8 +13,8 @@ use Rattle.selectors.specs.Reading.{segments, put_first, selector_list_of}
 use Rattle.selectors.specs.Grammar.{AreSelectors, IsSelectorList}
 use Rattle.selectors.proofs.GrammarAgain.{grammar_read, list_again}
 use Rattle.selectors.proofs.GrammarTakes.{grammar_spells, list_takes}
-use Rattle.sheet_laws.specs.SelectorLists.{HasNoComma, AreListed, last_listed, comma_and, AreSelectorList}
-use Rattle.sheet_laws.proofs.WordCuts.{words_spelled, words_only}
+use Rattle.sheet_reader.specs.SelectorLists.{HasNoComma, AreListed, last_listed, comma_and, AreSelectorList}
+use Rattle.sheet_reader.proofs.WordCuts.{words_spelled, words_only}
 
 -- ---- where the first comma stands
 

@@ -21,7 +21,7 @@ use Rattle.css_tokens.proofs.NameForms.{cdc_row_law, cdo_row_law}
 use Rattle.css_tokens.proofs.NumberForms.{numeric_row_law}
 use Rattle.css_tokens.proofs.UrlForms.{url_row_law, bad_url_row_law}
 use Rattle.css_tokens.proofs.TableForms.{first_is_first, first_fits, cuts_whole}
-use Rattle.sheet_laws.specs.Solids.{StandBetween, is_character_kind}
+use Rattle.sheet_reader.specs.Solids.{StandBetween, is_character_kind}
 
 law_of : (row : PieceRow) → RowLaw (FormOf row) (row_of row)
 law_of comment_row = comment_row_law
@@ -136,7 +136,7 @@ element_holds P [] x all (k, within, is) = absurd (omega (arith, within))
 element_holds P (y ∷ ys) x all (zero, within, is) = subst P is all.0
 element_holds P (y ∷ ys) x all (suc k, within, is) = element_holds P ys x all.1 (k, omega (arith, within), is)
 
-abbrev HasItsKind : List ℕ → Token → Type 0
+abbrev pub HasItsKind : List ℕ → Token → Type 0
 HasItsKind text t = is_character_kind t.kind ≡ true → (t.end ≡ t.start + 1) × (t.kind ≡ mark_kind (slice_index text t.start))
 
 by_kind : (kind : TokenKind) (text : List ℕ) (place n : ℕ) → HasMarks kind (drop place text) 0 n → is_character_kind kind ≡ true
@@ -167,3 +167,6 @@ cuts_kinds text place (t ∷ ts) c = (own, cuts_kinds text t.end ts c.3)
 pub characters : (text : List ℕ) (t : Token) → Contains (pieces text) t → is_character_kind t.kind ≡ true
     → (t.end ≡ t.start + 1) × (t.kind ≡ mark_kind (slice_index text t.start))
 characters text t within = element_holds (HasItsKind text) (pieces text) t (cuts_kinds text 0 (pieces text) (cuts_whole text)) within
+
+pub kinds_whole : (text : List ℕ) → AllByRecursion (HasItsKind text) (pieces text)
+kinds_whole text = cuts_kinds text 0 (pieces text) (cuts_whole text)
