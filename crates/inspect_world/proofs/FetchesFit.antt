@@ -42,14 +42,16 @@ use Rattle.inspect_world.specs.World.{World, Audience, Spent, PlainlySpent, plai
 use Rattle.cdp_json.specs.Lookups.{then_ok}
 use Rattle.session_runs.specs.Fold.{folded}
 use Rattle.session_runs.specs.Fetches.{front_in, fetched, fetched_if, all_fetched, stale_in, IsDue, GivesText, FetchLaws}
-use Rattle.inspect_world.specs.Fits.{join, with_ask, IsPlainFrame, most_bytes, most_sheets, most_fetches, kept_styles, IsBare, AlwaysRoom, IsNextIn}
+use Rattle.inspect_world.specs.Fits.{join, with_ask, IsPlainFrame, most_bytes, most_sheets, most_fetches, kept_styles, IsBare, AlwaysRoom}
+use Rattle.inspect_world.specs.Fits.{IsNextIn}
 use Rattle.inspect_world.specs.Fits.{IsNextTurn, IsFit, replay, Fits}
 use Rattle.inspect_world.specs.Costs.{line_cost, lines_cost}
 use Rattle.inspect_world.specs.Scripts.{after_line, after_lines, loaded_world}
 use Rattle.inspect_world.specs.ScriptsFit.{IsLater}
 use Rattle.replay_script.specs.Sound.{CanSend}
 use Rattle.inspect_world.specs.ShownReplies.{reply_shown, replies_in}
-use Rattle.inspect_world.specs.FreshRuns.{front_fetcher, refreshes, fresh_line, Unstyled, unstyled, no_others, Together, FreshLinesFit, FreshInputsFit}
+use Rattle.inspect_world.specs.FreshRuns.{front_fetcher, refreshes, fresh_line, Unstyled, unstyled, no_others, Together, FreshLinesFit}
+use Rattle.inspect_world.specs.FreshRuns.{FreshInputsFit}
 use Rattle.inspect_world.specs.FreshRuns.{fresh_lines, ShowsFresh, RefreshedShows, InputsShowTexts}
 use Rattle.inspect_world.proofs.FitLemmas.{fit-room, world_laws, room-always}
 use Rattle.session_runs.proofs.AgreeLemmas.{ok-one}
@@ -267,10 +269,12 @@ inputs-show-texts input page lines is few kinds n =
     let w = after_lines (take n lines) (loaded_world kinds page) in
     let v = fresh_lines front_fetcher (take n lines) (loaded_world kinds page) in
     let start : Together IsPlainFrame (lines_cost lines) (loaded_world kinds page) (loaded_world kinds page) =
-    together-loaded front_fetcher IsPlainFrame (λ n. refl) fetch_laws plain-sent plain-bare kinds page (lines_cost lines) script.can script.texts
+    together-loaded front_fetcher IsPlainFrame (λ n. refl) fetch_laws plain-sent plain-bare kinds page
+    (lines_cost lines) script.can script.texts
     (omega (arith, cost, few)) in
     let both : Together IsPlainFrame 0 w v =
-    lines-together front_fetcher IsPlainFrame (λ n. refl) fetch_laws plain-sent plain-bare n lines (loaded_world kinds page) (loaded_world kinds page)
+    lines-together front_fetcher IsPlainFrame (λ n. refl) fetch_laws plain-sent plain-bare n lines (loaded_world kinds page)
+    (loaded_world kinds page)
     script.rest.later start in
     let shown : ShowsFresh front_fetcher (settled run_step w) (refreshes front_fetcher v) = refreshed-all w v both in
     record {

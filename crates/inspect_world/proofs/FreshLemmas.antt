@@ -23,13 +23,15 @@ use Rattle.inspect_world.specs.Costs.{ask_edits, least_line, line_cost, lines_co
 use Rattle.session_runs.specs.Fold.{folded, asks_joined}
 use Rattle.session_runs.specs.Fetches.{Fetcher, front_in, FetchLaws}
 use Rattle.session_runs.specs.Agreement.{RunTogether}
-use Rattle.inspect_world.specs.Fits.{join, most_bytes, most_frames, most_sheets, most_fetches, HasLeft, IsBare, IsNext, AlwaysRoom, IsNextIn, next_raw}
+use Rattle.inspect_world.specs.Fits.{join, most_bytes, most_frames, most_sheets, most_fetches, HasLeft, IsBare, IsNext, AlwaysRoom}
+use Rattle.inspect_world.specs.Fits.{IsNextIn, next_raw}
 use Rattle.inspect_world.specs.Fits.{IsNextTurn, IsFit, replay}
 use Rattle.inspect_world.specs.Scripts.{sends, telling, after_line, after_lines, loaded_world}
 use Rattle.inspect_world.specs.ScriptsFit.{IsLater, AreLater}
 use Rattle.replay_script.specs.Sound.{CanSend}
 use Rattle.inspect_world.specs.ShownReplies.{reply_shown, replies_in}
-use Rattle.inspect_world.specs.FreshRuns.{refreshes, fresh_line, fresh_lines, Unstyled, unstyled, no_others, Together, FreshLinesFit, FreshInputsFit}
+use Rattle.inspect_world.specs.FreshRuns.{refreshes, fresh_line, fresh_lines, Unstyled, unstyled, no_others, Together, FreshLinesFit}
+use Rattle.inspect_world.specs.FreshRuns.{FreshInputsFit}
 use Rattle.inspect_world.specs.FreshRuns.{RefreshedShows}
 use Rattle.session_runs.proofs.Frames.{sent-all, sent-passed}
 use Rattle.inspect_world.proofs.FitLemmas.{world_laws, room-always}
@@ -94,7 +96,8 @@ module _ (fetcher : Fetcher FrontValue Spent) (IsPlain : List ℕ → Type 0) (c
       subst (λ k. IsNext v.spent (command_text (k + 1) a.method a.params a.session) (one_ask (ask_edits a) v.spent)) (sym alike.asks)
       (IsNext-sent v.spent a can frame edits (subst (λ k. k + 1 < 2 ^ 30) alike.asks small)) in
       subst (λ u. BothRuns (sends a w) u) (sym (sent-alike a w v alike.asks))
-      (together-sent_up replay AlwaysRoom IsNextIn IsNextTurn IsFit world_laws plainly fetcher unstyled no_others most_sheets most_fetches fetching IsPlain
+      (together-sent_up replay AlwaysRoom IsNextIn IsNextTurn IsFit world_laws plainly fetcher unstyled no_others most_sheets most_fetches
+      fetching IsPlain
       (first_value []) text (one_ask (ask_edits a)) w v
       (IsText-sent (w.spent.asks + 1) a can (omega (arith, few))) (plain-sent (w.spent.asks + 1) a can small)
       (ap (λ (k : PlainlySpent). record k { asks = k.asks + 1; edits = k.edits + ask_edits a }) both.agrees.spent)
@@ -104,7 +107,8 @@ module _ (fetcher : Fetcher FrontValue Spent) (IsPlain : List ℕ → Type 0) (c
       → BothRuns (after_line (forms.raw text) w) (fresh_line fetcher (forms.raw text) v)
   both-raw text w v letters bare left both =
       let alike : SpentAlike w.spent v.spent = spent-alike w.spent v.spent both.agrees.spent in
-      together-sent_up replay AlwaysRoom IsNextIn IsNextTurn IsFit world_laws plainly fetcher unstyled no_others most_sheets most_fetches fetching IsPlain
+      together-sent_up replay AlwaysRoom IsNextIn IsNextTurn IsFit world_laws plainly fetcher unstyled no_others most_sheets most_fetches
+      fetching IsPlain
       (first_value []) text one_raw w v letters (plain-bare text bare)
       (ap (λ (k : PlainlySpent). record k { raws = k.raws + 1 }) both.agrees.spent)
       (next_raw bare (frames-alike w.spent.asks v.spent.asks w.spent.raws v.spent.raws most_frames alike.asks alike.raws
@@ -115,7 +119,8 @@ module _ (fetcher : Fetcher FrontValue Spent) (IsPlain : List ℕ → Type 0) (c
       → BothRuns (turned run_turn x w) (turned run_turn x v)
   both-turned x w v next both =
       let alike : SpentAlike w.spent v.spent = spent-alike w.spent v.spent both.agrees.spent in
-      together-turned replay AlwaysRoom IsNextIn IsNextTurn IsFit world_laws plainly fetcher unstyled no_others most_sheets most_fetches fetching IsPlain
+      together-turned replay AlwaysRoom IsNextIn IsNextTurn IsFit world_laws plainly fetcher unstyled no_others most_sheets most_fetches
+      fetching IsPlain
       (first_value []) x w v tt tt
       (record { is_turn = next.is_turn; few = few-alike w.spent.turns v.spent.turns 1 most_bytes alike.turns next.few }) next both
 
@@ -130,7 +135,8 @@ module _ (fetcher : Fetcher FrontValue Spent) (IsPlain : List ℕ → Type 0) (c
 
   both-settled : (w v : World RunState) → HasLeft v.spent least_line → BothRuns w v → BothRuns (settled run_step w) (refreshes fetcher v)
   both-settled w v left both =
-      together-settled replay AlwaysRoom IsNextIn IsNextTurn IsFit world_laws plainly fetcher unstyled no_others most_sheets most_fetches fetching IsPlain
+      together-settled replay AlwaysRoom IsNextIn IsNextTurn IsFit world_laws plainly fetcher unstyled no_others most_sheets most_fetches
+      fetching IsPlain
       (first_value []) w v (room-counted v least_line left) (room-always w.state (arriving (length w.up.flying) w.up))
       (room-always v.state (arriving (length v.up.flying) v.up)) tt both
 
@@ -183,10 +189,12 @@ module _ (fetcher : Fetcher FrontValue Spent) (IsPlain : List ℕ → Type 0) (c
   both-line (ask a) w v later left both = both-sent a w v later left both
   both-line (forms.raw text) w v later left both = both-raw text w v later.0 later.1 left both
   both-line (up n) w v later left both =
-      together-delivered_up replay AlwaysRoom IsNextIn IsNextTurn IsFit world_laws plainly fetcher unstyled no_others most_sheets most_fetches fetching IsPlain
+      together-delivered_up replay AlwaysRoom IsNextIn IsNextTurn IsFit world_laws plainly fetcher unstyled no_others most_sheets
+      most_fetches fetching IsPlain
       (first_value []) n w v (room-always w.state (arriving n w.up)) (room-always v.state (arriving n v.up)) both
   both-line (down n) w v later left both =
-      together-delivered_down replay AlwaysRoom IsNextIn IsNextTurn IsFit world_laws plainly fetcher unstyled no_others most_sheets most_fetches fetching IsPlain
+      together-delivered_down replay AlwaysRoom IsNextIn IsNextTurn IsFit world_laws plainly fetcher unstyled no_others most_sheets
+      most_fetches fetching IsPlain
       (first_value []) n w v both
   both-line settle w v later left both = both-settled w v left both
   both-line show_front w v later left both = both-settled w v left both
@@ -203,9 +211,11 @@ module _ (fetcher : Fetcher FrontValue Spent) (IsPlain : List ℕ → Type 0) (c
   -- what a settle spends
   settle-spends : (w v : World RunState) → BothRuns w v → HasLeft v.spent least_line → Spends v.spent (refreshes fetcher v).spent least_line
   settle-spends w v both one =
-      let made : IsRefreshed replay AlwaysRoom IsNextIn IsNextTurn IsFit world_laws plainly fetcher unstyled no_others most_sheets most_fetches fetching
+      let made : IsRefreshed replay AlwaysRoom IsNextIn IsNextTurn IsFit world_laws plainly fetcher unstyled no_others most_sheets
+      most_fetches fetching
       (first_value []) w v (refreshes fetcher v) =
-      refreshed-made replay AlwaysRoom IsNextIn IsNextTurn IsFit world_laws plainly fetcher unstyled no_others most_sheets most_fetches fetching (first_value []) w v
+      refreshed-made replay AlwaysRoom IsNextIn IsNextTurn IsFit world_laws plainly fetcher unstyled no_others most_sheets most_fetches
+      fetching (first_value []) w v
       both.fits both.fits_fresh both.agrees (room-counted v least_line one)
       (room-always w.state (arriving (length w.up.flying) w.up)) (room-always v.state (arriving (length v.up.flying) v.up)) tt in
       let alike : SpentAlike (refreshes fetcher v).spent v.spent =
@@ -268,7 +278,8 @@ module _ (fetcher : Fetcher FrontValue Spent) (IsPlain : List ℕ → Type 0) (c
       → Together IsPlain k (loaded_world kinds page) (loaded_world kinds page)
   together-loaded kinds page k can texts few = record {
     runs =
-        together-first replay AlwaysRoom IsNextIn IsNextTurn IsFit world_laws plainly fetcher unstyled no_others most_sheets most_fetches fetching IsPlain
+        together-first replay AlwaysRoom IsNextIn IsNextTurn IsFit world_laws plainly fetcher unstyled no_others most_sheets most_fetches
+        fetching IsPlain
         (first_value []) nothing_spent (audience kinds) (run_start page)
         (fit-first page can texts);
     left = left-first kinds page k few;
@@ -297,9 +308,11 @@ module _ (fetcher : Fetcher FrontValue Spent) (IsPlain : List ℕ → Type 0) (c
       → front_in replay (first_value []) w ≡ Ok front → map reply_shown front.replies ≡ replies_in w.down.given)
       → RefreshedShows fetcher IsPlain
   refreshed-shows kept w v both =
-      let made : IsRefreshed replay AlwaysRoom IsNextIn IsNextTurn IsFit world_laws plainly fetcher unstyled no_others most_sheets most_fetches fetching
+      let made : IsRefreshed replay AlwaysRoom IsNextIn IsNextTurn IsFit world_laws plainly fetcher unstyled no_others most_sheets
+      most_fetches fetching
       (first_value []) w v (refreshes fetcher v) =
-      refreshed-made replay AlwaysRoom IsNextIn IsNextTurn IsFit world_laws plainly fetcher unstyled no_others most_sheets most_fetches fetching (first_value []) w v
+      refreshed-made replay AlwaysRoom IsNextIn IsNextTurn IsFit world_laws plainly fetcher unstyled no_others most_sheets most_fetches
+      fetching (first_value []) w v
       both.runs.fits both.runs.fits_fresh both.runs.agrees (room-counted v 0 both.left)
       (room-always w.state (arriving (length w.up.flying) w.up)) (room-always v.state (arriving (length v.up.flying) v.up)) tt in
       let v1 = refreshes fetcher v in

@@ -66,7 +66,8 @@ fit-first page can texts = record {
 
 pub fits-loaded : (kinds : List PanelKind) (page : LoadedPage) → CanLoadPage page → PageHasTexts page → Fits (loaded_world kinds page)
 fits-loaded kinds page can texts =
-    fits-first replay AlwaysRoom IsNextIn IsNextTurn IsFit world_laws (first_value []) nothing_spent (audience kinds) (run_start page) (fit-first page can texts)
+    fits-first replay AlwaysRoom IsNextIn IsNextTurn IsFit world_laws (first_value []) nothing_spent (audience kinds) (run_start page)
+    (fit-first page can texts)
 
 -- ---- a line
 
@@ -98,7 +99,8 @@ turned-fits x w next fits = fits-turned replay AlwaysRoom IsNextIn IsNextTurn Is
 
 raw-fits : (text : List ℕ) (w : World RunState) → IsText text → IsBare text → w.spent.asks + w.spent.raws + 1 ≤ most_frames → Fits w
     → Fits (raw text w)
-raw-fits text w letters bare few fits = fits-sent_up replay AlwaysRoom IsNextIn IsNextTurn IsFit world_laws (first_value []) text one_raw w letters
+raw-fits text w letters bare few fits = fits-sent_up replay AlwaysRoom IsNextIn IsNextTurn IsFit world_laws
+    (first_value []) text one_raw w letters
     (next_raw bare few) fits
 
 -- room for a line is room for a frame, for the edits of an ask and for a step of the script

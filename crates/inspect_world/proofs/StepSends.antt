@@ -11,7 +11,6 @@ use Rattle.cdp_messages.specs.Asked.{asked, method_name}
 use Rattle.client_views.specs.Views.{ShownSheet}
 use Rattle.client_views.specs.Moves.{failed}
 use Rattle.front_mirror.specs.declared.replies.Ask.{Ask}
-use Rattle.front_mirror.specs.Front as front
 use Rattle.front_mirror.specs.Front.{FrontValue, first_value, fold}
 use Rattle.front_mirror.specs.Laws as front_laws
 use Rattle.front_mirror.specs.Laws.{KnowsSheets, InTurn, rests, meets}

@@ -1,5 +1,5 @@
 -- The run of a script with the fetches of its settles put into the streams, beside the run that the report tells.
-use Rattle.std.specs.Prelude.{◌≡◌, ℕ, ◌+◌, ◌^◌, ◌≤◌, false, List, [], ◌∷◌, length, take, map, codes, Some, None, Ok, ⊤}
+use Rattle.std.specs.Prelude.{◌≡◌, ℕ, ◌+◌, ◌≤◌, false, List, [], ◌∷◌, length, take, map, codes, Some, None, Ok, ⊤}
 use Rattle.node_tree.specs.Numbers.{first_fetch}
 use Rattle.node_tree.specs.Nodes.{Nodes}
 use Rattle.node_tree.specs.Seen.{Seen}

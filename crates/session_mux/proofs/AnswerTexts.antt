@@ -16,16 +16,16 @@ use Rattle.cdp_messages.specs.declared.command.Why.{Why}
 use Rattle.cdp_messages.specs.declared.command.Why.TheVariants.{NoSession}
 use Rattle.cdp_messages.specs.Asked.{json_of, refusal}
 use Rattle.cdp_messages.specs.Events.{is_object}
-use Rattle.cdp_messages.specs.Replies.{Message, reply, refusal_message, message_data}
+use Rattle.cdp_messages.specs.Replies.{Message, reply, refusal_message, message_data, message_text}
 use Rattle.cdp_messages.specs.SessionFrames.{session_name}
 use Rattle.cdp_messages.proofs.Messages.{reply_lawful, refusal_plain}
 use Rattle.cdp_messages.proofs.ZeroFree.{texts_have_no_zero}
 use Rattle.session_mux.specs.declared.targets.Target.{Target}
 use Rattle.session_mux.specs.declared.targets.Target.TheVariants.{Attach, Detach}
 use Rattle.session_mux.specs.Sessions.{Sessions, is_attached}
-use Rattle.session_mux.specs.Tags.{message_text}
 use Rattle.session_mux.specs.Targets.{target_named, target_refusal, target_result}
-use Rattle.session_mux.specs.Routes.{Request, if_is, params_in, request_in, request_of, by_refusal, by_method, by_name, by_session, routing_by}
+use Rattle.session_mux.specs.Routes.{Request, if_is, params_in, request_in, request_of, by_refusal, by_method, by_name, by_session}
+use Rattle.session_mux.specs.Routes.{routing_by}
 use Rattle.session_mux.specs.Routes.{routing}
 use Rattle.session_mux.specs.Laws.{AnswersAreMessages}
 

@@ -11,8 +11,8 @@ use Rattle.std.specs.List.{flat_map}
 use Rattle.std.proofs.lemmas.List.Elements.{All-nil, All-head, All-tail}
 use Rattle.pipe_frames.specs.Frames.{IsText, frames_of}
 use Rattle.pipe_frames.proofs.FrameLemmas.{frames_of-framed, frames_of-text}
-use Rattle.cdp_messages.specs.Replies.{Message}
-use Rattle.session_mux.specs.Tags.{message_text, message_frames, AreMessages, session_frames}
+use Rattle.cdp_messages.specs.Replies.{Message, message_text, message_frames}
+use Rattle.session_mux.specs.Tags.{AreMessages, session_frames}
 use Rattle.session_mux.specs.TaggedTexts.{session_end, written_end, tagged_frame}
 use Rattle.session_mux.proofs.TagLemmas.{tags-last}
 

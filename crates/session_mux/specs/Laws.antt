@@ -1,14 +1,14 @@
 -- The laws of two sessions on one pipe.
 use Rattle.std.specs.Prelude.{◌≡◌, ◌≢◌, ◌↔◌, ◌⊎◌, ℕ, ◌<◌, ◌≤◌, List, [], ◌∷◌, Some, IfSome}
 use Rattle.cdp_json.specs.declared.fields.Field.TheVariants.{Is, Missing}
-use Rattle.cdp_messages.specs.Replies.{Message, message_data}
+use Rattle.cdp_messages.specs.Replies.{Message, message_data, message_text, message_frames}
 use Rattle.cdp_messages.specs.SessionFrames.{without_session}
 use Rattle.session_mux.specs.declared.router.Routed.TheVariants.{Attached, Answered}
 use Rattle.session_mux.specs.declared.targets.Target.{Target}
 use Rattle.session_mux.specs.Sessions.{Sessions, session_text}
 use Rattle.session_mux.specs.Targets.{target_named}
 use Rattle.session_mux.specs.Routes.{Request, request_of, routing}
-use Rattle.session_mux.specs.Tags.{message_text, message_frames, AreMessages, with_session, session_frame}
+use Rattle.session_mux.specs.Tags.{AreMessages, with_session, session_frame}
 use Rattle.session_mux.specs.TaggedTexts.{session_end, tagged_frame}
 
 -- the bytes are a request that names the attached session

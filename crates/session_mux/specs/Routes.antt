@@ -11,13 +11,12 @@ use Rattle.cdp_json.specs.Kinds.{as_whole}
 use Rattle.cdp_messages.specs.declared.command.Why.{Why}
 use Rattle.cdp_messages.specs.declared.command.Why.TheVariants.{NoSession}
 use Rattle.cdp_messages.specs.Asked.{json_of, refusal}
-use Rattle.cdp_messages.specs.Replies.{Message, reply, refusal_message}
+use Rattle.cdp_messages.specs.Replies.{Message, reply, refusal_message, message_frames}
 use Rattle.cdp_messages.specs.SessionFrames.{session_name}
 use Rattle.session_mux.specs.declared.router.Routed.{Routed}
 use Rattle.session_mux.specs.declared.router.Routed.TheVariants.{Root, Attached, Answered}
 use Rattle.session_mux.specs.declared.targets.Target.{Target}
 use Rattle.session_mux.specs.Sessions.{Sessions, is_attached}
-use Rattle.session_mux.specs.Tags.{message_frames}
 use Rattle.session_mux.specs.Targets.{target_named, target_refusal, target_result, target_after}
 
 -- ---- requests

@@ -4,21 +4,9 @@ use Rattle.std.specs.List.{flat_map}
 use Rattle.serde_json.specs.Data.{Data, null, boolean, number, string, array, object, put}
 use Rattle.serde_json.specs.Written.{compact_text}
 use Rattle.pipe_frames.specs.Frames.{IsText, framed}
-use Rattle.cdp_messages.specs.Replies.{Message, message_data}
+use Rattle.cdp_messages.specs.Replies.{Message, message_data, message_text, message_frames}
 use Rattle.cdp_messages.specs.SessionFrames.{session_name}
 use Rattle.session_mux.specs.Sessions.{session_text}
-
--- a message's text
-abbrev pub message_text : Message → List ℕ
-message_text m = compact_text (message_data m)
-
--- a message as it is sent
-abbrev pub message_frame : Message → List ℕ
-message_frame m = framed (message_text m)
-
--- messages as they are sent, one after the other
-abbrev pub message_frames : List Message → List ℕ
-message_frames ms = flat_map message_frame ms
 
 -- these bytes are what the writers append for messages, whose texts have no zero byte
 pub record AreMessages (bytes : List ℕ) : Type 0 where

@@ -3,9 +3,8 @@ ghost use Rattle.std.specs.Prelude.{◌≡◌, ◌++◌, string_bytes, IfOk, OnO
 ghost use Rattle.serde_json.specs.Data.{object, no_members};
 ghost use Rattle.serde_json.specs.View.{view};
 ghost use Rattle.cdp_messages.specs.Asked.{refusal};
-ghost use Rattle.cdp_messages.specs.Replies.{reply, refusal_message};
+ghost use Rattle.cdp_messages.specs.Replies.{reply, refusal_message, message_frame};
 ghost use Rattle.session_mux.specs.Sessions.{session_text};
-ghost use Rattle.session_mux.specs.Tags.{message_frame};
 ghost use Rattle.session_mux.specs.Targets.{attached_result};
 
 use cdp_json::ObjectBuilder;

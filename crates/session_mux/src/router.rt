@@ -4,7 +4,7 @@ ghost use Rattle.serde_json.specs.Find.{as_object};
 ghost use Rattle.cdp_json.specs.Fields.{field_map};
 ghost use Rattle.serde_json.specs.View.{view, members_view};
 ghost use Rattle.session_mux.specs.Sessions.{Sessions, session_limit, no_sessions, is_attached};
-ghost use Rattle.session_mux.specs.Tags.{message_frames};
+ghost use Rattle.cdp_messages.specs.Replies.{message_frames};
 ghost use Rattle.session_mux.specs.declared.targets.Target.TheVariants.{Attach, Detach};
 ghost use Rattle.session_mux.specs.Targets.{target_named, attach_refusal, detach_refusal};
 ghost use Rattle.session_mux.specs.Routes.{request_in, routing, routing_by, by_session, by_method, by_name, by_refusal, refused, Routes};

@@ -1,0 +1,7 @@
+pub mod Incoming
+pub mod SessionWays
+pub mod Clients
+pub mod Shown
+pub mod PairFits
+pub mod FrameLaws
+pub mod Sendings
