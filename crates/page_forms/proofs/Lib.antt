@@ -6,3 +6,5 @@ pub mod ActLemmas
 pub mod SpeltLists
 pub mod SpeltObjects
 pub mod SpeltRows
+pub mod RowNumbers
+pub mod RowsBelow

@@ -1,10 +1,8 @@
 -- Rows that tokens spell, and the nodes of these rows.
-use Rattle.std.proofs.Common.{◌≡◌, ℕ, ◌<◌, ◌^◌, List, [], ◌∷◌, ◌++◌, map, append_assoc, append-nil, codes, decimal, true, false, Option}
+use Rattle.std.proofs.Common.{◌≡◌, ℕ, ◌<◌, ◌^◌, List, [], ◌∷◌, codes, decimal, true, false, Option}
 use Rattle.std.proofs.Common.{Some, None, option_and_then, option_map, refl, sym, ap, ap₂, ◌∙◌, subst, arith, ltb-true}
-use Rattle.std.proofs.lemmas.List.{map-append}
-use Rattle.json.specs.Token.{Token, begin_object, end_object, begin_array, key, string, number}
+use Rattle.json.specs.Token.{Token, end_object, begin_array, key, string, number}
 use Rattle.json.specs.Json as json
-use Rattle.json.specs.Json.{after_end_array}
 use Rattle.json.specs.Tree.{items_tokens}
 use Rattle.serde_json.specs.Data as datum
 use Rattle.serde_json.specs.Data.{unsigned, put}
@@ -19,23 +17,31 @@ use Rattle.node_tree.specs.declared.Kind.{Kind}
 use Rattle.node_tree.specs.declared.Kind.TheVariants.{Document, Element, Text, Comment, Doctype}
 use Rattle.page_tree.specs.Loads.{labelled}
 use Rattle.page_tree.specs.Flat.{FlatRow, flat_formed}
-use Rattle.page_tree.specs.FlatRows.{row_of, row_with, row_before, row_spelled}
-use Rattle.page_tree.specs.declared.flat_rows.Row.{Row}
+use Rattle.page_tree.specs.FlatRows.{row_with, row_before, row_spelled}
 use Rattle.page_forms.specs.Spelt.{ReadsAs, SpellsItems, SpellsField, absent, there}
 use Rattle.page_forms.specs.NodeForms.{text_field, attribute_field}
-use Rattle.page_forms.specs.RowForms.{leaf_label, row_tokens, row_form, rows_form, flat_form}
-use Rattle.page_forms.proofs.SpeltLists.{neither, list_end, list_turn, IsAhead}
+use Rattle.page_forms.specs.RowForms.{row_start, row_form, rows_form, flat_form}
+use Rattle.page_forms.proofs.SpeltLists.{neither, list_turn}
 use Rattle.page_forms.proofs.SpeltObjects.{listed_last, element_key}
 
 -- ---- a row
 
+-- the label of a node of that kind that has this text and nothing else; an element and a document have none
+abbrev pub leaf_label : Kind → List ℕ → Option Label
+leaf_label Document text = None
+leaf_label Element text = None
+leaf_label Text text = Some (labelled Text [] text [])
+leaf_label Comment text = Some (labelled Comment [] text [])
+leaf_label Doctype text = Some (labelled Doctype text [] [])
+
+-- the start of a row with that number and a text of that name, before the other tokens
+abbrev row_tokens : ℕ → List ℕ → List ℕ → List Token → List Token
+row_tokens up name text rest = row_start (Some up) (key name ∷ (string text ∷ rest))
+
 -- its tokens up to its text
-row_begun : (up : ℕ) (name text : List ℕ) {old r1 r2 r3 r4 : List Token} → old ≡ begin_object ∷ r1
-    → r1 ≡ key (codes "up") ∷ (number (decimal up) ∷ r2) → r2 ≡ key name ∷ r3 → r3 ≡ string text ∷ r4
-    → old ≡ row_tokens up name text r4
-row_begun up name text e0 e1 e2 e3 =
-    e0 ∙ ap (λ ts. begin_object ∷ ts)
-    (e1 ∙ ap (λ ts. key (codes "up") ∷ (number (decimal up) ∷ ts)) (e2 ∙ ap (λ ts. key name ∷ ts) e3))
+row_begun : (up : ℕ) (name text : List ℕ) {r2 r3 r4 : List Token} → r2 ≡ key name ∷ r3 → r3 ≡ string text ∷ r4
+    → row_start (Some up) r2 ≡ row_tokens up name text r4
+row_begun up name text e2 e3 = ap (row_start (Some up)) (e2 ∙ ap (λ ts. key name ∷ ts) e3)
 
 -- its number, read again
 up_read : (up : ℕ) → is_counted up ≡ true → number_of (decimal up) ≡ Some (unsigned up)
@@ -72,7 +78,7 @@ text_row up name text ms r small e is w s = record {
 }
 
 -- the row of that number and that label
-abbrev row_with_label : ℕ → Label → FlatRow
+abbrev pub row_with_label : ℕ → Label → FlatRow
 row_with_label up l = record { up = up; label = l }
 
 -- the same by the name of its text
@@ -161,48 +167,31 @@ module _ (up : ℕ) (name : List ℕ) (old new : List Token) (ps : List Pair) (s
   element_row (absent e f) = bare_row e f
   element_row (there from e s) = row_with_attributes from e s
 
--- a row by its first tokens: an element's, and another one's
-pub element_row_spelt : (up : ℕ) (name text : List ℕ) (k : Kind) (l : Label) (ps : List Pair) {old r1 r2 r3 r4 new : List Token}
-    → is_counted up ≡ true → old ≡ begin_object ∷ r1 → r1 ≡ key (codes "up") ∷ (number (decimal up) ∷ r2) → r2 ≡ key name ∷ r3
-    → r3 ≡ string text ∷ r4 → text_field k ≡ Some name → k ≡ Element → SpellsField attribute_field r4 ps (end_object ∷ new)
-    → l ≡ labelled Element text [] ps → ReadsAs row_form old (record { up = up; label = l }) new
-element_row_spelt up name text k l ps {old = old} {r4 = r4} {new = new} small e0 e1 e2 e3 f g s is =
-    let begun : old ≡ row_tokens up (codes "e") text r4 =
-    row_begun up name text e0 e1 e2 e3 ∙ ap (λ n. row_tokens up n text r4) (element_key name k f g) in
-    subst (λ m. ReadsAs row_form old (row_with_label up m) new) (sym is)
+-- a row behind its number: an element's, and another one's
+pub element_row_spelt : (up : ℕ) (name text : List ℕ) (k : Kind) (l : Label) (ps : List Pair) {r2 r3 r4 new : List Token}
+    → is_counted up ≡ true → r2 ≡ key name ∷ r3 → r3 ≡ string text ∷ r4 → text_field k ≡ Some name → k ≡ Element
+    → SpellsField attribute_field r4 ps (end_object ∷ new) → l ≡ labelled Element text [] ps
+    → ReadsAs row_form (row_start (Some up) r2) (row_with_label up l) new
+element_row_spelt up name text k l ps {r2 = r2} {r4 = r4} {new = new} small e2 e3 f g s is =
+    let begun : row_start (Some up) r2 ≡ row_tokens up (codes "e") text r4 =
+    row_begun up name text e2 e3 ∙ ap (λ n. row_tokens up n text r4) (element_key name k f g) in
+    subst (λ m. ReadsAs row_form (row_start (Some up) r2) (row_with_label up m) new) (sym is)
     (subst (λ ts. ReadsAs row_form ts (row_with_label up (labelled Element text [] ps)) new) (sym begun)
     (element_row up text r4 new ps small s))
 
-pub leaf_row_spelt : (up : ℕ) (name text : List ℕ) (k : Kind) (l : Label) {old r1 r2 r3 r4 new : List Token} → is_counted up ≡ true
-    → old ≡ begin_object ∷ r1 → r1 ≡ key (codes "up") ∷ (number (decimal up) ∷ r2) → r2 ≡ key name ∷ r3 → r3 ≡ string text ∷ r4
-    → r4 ≡ end_object ∷ new → text_field k ≡ Some name → leaf_label k text ≡ Some l
-    → ReadsAs row_form old (record { up = up; label = l }) new
-leaf_row_spelt up name text k l small e0 e1 e2 e3 e4 f g =
-    leaf_row k up name text l small (row_begun up name text e0 e1 e2 e3 ∙ ap (row_tokens up name text) e4) f g
+pub leaf_row_spelt : (up : ℕ) (name text : List ℕ) (k : Kind) (l : Label) {r2 r3 r4 new : List Token} → is_counted up ≡ true
+    → r2 ≡ key name ∷ r3 → r3 ≡ string text ∷ r4 → r4 ≡ end_object ∷ new → text_field k ≡ Some name → leaf_label k text ≡ Some l
+    → ReadsAs row_form (row_start (Some up) r2) (row_with_label up l) new
+leaf_row_spelt up name text k l small e2 e3 e4 f g =
+    leaf_row k up name text l small (row_begun up name text e2 e3 ∙ ap (row_tokens up name text) e4) f g
 
 -- ---- rows
 
--- the rows so far, before the others
-abbrev pub RowsAhead : List Token → List Row → List Token → Type 0
-RowsAhead start done left = IsAhead rows_form start (λ rest. map row_of done ++ rest) left
-
-row_turn : (old middle new : List Token) (r : FlatRow) (rest : List FlatRow) → ReadsAs row_form old r middle
+-- a row, before the others
+pub row_turn : (old middle new : List Token) (r : FlatRow) (rest : List FlatRow) → ReadsAs row_form old r middle
     → SpellsItems rows_form middle rest new → SpellsItems rows_form old (r ∷ rest) new
 row_turn old middle new r rest = list_turn row_form rows_form old middle new r rest (r ∷ rest) (omega arith)
     (λ d ds e f. ap₂ row_before e f)
-
-pub rows_turn : (start left next : List Token) (done more : List Row) (row : Row) → RowsAhead start done left
-    → ReadsAs row_form left (row_of row) next → more ≡ done ++ row ∷ [] → RowsAhead start more next
-rows_turn start left next done more row so s m = λ rest new r.
-    let joined : map row_of done ++ row_of row ∷ rest ≡ map row_of more ++ rest =
-    sym (append_assoc (map row_of done) (row_of row ∷ []) rest)
-    ∙ ap (λ rs. rs ++ rest) (sym (ap (map row_of) m ∙ map-append row_of done (row ∷ []))) in
-    subst (λ rs. SpellsItems rows_form start rs new) joined (so (row_of row ∷ rest) new (row_turn left next new (row_of row) rest s r))
-
-pub rows_end : (start left new : List Token) (done : List Row) → RowsAhead start done left → after_end_array left ≡ Some new
-    → SpellsItems rows_form start (map row_of done) new
-rows_end start left new done so e = subst (λ rs. SpellsItems rows_form start rs new) (append-nil (map row_of done))
-    (so [] new (list_end rows_form [] left new e refl))
 
 -- the nodes of these rows
 pub nodes_spelt : (old new : List Token) (rows : List FlatRow) (n : Nodes Label) → SpellsItems rows_form old rows new

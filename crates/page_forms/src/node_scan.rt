@@ -126,8 +126,9 @@ fn doctype_form(alloc: Global, name: &str) -> Result<NodeForm, AllocError>
     })
 }
 
-// The node that has nothing but this text. A doctype stands at the top alone.
-fn leaf_of(alloc: Global, kind: Kind, text: &str, top: bool) -> Result<NodeForm, ScanErr>
+/// The node that has nothing but this text. A doctype stands at the top alone.
+#[inline(always)]
+pub(crate) fn leaf_of(alloc: Global, kind: Kind, text: &str, top: bool) -> Result<NodeForm, ScanErr>
     ensures { IfOk result (λ form. (name : List ℕ) → text_field kind ≡ Some name
         → node_spelled top (text_data name text.now) ≡ Some form) }
 {
