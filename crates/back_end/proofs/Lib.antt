@@ -47,3 +47,4 @@ pub mod StartLemmas
 pub mod KeptSearches
 pub mod FoundShown
 mod DomainLemmas
+pub mod LoadSpelt

@@ -26,13 +26,13 @@ use Rattle.cdp_messages.specs.declared.command.Why.TheVariants.{NotElement}
 use Rattle.cdp_messages.specs.declared.down.ReplyBody.TheVariants.{Nothing, SheetText}
 use Rattle.pipe_frames.specs.Frames.{framed}
 use Rattle.cdp_messages.specs.Events.{News, sheet_added, sheet_removed}
-use Rattle.cdp_messages.specs.Replies.{Message, event, event_text, reply_text}
+use Rattle.cdp_messages.specs.Replies.{Message, event, event_text, reply_text, message_frame, message_frames}
 use Rattle.client_views.specs.Views.{ShownSheet, sheet_header}
 use Rattle.client_views.specs.Moves.{Move, clear, added, dropped, replied, message_of, move_text, frames_of_moves}
 use Rattle.cascade_match.proofs.MatchLemmas.{drop-at}
 use Rattle.cdp_messages.specs.declared.css_ask.CssAsk.{CssAsk}
 use Rattle.cdp_messages.specs.declared.css_ask.CssAsk.TheVariants as css
-use Rattle.css_agent.specs.Told.{told_origin, told_header, added_message, turn_messages, event_messages, message_frame, message_frames}
+use Rattle.css_agent.specs.Told.{told_origin, told_header, added_message, turn_messages, event_messages}
 use Rattle.css_agent.specs.Asks.{sheet_named, if_sheet, styled_page, css_outcome, answer_move}
 use Rattle.dom_agent.specs.Keepers.{session_keeper, binding_keeper}
 use Rattle.dom_agent.specs.Requests.{known_node}

@@ -16,9 +16,9 @@ use Rattle.cdp_messages.specs.declared.command.Why.TheVariants.{Crossed}
 use Rattle.cdp_messages.specs.declared.down.ReplyBody.TheVariants.{Nothing}
 use Rattle.pipe_frames.specs.Frames.{framed}
 use Rattle.cdp_messages.specs.Events.{sheet_changed}
-use Rattle.cdp_messages.specs.Replies.{reply_text}
+use Rattle.cdp_messages.specs.Replies.{reply_text, message_frames}
 use Rattle.client_views.specs.Moves.{Move, rewritten, frames_of_moves, move_text}
-use Rattle.css_agent.specs.Told.{event_messages, message_frames}
+use Rattle.css_agent.specs.Told.{event_messages}
 use Rattle.css_agent.specs.Edits.{text_under}
 use Rattle.undo_marks.specs.Marks.{Marks, entry_count, handed_out, marked, past_popped, future_popped, past_pushed, future_pushed, undone}
 use Rattle.undo_marks.specs.Marks.{redone}

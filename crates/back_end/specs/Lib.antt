@@ -3,6 +3,7 @@ pub mod Texts
 pub mod States
 pub mod Plans
 pub mod OwnMethods
+pub mod LoadFrames
 pub mod Steps
 pub mod Laws
 pub mod Outside

@@ -46,7 +46,6 @@ use Rattle.cdp_messages.specs.Methods.{domains_of, needs_dom, needs_both, turns_
 use Rattle.sheet_reader.specs.declared.book.SheetEntry.{SheetEntry}
 use Rattle.client_views.specs.Views.{ShownSheet, sheets_without, sheets_with_text}
 use Rattle.client_views.specs.Moves.{Move, clear, met, rewritten, added, dropped, texted, replied, all_off, sheets_off, failed}
-use Rattle.client_views.specs.Moves.{frames_of_moves}
 use Rattle.cdp_messages.specs.declared.css_ask.CssAsk.{CssAsk}
 use Rattle.cdp_messages.specs.declared.css_ask.CssAsk.TheVariants as css
 use Rattle.css_agent.specs.Asks.{css_outcome, answer_move, sheet_named}
@@ -697,22 +696,3 @@ asked_step (Err r) state = record { state = state; moves = failed r ∷ [] }
 -- the step on one frame; `own` says whether our own two methods are known
 abbrev pub frame_step : Bool → List ℕ → State → Step
 frame_step own frame state = asked_step (asked frame own) state
-
--- ---- as bytes
-
--- what a step makes: the state after it, and the bytes sent down
-pub record Stepped (S : Type 0) : Type 0 where
-  pub state : S
-  pub sent : List ℕ
-
--- a step as the bytes of its messages
-abbrev pub as_bytes : Step → Stepped State
-as_bytes done = record { state = done.state; sent = frames_of_moves done.moves }
-
--- the step on one frame of a front end, as bytes: our own two methods are unknown
-abbrev pub step : State → List ℕ → Stepped State
-step state frame = as_bytes (frame_step false frame state)
-
--- the script's own step, as bytes
-abbrev pub turn : Turn → State → Stepped State
-turn x state = as_bytes (turn_step x state)

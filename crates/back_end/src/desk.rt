@@ -13,6 +13,7 @@ ghost use Rattle.back_end.specs.Steps.{ask_needs_on, command_step, frame_step, m
 ghost use Rattle.back_end.specs.Steps as steps;
 ghost use Rattle.back_end.specs.Seats.{BothStandFor, DeskStandsFor, HasNumbersLeft, edits_in, enabled_agent};
 
+use crate::load_scan::{LoadFrame, scan_load};
 use crate::side::PageSide;
 use cdp_messages::{
     Command, DomAsk, ReadErr, Refused, ReplyBody, WhitespaceWord, Why, read_command, write_refused,
@@ -77,8 +78,34 @@ impl Desk {
         }
     }
 
-    /// Answers one frame.
+    /// Answers one frame: a long one that loads a page in its usual form is read token by token.
     pub(crate) fn answer_frame(
+        &mut self,
+        history: &mut History,
+        side: &mut PageSide,
+        frame: &[u8],
+        own: bool,
+        out: &mut Vec<u8>,
+    ) -> Result<(), AllocError>
+        requires room { HasNumbersLeft self.old side.old }
+        requires few { edits_in history.old < kept_before_step }
+        requires standing { ∥ ((state : State) × BothStandFor self.old history.old side.old state) ∥₁ }
+        ensures stands { (state : State) → BothStandFor self.old history.old side.old state
+            → OnOk result (BothStandFor self.new history.new side.new (frame_step own frame.now state).state) }
+        ensures sent { (state : State) → BothStandFor self.old history.old side.old state
+            → OnOk result (out.new.items ≡ out.old.items ++ frames_of_moves (frame_step own frame.now state).moves) }
+    {
+        if own {
+            if let Ok(load) = scan_load(self.alloc, frame) {
+                let LoadFrame { id, page } = load;
+                return self.answer_loaded(history, side, id, page, out);
+            }
+        }
+        self.answer_read(history, side, frame, own, out)
+    }
+
+    /// The same by way of a value.
+    fn answer_read(
         &mut self,
         history: &mut History,
         side: &mut PageSide,

@@ -17,6 +17,7 @@ mod breakpoints;
 mod desk;
 mod faults;
 mod laws;
+mod load_scan;
 mod node_edits;
 mod own;
 mod pauses;

@@ -1,5 +1,6 @@
 // Our own two methods, by which a client without a script loads a page and changes it.
-ghost use Rattle.std.specs.Prelude.{◌≡◌, ◌++◌, Some, IfOk, OnOk};
+ghost use Rattle.std.specs.Prelude.{◌≡◌, ◌++◌, Some, Ok, IfOk, OnOk};
+ghost use Rattle.serde_json.specs.Data.{Data};
 ghost use Rattle.serde_json.specs.View.{view};
 ghost use Rattle.page_forms.specs.Acts.{IsInsertable};
 ghost use Rattle.page_forms.specs.Pages.{loaded_page, CanLoadPage};
@@ -136,6 +137,30 @@ impl Desk {
             Err(CommandErr::Refused(why)) => self.refuse(id, why, out),
             Err(CommandErr::Memory) => Err(AllocError),
         }
+    }
+
+    /// The same for a page that was read off a frame's tokens, which stands for the parameters that would be read as it.
+    pub(crate) fn answer_loaded(
+        &mut self,
+        history: &mut History,
+        side: &mut PageSide,
+        id: u64,
+        page: PageForm,
+        out: &mut Vec<u8>,
+    ) -> Result<(), AllocError>
+        requires can { CanLoadPage (loaded_page page) }
+        requires room { HasNumbersLeft self.old side.old }
+        ensures stands { (state : State) (params : Data) → load_asked params ≡ Ok (loaded_page page)
+            → BothStandFor self.old history.old side.old state
+            → OnOk result (BothStandFor self.new history.new side.new (command_step id (commands.ReplayLoad params) state).state) }
+        ensures sent { (state : State) (params : Data) → load_asked params ≡ Ok (loaded_page page)
+            → DeskStandsFor self.old side.old state
+            → OnOk result (out.new.items ≡ out.old.items
+            ++ frames_of_moves (command_step id (commands.ReplayLoad params) state).moves) }
+    {
+        self.load(side, page, out)?;
+        history.clear();
+        write_reply(self.alloc, id, &ReplyBody::Nothing, out)
     }
 
     /// `Replay.act`, which needs no domain on. One that the page refuses changes nothing, and draws no serial.
