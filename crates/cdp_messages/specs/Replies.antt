@@ -1,11 +1,13 @@
 -- Messages on their way down: replies, error replies and events.
 use Rattle.std.specs.Prelude.{ℕ, ℤ, List, codes, Bool, true, Option, Some, None, option_map, option_and_then, ⊤}
 use Rattle.std.specs.Borrow.{Bor}
+use Rattle.std.specs.List.{flat_map}
 use Rattle.serde_json.specs.Data.{Data}
 use Rattle.serde_json.specs.View.{view}
 use Rattle.serde_json.specs.Written.{compact_text}
 use Rattle.cdp_json.specs.Kinds.{Kind, whole, signed, text, anything, refined}
 use Rattle.cdp_json.specs.Rows.{Row, ends, and_need, and_may, object_of}
+use Rattle.pipe_frames.specs.Frames.{framed}
 use Rattle.css_objects.specs.Results.{sheet_text_result, class_names_result, styles_result, selectors_result, rule_result, media_result}
 use Rattle.css_objects.specs.Rules.{matched_kind}
 use Rattle.cdp_messages.specs.declared.command.Refused.{Refused}
@@ -177,7 +179,19 @@ result_of_method (Some m) d = result_by (result_form m) d
 abbrev pub result_of : List ℕ → Data → Option ReplyBody
 result_of method d = result_of_method (method_named method) d
 
--- ---- texts, without their zero bytes
+-- ---- texts, without their zero bytes, and frames, with them
+
+-- the text of a message
+abbrev pub message_text : Message → List ℕ
+message_text m = compact_text (message_data m)
+
+-- a message as it is sent
+abbrev pub message_frame : Message → List ℕ
+message_frame m = framed (message_text m)
+
+-- messages as they are sent, one after the other
+abbrev pub message_frames : List Message → List ℕ
+message_frames ms = flat_map message_frame ms
 
 -- the text of a reply
 abbrev pub reply_text : ℕ → ReplyBody → List ℕ

@@ -19,7 +19,8 @@ use Rattle.css_objects.specs.Selectors.{weight_fields, weight_from, weight_kind,
 use Rattle.css_objects.specs.Selectors.{selectors_fields, selectors_from, selectors_kind}
 use Rattle.css_objects.specs.Styles.{property_fields, property_from, property_kind, empty_list, style_fields, style_from, style_kind}
 use Rattle.css_objects.specs.Styles.{is_inline, is_in_sheet, inline_kind, rule_style_kind}
-use Rattle.css_objects.specs.Rules.{RuleFields, rule_row, rule_fields, rule_from, rule_kind, ascend, match_fields, match_from, match_kind, inherited_fields}
+use Rattle.css_objects.specs.Rules.{RuleFields, rule_row, rule_fields, rule_from, rule_kind, ascend, match_fields, match_from, match_kind}
+use Rattle.css_objects.specs.Rules.{inherited_fields}
 use Rattle.css_objects.specs.Rules.{inherited_from, inherited_kind, matched_fields, matched_from, matched_kind}
 use Rattle.css_objects.specs.Results.{sheet_text_result, class_names_result, styles_result, selectors_result, rule_result}
 use Rattle.css_objects.specs.Results.{media_result}
@@ -28,7 +29,8 @@ use Rattle.css_objects.specs.Laws.{IsSoundKind, SelectorHasUtf8, SelectorsHaveUt
 use Rattle.css_objects.specs.Laws.{MatchHasUtf8, InheritedHasUtf8, MatchedHaveUtf8}
 use Rattle.css_objects.proofs.Options.{both_parts}
 use Rattle.css_objects.proofs.SheetIds.{the_sheet, sheet_read, sheet_text-utf8}
-use Rattle.css_objects.proofs.SoundKinds.{sound, whole_sound, text_sound, refined_sound, fields_sound, fitting_sound, weaker, list_sound, no_more, needed}
+use Rattle.css_objects.proofs.SoundKinds.{sound, whole_sound, text_sound, refined_sound, fields_sound, fitting_sound, weaker, list_sound}
+use Rattle.css_objects.proofs.SoundKinds.{no_more, needed}
 use Rattle.css_objects.proofs.SoundKinds.{optional, flagged, object_sound}
 
 -- ---- ids, origins and the empty list

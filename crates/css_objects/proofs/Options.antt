@@ -1,5 +1,6 @@
 -- Tests, and chains of options.
-use Rattle.std.proofs.Common.{◌≡◌, Bool, true, false, ◌&&◌, Option, Some, None, option_map, option_and_then, Result, Ok, Err, IfOk, ap, ◌∙◌, refl}
+use Rattle.std.proofs.Common.{◌≡◌, Bool, true, false, ◌&&◌, Option, Some, None, option_map, option_and_then, Result, Ok, Err, IfOk, ap, ◌∙◌}
+use Rattle.std.proofs.Common.{refl}
 use Rattle.cdp_json.specs.Rows.{left_with}
 
 pub both : {a b : Bool} → a ≡ true → b ≡ true → (a && b) ≡ true

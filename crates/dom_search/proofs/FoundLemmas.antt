@@ -13,7 +13,8 @@ use Rattle.selectors.specs.Forms.{SelectorForm}
 use Rattle.selectors.specs.Reading.{selectors_of}
 use Rattle.select_match.specs.Texts.{has_no_byte}
 use Rattle.select_match.specs.Matches.{selector_matches, list_matches}
-use Rattle.dom_search.specs.Found.{lowered, has_lowered, has_query, texts_of, has_text, some_selects, selects, finds, searched_nodes, found_in}
+use Rattle.dom_search.specs.Found.{lowered, has_lowered, has_query, texts_of, has_text, some_selects, selects, finds, searched_nodes}
+use Rattle.dom_search.specs.Found.{found_in}
 use Rattle.dom_search.specs.FoundLaws.{FindsBy, by_text, by_selector, IsFound, IsOutOf, at_end, passes, takes, FindsExactly}
 use Rattle.dom_search.specs.Merged.{merged}
 use Rattle.dom_search.proofs.MergedLemmas.{AreApartNodes, merged-filter}

@@ -92,7 +92,10 @@ module _ (p : Zipper → Bool) where
           → (is_next s (map serial_of (cond b (z ∷ filter p zs) (filter p zs))) ≡ false)
           × (left_behind s (map serial_of (cond b (z ∷ filter p zs) (filter p zs)))
           ≡ map serial_of (cond b (z ∷ filter p zs) (filter p zs)))
-      at true rest other = (other, ap (λ (b : Bool). cond b (map serial_of (filter p zs)) (serial_of z ∷ map serial_of (filter p zs))) other)
+      at true rest other = (
+        other,
+        ap (λ (b : Bool). cond b (map serial_of (filter p zs)) (serial_of z ∷ map serial_of (filter p zs))) other,
+      )
       at false rest other = rest
 
   module _ (test : Zipper → Bool) where
@@ -110,7 +113,8 @@ module _ (p : Zipper → Bool) where
     merges-one : (z : Zipper) (zs : List Zipper) → times (has_serial (serial_of z)) zs ≡ 0
         → merged test (map serial_of (filter p zs)) zs ≡ map serial_of (filter either zs)
         → (b : Bool)
-        → Merges (z ∷ zs) (map serial_of (cond b (z ∷ filter p zs) (filter p zs))) (cond (test z || b) (z ∷ filter either zs) (filter either zs))
+        → Merges (z ∷ zs) (map serial_of (cond b (z ∷ filter p zs) (filter p zs)))
+        (cond (test z || b) (z ∷ filter either zs) (filter either zs))
     merges-one z zs none rest true =
         let there = map serial_of (filter p zs) in
         (λ i. cond (test z || self z i)

@@ -14,7 +14,8 @@ and_false false = refl
 pub begins-short : (part text : List ℕ) → length text < length part → starts_with nat_eq text part ≡ false
 begins-short [] text h = absurd (omega (arith, h))
 begins-short (b ∷ part) [] h = refl
-begins-short (b ∷ part) (c ∷ text) h = ap (λ (t : Bool). nat_eq b c && t) (begins-short part text (omega (arith, h))) ∙ and_false (nat_eq b c)
+begins-short (b ∷ part) (c ∷ text) h =
+    ap (λ (t : Bool). nat_eq b c && t) (begins-short part text (omega (arith, h))) ∙ and_false (nat_eq b c)
 
 -- where it does not begin with the part, the text has it where the rest has it
 pub lowered-more : (part text : List ℕ) (i : ℕ) → i < length text → starts_with nat_eq (lowered (drop i text)) part ≡ false

@@ -25,6 +25,18 @@ two_counts sink_before sink_after link_before link_after =
       link_after = link_after;
     }
 
+-- the same of a source, and of a sink and a link
+abbrev pub three_counts : (source_before source_after : ℕ) → Counts → Counts
+three_counts source_before source_after others =
+    record {
+      source_before = source_before;
+      source_after = source_after;
+      sink_before = others.sink_before;
+      sink_after = others.sink_after;
+      link_before = others.link_before;
+      link_after = others.link_after;
+    }
+
 -- a run over a sink and a link stops by a fault of the one or the other only where its count rose
 abbrev pub RoseFor : Counts → Stop → Type 0
 RoseFor c stop = AmidRun (says (status_of stop)).phase (PartRose c (says (status_of stop)).failed)

@@ -16,7 +16,7 @@ ghost use Rattle.inspect_replay.specs.Answers.{FitsLimits, TellsLine, Took, IsHo
 ghost use Rattle.inspect_replay.specs.Answers.{InputTells, IsInputStop};
 ghost use Rattle.inspect_replay.specs.Answers.{ReadsAll, IsLate};
 ghost use Rattle.inspect_replay.specs.Says.{status_of};
-ghost use Rattle.inspect_replay.specs.Stops.{two_counts};
+ghost use Rattle.inspect_replay.specs.Stops.{two_counts, three_counts};
 ghost use Rattle.inspect_replay.specs.declared.stop.Stop.TheVariants.{ReadFault};
 ghost use Rattle.inspect_replay.specs.Serving.{ServeTook, IsServeStatus};
 ghost use Rattle.inspect_replay.specs.ServeReads.{ReadsInTurn};
@@ -196,22 +196,10 @@ fn replay<P: Panel, S: Source, K: Sink, L: Link>(
     // reading stops as soon as more than 2^26 bytes came
     ensures reads { ReadPart (S.left src.old) (S.left src.new) (2 ^ 26 + 1) }
     ensures nothing { WritesNothing result (K.taken out.old) (K.taken out.new) }
-    ensures cause { StatusRose (record {
-      source_before = S.faults src.old;
-      source_after = S.faults src.new;
-      sink_before = K.faults out.old;
-      sink_after = K.faults out.new;
-      link_before = L.faults link.old;
-      link_after = L.faults link.new;
-    }) result }
-    ensures answered { AnswersFaults (record {
-      source_before = S.faults src.old;
-      source_after = S.faults src.new;
-      sink_before = K.faults out.old;
-      sink_after = K.faults out.new;
-      link_before = L.faults link.old;
-      link_after = L.faults link.new;
-    }) result }
+    ensures cause { StatusRose (three_counts (S.faults src.old) (S.faults src.new)
+        (two_counts (K.faults out.old) (K.faults out.new) (L.faults link.old) (L.faults link.new))) result }
+    ensures answered { AnswersFaults (three_counts (S.faults src.old) (S.faults src.new)
+        (two_counts (K.faults out.old) (K.faults out.new) (L.faults link.old) (L.faults link.new))) result }
     ensures honest { L.honest link.old → L.honest link.new }
 {
     match read_input(alloc, src) {

@@ -162,7 +162,8 @@ visiting-at z steps around i d e left found b b0 k k0 lt same v s is_s a is_a ho
     k' is_k =
     let v1 = subst (λ (l : List Step). Visiting z (map step_seen steps) (map step_seen l) (drop i around) left found b b0 k k0)
     (drop_more steps i d lt) v in
-    let v2 = subst (λ (l : List Around). Visiting z (map step_seen steps) (step_seen (get_or steps i d) ∷ map step_seen (drop (i + 1) steps))
+    let v2 =
+    subst (λ (l : List Around). Visiting z (map step_seen steps) (step_seen (get_or steps i d) ∷ map step_seen (drop (i + 1) steps))
     l left found b b0 k k0) (drop_more around i e (omega arith)) v1 in
     let v3 = subst (λ (x : Step). Visiting z (map step_seen steps) (step_seen x ∷ map step_seen (drop (i + 1) steps))
     (get_or around i e ∷ drop (i + 1) around) left found b b0 k k0) (sym is_s) v2 in

@@ -1,7 +1,8 @@
 -- What a router answers can be tagged.
 use Rattle.std.proofs.Common.{◌++◌, sym, ap, ◌∙◌, subst}
 use Rattle.session_mux.specs.Routes.{routing}
-use Rattle.session_mux.specs.Tags.{message_frames, AreMessages}
+use Rattle.session_mux.specs.Tags.{AreMessages}
+use Rattle.cdp_messages.specs.Replies.{message_frames}
 use Rattle.call_examples.proofs.session_rows.take_frame.Goals as goal
 
 pub push_replies-requires : goal.push_replies-requires

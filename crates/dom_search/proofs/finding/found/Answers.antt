@@ -14,4 +14,5 @@ returns c =
     (c.as_bytes.ensures.value ∙ c.in_ok-part.ensures.ok) (c.as_slice.ensures.value ∙ c.in_ok-serials.ensures)
     (sym c.is_empty.ensures ∙ c.if-is_empty.false)
     ((c.in_ok-add_found.ensures {u = tt}).found
-    ∙ ap (λ (found : List ℕ). found ++ merged (has_text c.as_bytes.result.now) c.as_slice.result.now (below c.node_ref.result)) c.new-found.ensures.items)
+    ∙ ap (λ (found : List ℕ). found ++ merged (has_text c.as_bytes.result.now) c.as_slice.result.now (below c.node_ref.result))
+    c.new-found.ensures.items)

@@ -10,7 +10,8 @@ use Rattle.select_match.proofs.stepped.left_by_steps.Goals as goal
 pub leads_at-requires : goal.leads_at-requires
 leads_at-requires c =
     let cs = map compound_seen c.args.left.now in
-    let own = (c.in_ok-add_chain.ensures {u = tt}) ∙ ap (λ (l : List Step). map step_seen l ++ steps_of_chain cs) c.new-list.ensures.items in
+    let own = (c.in_ok-add_chain.ensures {u = tt})
+    ∙ ap (λ (l : List Step). map step_seen l ++ steps_of_chain cs) c.new-list.ensures.items in
     let steps = ap (λ (l : List Step). map step_seen l) c.as_slice.ensures.value ∙ own in
     let many = around-many c.args.node.now cs (map step_seen c.as_slice.result.now) c.as_slice-2.result.now steps
     (c.as_slice-2.ensures.value ∙ (c.in_ok-around.ensures {u = tt})) in
@@ -19,7 +20,8 @@ leads_at-requires c =
 pub returns : goal.returns
 returns c =
     let cs = map compound_seen c.args.left.now in
-    let own = (c.in_ok-add_chain.ensures {u = tt}) ∙ ap (λ (l : List Step). map step_seen l ++ steps_of_chain cs) c.new-list.ensures.items in
+    let own = (c.in_ok-add_chain.ensures {u = tt})
+    ∙ ap (λ (l : List Step). map step_seen l ++ steps_of_chain cs) c.new-list.ensures.items in
     let steps = ap (λ (l : List Step). map step_seen l) c.as_slice.ensures.value ∙ own in
     let many : length (map compound_seen c.args.left.now) ≡ suc (length c.args.left.now - 1) =
     omega (arith, length-map c.args.left.now compound_seen, c.requires) in

@@ -17,7 +17,8 @@ loop-other-preserved c =
     record {
       passing = passing-step c.args.node.now chains c.loop-other.before.items c.pop.new.self.items
           c.in-Some.other c.loop-other.around.items c.loop-other.invariant.passing c.in-Some.ensures.items c.visit.new.beside.items
-          (c.in_ok-_found.ensures.beside ∙ ap (λ (l : List Around). l ++ map (beside_of c.in-Some.other) chains) c.new-beside.ensures.items);
+          (c.in_ok-_found.ensures.beside
+          ∙ ap (λ (l : List Around). l ++ map (beside_of c.in-Some.other) chains) c.new-beside.ensures.items);
       faces = faces-further c.args.node.now chains c.loop-other.before.items c.pop.new.self.items c.in-Some.other c.loop-other.around.items
           c.loop-other.invariant.passing c.in-Some.ensures.items c.next_places.new.self c.in_ok-places.ensures.next;
     }
