@@ -46,7 +46,7 @@ fn take_frame(
 
 /// A reply, and below it the same in the session.
 fn push_replies(alloc: Global, reply: &[u8], answer: &mut Answer) -> Result<(), AllocError>
-    requires { AreMessages reply.now }
+    requires { ∥ AreMessages reply.now ∥₁ }
 {
     let mut tagged = Vec::new(alloc);
     tag(alloc, reply, TAGGED, &mut tagged)?;

@@ -10,3 +10,4 @@ pub mod ReadPlain
 pub mod LookupLaws
 pub mod WrittenTokens
 pub mod TakenTokens
+pub mod NumberTokens

@@ -1,9 +1,10 @@
 // Tokens taken one by one, each of the kind that is meant to come next.
-ghost use Rattle.std.specs.Prelude.{◌≡◌, ◌∷◌, ◌++◌, decimal, true, Some, IfOk, IfSome, MatchResult};
+ghost use Rattle.std.specs.Prelude.{◌≡◌, ℕ, ◌<◌, ◌∷◌, ◌++◌, decimal, true, false, Some, IfOk, IfErr, IfSome, IfNone, MatchResult};
+ghost use Rattle.node_tree.specs.Numbers.{number_limit, counted_limit};
 ghost use Rattle.json.specs.Token.{begin_object, end_object, begin_array, key, string, number as number_token};
 ghost use Rattle.cdp_json.specs.declared.tokens.ScanErr.TheVariants.{OtherForm};
 ghost use Rattle.cdp_json.specs.Kinds.{whole, text as text_kind, is_counted};
-ghost use Rattle.cdp_json.specs.Tokens.{field_tokens, IsOther, IsOtherKind};
+ghost use Rattle.cdp_json.specs.Tokens.{field_tokens, IsOther, IsOtherKind, IsNoWhole, IsNoWholeField, IsNoTextField};
 
 use json::{Reader, Token};
 use std::alloc::{AllocError, AllocFailed};
@@ -111,28 +112,42 @@ pub fn take_text<'a>(reader: &mut Reader<'a>) -> Result<&'a str, ScanErr>
 
 /// The member of that name, which is a text.
 pub fn take_text_field<'a>(reader: &mut Reader<'a>, name: &str) -> Result<&'a str, ScanErr>
-    ensures { IfOk result (λ t. reader.old ≡ field_tokens name.now (Some (text_kind.spell t.now)) ++ reader.new) }
+    ensures { MatchResult result (λ t. reader.old ≡ field_tokens name.now (Some (text_kind.spell t.now)) ++ reader.new)
+        (λ e. (e ≡ OtherForm) × IsNoTextField name.now reader.old) }
 {
     take_key(reader, name)?;
     take_text(reader)
 }
 
-// A number that is spelled as it is written.
-fn spelled(text: &str) -> Option<u64>
-    ensures { IfSome result (λ n. text.now ≡ decimal n) }
+// Whether the text is how the number is written.
+fn is_written(number: u64, text: &str) -> bool
+    ensures yes { result ≡ true → text.now ≡ decimal number }
+    ensures no { result ≡ false → text.now ≡ decimal number → ⊥ }
 {
-    let number = text.parse::<u64>().ok()?;
     let mut buffer = itoa::Buffer::new();
-    if buffer.format(number) == text {
+    buffer.format(number) == text
+}
+
+// A number that is spelled as it is written.
+#[tactic(auto, using(crate::proofs::NumberTokens::none_written, crate::proofs::NumberTokens::other_written))]
+fn spelled(text: &str) -> Option<u64>
+    ensures some { IfSome result (λ n. text.now ≡ decimal n) }
+    ensures none { IfNone result ((n : ℕ) → n < number_limit → text.now ≡ decimal n → ⊥) }
+{
+    let Ok(number) = text.parse::<u64>() else {
+        return None;
+    };
+    if is_written(number, text) {
         Some(number)
     } else {
         None
     }
 }
 
-/// A number, spelled as it is written.
+/// A number below 2^64, spelled as it is written.
 pub fn take_whole(reader: &mut Reader<'_>) -> Result<u64, ScanErr>
-    ensures { IfOk result (λ n. reader.old ≡ number_token (decimal n) ∷ reader.new) }
+    ensures { MatchResult result (λ n. reader.old ≡ number_token (decimal n) ∷ reader.new)
+        (λ e. (e ≡ OtherForm) × IsNoWhole reader.old) }
 {
     match reader.next() {
         Some(Token::Number(text)) => spelled(text).ok_or(ScanErr::OtherForm),
@@ -140,9 +155,10 @@ pub fn take_whole(reader: &mut Reader<'_>) -> Result<u64, ScanErr>
     }
 }
 
-/// The member of that name, which is a number spelled as it is written.
+/// The member of that name, which is a number below 2^64, spelled as it is written.
 pub fn take_whole_field(reader: &mut Reader<'_>, name: &str) -> Result<u64, ScanErr>
-    ensures { IfOk result (λ n. reader.old ≡ field_tokens name.now (Some (whole.spell n)) ++ reader.new) }
+    ensures { MatchResult result (λ n. reader.old ≡ field_tokens name.now (Some (whole.spell n)) ++ reader.new)
+        (λ e. (e ≡ OtherForm) × IsNoWholeField number_limit name.now reader.old) }
 {
     take_key(reader, name)?;
     take_whole(reader)
@@ -156,9 +172,11 @@ pub fn is_counted(number: u64) -> bool
 }
 
 /// The member of that name, which is a number from 0 to 2^53-1 spelled as it is written.
+#[tactic(auto, using(crate::proofs::NumberTokens::none_counted))]
 pub fn take_counted_field(reader: &mut Reader<'_>, name: &str) -> Result<u64, ScanErr>
     ensures read { IfOk result (λ n. reader.old ≡ field_tokens name.now (Some (whole.spell n)) ++ reader.new) }
     ensures fits { IfOk result (λ n. whole.fits n ≡ true) }
+    ensures other { IfErr result (λ e. (e ≡ OtherForm) × IsNoWholeField counted_limit name.now reader.old) }
 {
     let number = take_whole_field(reader, name)?;
     if is_counted(number) {

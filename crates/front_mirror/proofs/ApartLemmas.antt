@@ -11,7 +11,7 @@ use Rattle.front_mirror.specs.Front.{is_unique, is_fresh, clashes, any_node}
 use Rattle.front_mirror.proofs.ToldLemmas.{keys-seen}
 use Rattle.front_mirror.proofs.ViewLemmas.{times, tally-keys, times_distinct, tally_distinct}
 use Rattle.front_mirror.proofs.DistinctLemmas.{neither}
-use Rattle.front_mirror.proofs.BoolLemmas.{and_left, and_right, denied}
+use Rattle.client_views.proofs.BoolLemmas.{and_left, and_right, denied}
 
 -- each id and each serial stands at most once in the tree and the nodes together
 pub record Once (v : Nodes Seen) (n : Nodes Told) : Type 0 where

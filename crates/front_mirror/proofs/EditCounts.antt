@@ -23,7 +23,7 @@ use Rattle.std.proofs.lemmas.List.{drop_more}
 use Rattle.front_mirror.proofs.TableLemmas.{puts_is}
 use Rattle.front_mirror.specs.Tables.{PutsAt, with_entry, by_id, table_slots, table_trees, tree_in, KeepsMirror, IsTable}
 use Rattle.front_mirror.specs.Sizes.{noted, on_path, IsCounted, BecomesOn, shifted, leaving_trees}
-use Rattle.front_mirror.proofs.InsertedLemmas.{TakenOut}
+use Rattle.client_views.proofs.InsertedLemmas.{TakenOut}
 use Rattle.front_mirror.proofs.EditLemmas.{added, edit_added, edit_ready, mirror_of_edit, counted_none, bare-at}
 use Rattle.front_mirror.proofs.EditTurns.{ready_known, ready_suits}
 use Rattle.front_mirror.proofs.LookLemmas.{located}

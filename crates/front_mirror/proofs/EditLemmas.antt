@@ -30,9 +30,9 @@ use Rattle.front_mirror.proofs.ToldLemmas.{height-seen}
 use Rattle.front_mirror.proofs.ViewLemmas.{clear_three, shows_nodes}
 use Rattle.front_mirror.proofs.SpotLemmas.{spot_branch, find-spot, put-spot, depth-at}
 use Rattle.front_mirror.proofs.ApartLemmas.{once_new}
-use Rattle.front_mirror.proofs.InsertedLemmas.{Inserted, tally-inserted, height-inserted, inserted_after, taken_out, passes-at, all-at}
-use Rattle.front_mirror.proofs.InsertedLemmas.{all-inserted}
-use Rattle.front_mirror.proofs.BoolLemmas.{and_left, and_right, both}
+use Rattle.client_views.proofs.InsertedLemmas.{Inserted, tally-inserted, height-inserted, inserted_after, taken_out, passes-at, all-at}
+use Rattle.client_views.proofs.InsertedLemmas.{all-inserted}
+use Rattle.client_views.proofs.BoolLemmas.{and_left, and_right, both}
 
 -- ---- what is refused, and what is taken
 

@@ -24,7 +24,7 @@ use Rattle.front_mirror.specs.declared.faults.FrontKind.TheVariants.{UnknownNode
 use Rattle.front_mirror.specs.Tables.{mirror_row, by_id, by_serial, table_slots, table_ids, root_ids, planted, serials_listed, HasOwnIds}
 use Rattle.front_mirror.specs.Tables.{IsListed, IsTable, KeepsMirror, tree_in, opened_slot, with_child_id}
 use Rattle.front_mirror.specs.TableEdits.{Suits, IsEdited}
-use Rattle.front_mirror.proofs.BoolLemmas.{and_left, and_right}
+use Rattle.client_views.proofs.BoolLemmas.{and_left, and_right}
 use Rattle.front_mirror.proofs.SpotLemmas.{spot_branch, find-spot, put-spot}
 use Rattle.front_mirror.proofs.ApartLemmas.{once_new}
 use Rattle.front_mirror.proofs.EditLemmas.{clear_change, counted_none, bare-at, known-spot, ascending_label, mirror_of_edit, edit_ready}

@@ -16,7 +16,7 @@ use Rattle.front_mirror.specs.declared.panels.Change.{Change as PanelChange}
 use Rattle.front_mirror.specs.declared.panels.Change.TheVariants.{Removed}
 use Rattle.front_mirror.specs.Panels.{TreeTurns}
 use Rattle.front_mirror.specs.PanelTold.{tree_place, panel_change}
-use Rattle.front_mirror.proofs.BoolLemmas.{and_left}
+use Rattle.client_views.proofs.BoolLemmas.{and_left}
 use Rattle.front_mirror.proofs.PanelTurns.{told_turns, goes}
 
 -- the node that changes

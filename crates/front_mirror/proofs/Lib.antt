@@ -1,11 +1,9 @@
-pub mod BoolLemmas
 pub mod OutlineLemmas
 pub mod ToldLemmas
 pub mod DistinctLemmas
 pub mod ViewLemmas
 pub mod SpotLemmas
 pub mod ApartLemmas
-pub mod InsertedLemmas
 pub mod EditLemmas
 pub mod MessageLemmas
 pub mod FoldLemmas

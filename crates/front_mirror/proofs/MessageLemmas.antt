@@ -34,7 +34,7 @@ use Rattle.front_mirror.specs.Edits.{fits_edit, fits_effect}
 use Rattle.front_mirror.specs.Front.{FrontValue, reply_frame, method_waiting, root_fault, matched_told, with_matched, replied, with_root}
 use Rattle.front_mirror.specs.Front.{with_effect}
 use Rattle.front_mirror.specs.Front.{with_body, with_reply, with_message, take_frame}
-use Rattle.front_mirror.proofs.BoolLemmas.{and_left, both}
+use Rattle.client_views.proofs.BoolLemmas.{and_left, both}
 
 -- a result that is read has the forms of one, and so has what it changes
 body_effect : (method : List ℕ) (b : ReplyBody) → fits_body b ≡ true → fits_effect (effect_of method b) ≡ true

@@ -13,7 +13,7 @@ use Rattle.front_mirror.specs.declared.slots.Below.TheVariants.{Counted}
 use Rattle.front_mirror.specs.declared.table.Table.{Table}
 use Rattle.front_mirror.specs.Tables.{mirror_row, by_id, table_slots, table_ids, root_ids, TableTurned, TableGrown, TableCut, opened_slot}
 use Rattle.front_mirror.specs.Tables.{with_child_id, without_child_id, table_trees, without_slots, IsTable}
-use Rattle.front_mirror.proofs.InsertedLemmas.{Inserted, tally-inserted, height-inserted, inserted_after}
+use Rattle.client_views.proofs.InsertedLemmas.{Inserted, tally-inserted, height-inserted, inserted_after}
 use Rattle.front_mirror.proofs.TableLemmas.{AreNew}
 use Rattle.front_mirror.proofs.TurnLemmas.{here, after_keeps, goes, table_relabelled, table_grown, table_cut}
 

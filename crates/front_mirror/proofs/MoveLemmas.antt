@@ -1,5 +1,5 @@
 -- What each move makes of a front: from one view to the next, and over a course.
-use Rattle.std.proofs.Common.{◌≡◌, ◌≤◌, ℕ, zero, suc, Bool, true, false, cond, codes, List, [], ◌∷◌, ◌++◌, map, Option, Some, None, Result}
+use Rattle.std.proofs.Common.{◌≡◌, ◌≤◌, ℕ, Bool, true, false, cond, codes, List, [], ◌∷◌, ◌++◌, map, Option, Some, None, Result}
 use Rattle.std.proofs.Common.{Ok, Err}
 use Rattle.std.proofs.Common.{refl, sym, ap, ◌∙◌, subst, append_assoc, append-nil, arith}
 use Rattle.std.specs.List.{flat_map, list_all}
@@ -18,14 +18,14 @@ use Rattle.client_views.specs.declared.effects.Effect.{Effect}
 use Rattle.client_views.specs.declared.effects.Effect.TheVariants as effect
 use Rattle.client_views.specs.Effects.{effect_of}
 use Rattle.dom_objects.specs.Told.{told_branch, seen-told}
-use Rattle.cdp_messages.specs.Events.{News, document_updated, paused, sheet_added, sheet_changed, sheet_removed, fits_news}
+use Rattle.cdp_messages.specs.Events.{News, document_updated, paused, sheet_added, sheet_changed, sheet_removed}
 use Rattle.cdp_messages.specs.Refusals.{code_of, refusal_words}
 use Rattle.cdp_messages.specs.Replies.{fault, event, down_of, body_data, fits_body, reply_text, event_text, refused_text}
 use Rattle.dom_objects.specs.Tellable.{suits_tree}
 use Rattle.cdp_messages.specs.Laws.{BodyHasUtf8, body_height, answers}
 use Rattle.client_views.specs.Moves as move
-use Rattle.client_views.specs.Moves.{Move, change_news, move_text, answered_by, paused_nodes, AreShown, suits_view, IsTellable, CanBeTold}
-use Rattle.client_views.specs.Moves.{target_nodes, ChangesNode, IsPlainReply, Course, ends, goes}
+use Rattle.client_views.specs.Moves.{Move, change_news, move_text, answered_by, paused_nodes, AreShown, IsTellable, CanBeTold}
+use Rattle.client_views.specs.Moves.{ChangesNode, IsPlainReply, Course, ends, goes}
 use Rattle.css_objects.specs.Sheets.{is_sheet}
 use Rattle.client_views.specs.Views.{ShownSheet, sheet_number, AreSheets, text_units, sheet_header, shows_sheet, shown_text, sheets_without}
 use Rattle.client_views.specs.Views.{sheets_with_text, is_distinct, View}
@@ -46,11 +46,14 @@ use Rattle.front_mirror.specs.Laws.{KnowsSheets, Has, IsAskOf, is_quiet, IsReply
 use Rattle.front_mirror.specs.Laws.{without_all, asks_after, kept_fault, kept_after, kept_after_all, pauses_after, matched_after, IsTaken}
 use Rattle.front_mirror.specs.Laws.{MoveGives, AreAwaited, asks_after_all, AreTaken, CourseGives, IsAnswer, InTurn, rests, tells, meets}
 use Rattle.front_mirror.specs.Laws.{TurnsAreAwaited}
-use Rattle.front_mirror.proofs.ViewLemmas.{height-told, root_fault-told}
-use Rattle.front_mirror.proofs.FollowLemmas.{CanTellNews, changed_news, told_change_news, texts-told, shown_id}
-use Rattle.front_mirror.proofs.KnownSheets.{known-has, known-added, known-without, known-rewritten, known-fetched, apart_last}
-use Rattle.front_mirror.proofs.KnownSheets.{last_is_sheet, shown_is_sheet, shown_utf8, added_news_fit, changed_news_fit, removed_news_fit}
-use Rattle.front_mirror.proofs.BoolLemmas.{and_left, both}
+use Rattle.client_views.proofs.ToldChanges.{height-told, CanTellNews, told_change_news, texts-told}
+use Rattle.client_views.proofs.ToldSheets.{apart_last, last_is_sheet, shown_is_sheet, shown_utf8, added_news_fit, changed_news_fit}
+use Rattle.client_views.proofs.ToldSheets.{removed_news_fit}
+use Rattle.client_views.proofs.MoveTexts.{pause_fits}
+use Rattle.front_mirror.proofs.ViewLemmas.{root_fault-told}
+use Rattle.front_mirror.proofs.FollowLemmas.{changed_news}
+use Rattle.front_mirror.proofs.KnownSheets.{known-has, known-added, known-without, known-rewritten, known-fetched}
+use Rattle.client_views.proofs.BoolLemmas.{and_left, both}
 
 abbrev taken_well : FrontValue → Result FrontValue FrontKind
 taken_well v = Ok v
@@ -97,20 +100,6 @@ gives_clear w v is knows = record {
   matched = same_nothing v.matched;
   taken = refl;
 }
-
-target_fits : (target : ℕ) (u : Nodes Seen) → AreShown (target_nodes target) u → suits_view u ≡ true → is_counted target ≡ true
-target_fits zero u are s = refl
-target_fits (suc n) u are s = (shown_id (suc n) u are.0 s).counted
-
-pause_fits : (why : PauseData) (u : Nodes Seen) → AreShown (paused_nodes why) u → suits_view u ≡ true → fits_news (paused why) ≡ true
-pause_fits (pause.Subtree watched target true) u are s =
-    let a = shown_id watched u are.0 s in
-    both (both (both a.counted a.positive) (both (target_fits target u are.1 s) refl)) refl
-pause_fits (pause.Subtree watched target false) u are s =
-    let a = shown_id watched u are.0 s in
-    both (both (both a.counted a.positive) (both (target_fits target u are.1 s) refl)) refl
-pause_fits (pause.Attribute watched) u are s = let a = shown_id watched u are.0 s in both (both (both a.counted a.positive) refl) refl
-pause_fits (pause.Removed watched) u are s = let a = shown_id watched u are.0 s in both (both (both a.counted a.positive) refl) refl
 
 all_shown : (ids : List ℕ) (u : Nodes Seen) → AreShown ids u → list_all (is_shown u) ids ≡ true
 all_shown [] u are = refl

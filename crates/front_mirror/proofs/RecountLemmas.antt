@@ -10,9 +10,9 @@ use Rattle.node_tree.proofs.ChangeLemmas.{at-back, tally_in-at}
 use Rattle.client_views.specs.Moves.{Change, shows, inserts, removes, counts, sets, drops, says, changed, suits_change}
 use Rattle.client_views.specs.Moves.{has_tree}
 use Rattle.front_mirror.specs.Sizes.{noted, on_path, IsCounted, BecomesOn, shifted}
-use Rattle.front_mirror.proofs.BoolLemmas.{and_left, and_right}
+use Rattle.client_views.proofs.BoolLemmas.{and_left, and_right}
 use Rattle.front_mirror.proofs.EditLemmas.{added}
-use Rattle.front_mirror.proofs.InsertedLemmas.{Inserted, first, later, tally-inserted, inserted_after, taken_out, TakenOut}
+use Rattle.client_views.proofs.InsertedLemmas.{Inserted, first, later, tally-inserted, inserted_after, taken_out, TakenOut}
 use Rattle.front_mirror.proofs.ViewLemmas.{tally-keys, absent_times}
 use Rattle.front_mirror.proofs.SizeLemmas.{found-there, find-here, find-below, find-after, finds, top, below, after}
 use Rattle.front_mirror.proofs.CountedLemmas.{Comes, recounted, counted-outside}

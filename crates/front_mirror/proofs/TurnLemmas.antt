@@ -18,7 +18,7 @@ use Rattle.front_mirror.specs.declared.table.Table.{Table}
 use Rattle.front_mirror.specs.IdLists.{id_behind, id_after, without_id}
 use Rattle.front_mirror.specs.Tables.{mirror_row, by_id, by_serial, table_slots, table_ids, IsListed, root_ids, planted, serials_listed}
 use Rattle.front_mirror.specs.Tables.{without_slots, PutsAt, TableTurned, HasOwnIds, tree_in, IsTable}
-use Rattle.front_mirror.proofs.InsertedLemmas.{Inserted, first, later, tally-inserted}
+use Rattle.client_views.proofs.InsertedLemmas.{Inserted, first, later, tally-inserted}
 use Rattle.front_mirror.proofs.TableLemmas.{planted-outside, planted-own, planted-only, planted-keeps, planted-files, AreNew, gone-outside}
 use Rattle.front_mirror.proofs.TableLemmas.{gone-inside}
 use Rattle.front_mirror.proofs.LookLemmas.{Located, located, some_there}

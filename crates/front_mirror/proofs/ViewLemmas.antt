@@ -16,7 +16,8 @@ use Rattle.front_mirror.specs.Front.{is_kin, is_unique, root_fault}
 use Rattle.dom_objects.proofs.NodeTrees.{fitting_parts, tree_parts}
 use Rattle.front_mirror.proofs.DistinctLemmas.{absent_and}
 use Rattle.front_mirror.proofs.ToldLemmas.{height-seen, keys-seen}
-use Rattle.front_mirror.proofs.BoolLemmas.{and_left, and_right}
+use Rattle.client_views.proofs.ToldChanges.{height-told}
+use Rattle.client_views.proofs.BoolLemmas.{and_left, and_right}
 
 -- ---- how often a key comes
 
@@ -204,10 +205,6 @@ is_kin-told p (node r c t) = let e : (p == p) ≡ true = grind arith in rw (e, i
 pub keys-told : (key : Seen → ℕ) (p : ℕ) (n : Nodes Seen) → keys (λ r. key r.seen) (told_nodes p n) ≡ keys key n
 keys-told key p none = refl
 keys-told key p (node r c t) = rw (keys-told key r.id c, keys-told key p t) refl
-
-pub height-told : (p : ℕ) (n : Nodes Seen) → height (told_nodes p n) ≡ height n
-height-told p none = refl
-height-told p (node r c t) = rw (height-told r.id c, height-told p t) refl
 
 subst_times : (key : Seen → ℕ) (n : Nodes Seen) (x : ℕ) → tally key x n ≤ 1 → times x (keys key n) ≤ 1
 subst_times key n x h = let e = tally-keys key x n in omega arith

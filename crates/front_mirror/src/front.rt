@@ -341,8 +341,9 @@ impl<P: Panel> Front<P> {
 
     /// What the open panel at a place of those handed in shows, counted from 1.
     pub fn panel_text(&self, place: usize) -> Option<&str>
-        ensures { self.now.dead ≡ false → option_map (λ t. t.now) result
+        ensures text { self.now.dead ≡ false → option_map (λ t. t.now) result
             ≡ option_map (λ k. face k self.now.value.tree) (open_at place self.now.panels) }
+        ensures open { is_some result ≡ is_some (open_at place self.now.panels) }
     {
         match open_at(self.panels.as_slice(), place) {
             Some(panel) => Some(panel.text()),

@@ -5,7 +5,6 @@ pub mod Replies
 pub mod Growing
 pub mod Messages
 pub mod PlainAsks
-pub mod MoveTexts
 pub mod StylesTold
 pub mod StepsTaken
 pub mod ShownSheets

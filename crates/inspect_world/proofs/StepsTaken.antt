@@ -5,7 +5,7 @@ use Rattle.std.specs.Prelude.{⊤}
 use Rattle.std.specs.List.{flat_map}
 use Rattle.std.specs.Option.{option_to_list}
 use Rattle.std.proofs.lemmas.List.{map-append}
-use Rattle.pipe_frames.specs.Frames.{IsText, Frames, frames_of}
+use Rattle.pipe_frames.specs.Frames.{Frames, frames_of}
 use Rattle.pipe_frames.proofs.FrameLemmas.{frames_of-framed}
 use Rattle.cdp_messages.specs.declared.command.Asked.{Asked}
 use Rattle.cdp_messages.specs.declared.command.Refused.{Refused}
@@ -17,7 +17,7 @@ use Rattle.client_views.specs.declared.effects.Effect.TheVariants.{NothingElse}
 use Rattle.client_views.specs.Effects.{effect_of_method, effect_of}
 use Rattle.client_views.specs.Views.{View}
 use Rattle.client_views.specs.Moves.{Move, change, clear, met, added, dropped, rewritten, root, texted, replied, all_off, sheets_off}
-use Rattle.client_views.specs.Moves.{failed, move_text, frames_of_moves, tells_view, CanBeTold, Moves, Course, ends, goes, answered_by}
+use Rattle.client_views.specs.Moves.{failed, move_text, frames_of_moves, tells_view, Moves, Course, ends, goes, answered_by}
 use Rattle.front_mirror.specs.declared.replies.Ask.{Ask}
 use Rattle.front_mirror.specs.declared.replies.Kept.{Kept}
 use Rattle.front_mirror.specs.declared.faults.FrontKind.{FrontKind}
@@ -35,15 +35,10 @@ use Rattle.inspect_world.specs.Fits.{ask_with}
 use Rattle.inspect_world.specs.ShownReplies.{ShownReply, reply_shown}
 use Rattle.inspect_world.proofs.Messages.{AskedAs, commanded, refused_as}
 use Rattle.front_mirror.proofs.MoveLemmas.{course_gives, turns_are_awaited}
-use Rattle.inspect_world.proofs.MoveTexts.{move-is-text}
+use Rattle.client_views.proofs.MoveTexts.{AreTexts, course-texts}
 use Rattle.inspect_world.proofs.PlainAsks.{ArePlain, kept-plain, without_all-plain}
 
 -- ---- the frames of moves
-
--- the messages are texts without a zero byte
-abbrev pub AreTexts : List Move → Type 0
-AreTexts [] = ⊤
-AreTexts (m ∷ ms) = IsText (move_text m) × AreTexts ms
 
 pub frames_of-moves : (ms : List Move) → AreTexts ms → frames_of (frames_of_moves ms) ≡ record { whole = map move_text ms; rest = [] }
 unfolding frames_of
@@ -51,15 +46,6 @@ frames_of-moves [] texts = refl
 frames_of-moves (m ∷ ms) texts =
     frames_of-framed (move_text m) (frames_of_moves ms) texts.0
     ∙ ap (λ (fs : Frames). record { whole = move_text m ∷ fs.whole; rest = fs.rest }) (frames_of-moves ms texts.1)
-
-course-start : (ms : List Move) (u w : View) → Course ms u w → CanBeTold u
-course-start _ _ _ (ends v here) = here
-course-start _ _ _ (goes m ms u v w here moves later) = here
-
-pub course-texts : (ms : List Move) (u w : View) → Course ms u w → AreTexts ms
-course-texts _ _ _ (ends v here) = tt
-course-texts _ _ _ (goes m ms u v w here moves later) =
-    (move-is-text m u v here (course-start ms v w later) moves, course-texts ms v w later)
 
 -- a reply that leaves the view as it is tells neither a document nor the text of a sheet
 abbrev pub IsQuiet : Move → Type 0

@@ -31,7 +31,8 @@ use Rattle.inspect_world.specs.RunStates.{ToldStyles, styles_answered}
 use Rattle.inspect_world.specs.Fits.{ask_of_frame, Sendable, is_ask, is_bare, kept_styles}
 use Rattle.inspect_world.proofs.Messages.{AskedAs, commanded, refused_as, asked-ask, fetch-method}
 use Rattle.inspect_world.proofs.FetchTold.{FetchAnswered, not_told, is_told, fetch-answered}
-use Rattle.inspect_world.proofs.StepsTaken.{AreQuiet, course-quiet, course-texts, frames_of-moves, Taken, taken, tells-all, by-asked}
+use Rattle.client_views.proofs.MoveTexts.{course-texts}
+use Rattle.inspect_world.proofs.StepsTaken.{AreQuiet, course-quiet, frames_of-moves, Taken, taken, tells-all, by-asked}
 use Rattle.inspect_world.proofs.StepsTaken.{by-failed}
 use Rattle.inspect_world.proofs.StepsTaken.{by-refusal}
 use Rattle.inspect_world.proofs.StylesTold.{styles-told, quiet-styles}

@@ -38,9 +38,9 @@ use Rattle.client_views.specs.Views.{View, AreSheets, sheet_header}
 use Rattle.client_views.specs.Moves as move
 use Rattle.client_views.specs.Moves.{Move, Moves, change_news, message_of, paused_nodes, target_nodes, AreShown, suits_view, IsTellable}
 use Rattle.client_views.specs.Moves.{CanBeTold}
-use Rattle.front_mirror.proofs.ViewLemmas.{height-told}
-use Rattle.front_mirror.proofs.FollowLemmas.{CanTellNews, told_change_news, texts-told, shown_id}
-use Rattle.front_mirror.proofs.KnownSheets.{last_is_sheet, shown_is_sheet, shown_utf8, added_news_fit, changed_news_fit, removed_news_fit}
+use Rattle.client_views.proofs.ToldChanges.{height-told}
+use Rattle.client_views.proofs.ToldChanges.{CanTellNews, told_change_news, texts-told, shown_id}
+use Rattle.client_views.proofs.ToldSheets.{last_is_sheet, shown_is_sheet, shown_utf8, added_news_fit, changed_news_fit, removed_news_fit}
 
 -- a value whose text is read as it again
 pub record ReadsAgain (d : Data) : Type 0 where

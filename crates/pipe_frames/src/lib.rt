@@ -12,7 +12,6 @@
 #![tactic(auto)]
 
 mod channel;
-mod counted;
 mod frames;
 mod given;
 mod lying;
@@ -22,7 +21,6 @@ mod schedule;
 mod standard;
 mod whole;
 
-pub use counted::put_up_counted;
 pub use frames::{Splitter, frames_law, put_frame};
 pub use lying::LyingLink;
 pub use memory::{MemLink, MemSink, MemSource};

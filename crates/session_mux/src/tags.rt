@@ -48,7 +48,7 @@ fn frames_of(alloc: Global, bytes: &[u8]) -> Result<Splitter, AllocError>
 /// Appends the frames that the writers of messages wrote, each as a frame of the session of that number: with its `sessionId` as
 /// the last property. After want of memory nothing is appended.
 pub fn tag(alloc: Global, frames: &[u8], session: u64, out: &mut Vec<u8>) -> Result<(), AllocError>
-    requires messages { AreMessages frames.now }
+    requires messages { ∥ AreMessages frames.now ∥₁ }
     ensures tagged { (told : AreMessages frames.now)
         → OnOk result (out.new.items ≡ out.old.items ++ session_frames session told.messages) }
     ensures err { OnErr result (out.new.items ≡ out.old.items) }

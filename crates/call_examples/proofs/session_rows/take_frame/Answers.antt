@@ -8,5 +8,5 @@ use Rattle.call_examples.proofs.session_rows.take_frame.Goals as goal
 pub push_replies-requires : goal.push_replies-requires
 push_replies-requires c =
     let said = message_frames (routing c.args.frame.now c.args.router.now).said in
-    subst AreMessages (sym (c.deref.ensures.value ∙ c.in_ok-route.ensures.said ∙ ap (λ xs. xs ++ said) c.new-reply.ensures.items))
-    (c.route_law.ensures.messages c.args.frame.now c.args.router.now)
+    ∣ subst AreMessages (sym (c.deref.ensures.value ∙ c.in_ok-route.ensures.said ∙ ap (λ xs. xs ++ said) c.new-reply.ensures.items))
+    (c.route_law.ensures.messages c.args.frame.now c.args.router.now) ∣₁

@@ -1,4 +1,4 @@
-use Rattle.std.proofs.Common.{◌≡◌, ap, sym, ◌∙◌, option_map, option_copied, Some}
+use Rattle.std.proofs.Common.{◌≡◌, ap, sym, ◌∙◌, option_map, option_copied, Some, is_some}
 use Rattle.front_mirror.specs.Panels.{face}
 use Rattle.front_mirror.specs.Front.{FrontState}
 use Rattle.front_mirror.specs.Known.{known_value}
@@ -6,8 +6,8 @@ use Rattle.front_mirror.specs.Places.{open_at}
 use Rattle.front_mirror.proofs.PlaceLemmas.{open-map, open-all}
 use Rattle.front_mirror.proofs.front.Front.panel_text.Goals as goal
 
-pub returns-in-Some : goal.returns-in-Some
-returns-in-Some g c = λ alive.
+pub returns-in-Some-clause-text : goal.returns-in-Some-clause-text
+returns-in-Some-clause-text g c = λ alive.
     let tree = ap (λ (v : FrontState). v.value.tree) c.self.view_is in
     let here = sym c.open_at.ensures ∙ ap option_copied c.in-Some.is in
     let there = ap (open_at c.args.place) (sym c.as_slice.ensures.value) ∙ here in
@@ -19,9 +19,22 @@ returns-in-Some g c = λ alive.
     ∙ ap (option_map (λ k. face k (known_value c.self.inside.known).tree))
     (open-map g.P.Panel.kind_of c.args.place c.self.inside.panels.items ∙ ap (option_map g.P.Panel.kind_of) there))
 
-pub returns-in-None : goal.returns-in-None
-returns-in-None g c = λ alive.
+pub returns-in-None-clause-text : goal.returns-in-None-clause-text
+returns-in-None-clause-text g c = λ alive.
     let there = ap (open_at c.args.place) (sym c.as_slice.ensures.value) ∙ sym c.open_at.ensures ∙ ap option_copied c.in-None.is in
     sym (ap (λ (v : FrontState). option_map (λ k. face k v.value.tree) (open_at c.args.place v.panels)) (sym c.self.view_is)
     ∙ ap (option_map (λ k. face k (known_value c.self.inside.known).tree))
     (open-map g.P.Panel.kind_of c.args.place c.self.inside.panels.items ∙ ap (option_map g.P.Panel.kind_of) there))
+
+pub returns-in-Some-clause-open : goal.returns-in-Some-clause-open
+returns-in-Some-clause-open g c =
+    let here = sym c.open_at.ensures ∙ ap option_copied c.in-Some.is in
+    let there = ap (open_at c.args.place) (sym c.as_slice.ensures.value) ∙ here in
+    sym (ap (λ (v : FrontState). is_some (open_at c.args.place v.panels)) (sym c.self.view_is)
+    ∙ ap is_some (open-map g.P.Panel.kind_of c.args.place c.self.inside.panels.items ∙ ap (option_map g.P.Panel.kind_of) there))
+
+pub returns-in-None-clause-open : goal.returns-in-None-clause-open
+returns-in-None-clause-open g c =
+    let there = ap (open_at c.args.place) (sym c.as_slice.ensures.value) ∙ sym c.open_at.ensures ∙ ap option_copied c.in-None.is in
+    sym (ap (λ (v : FrontState). is_some (open_at c.args.place v.panels)) (sym c.self.view_is)
+    ∙ ap is_some (open-map g.P.Panel.kind_of c.args.place c.self.inside.panels.items ∙ ap (option_map g.P.Panel.kind_of) there))

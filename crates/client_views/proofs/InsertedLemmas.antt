@@ -5,7 +5,7 @@ use Rattle.node_tree.specs.Nodes.{Nodes, none, node, Branch, height}
 use Rattle.node_tree.specs.Keys.{tally, tally_in, At, here, within, past}
 use Rattle.node_tree.specs.Seen.{Seen}
 use Rattle.client_views.specs.Moves.{put_behind, put_after, without_tree, has_tree}
-use Rattle.front_mirror.proofs.BoolLemmas.{and_left, and_right, both}
+use Rattle.client_views.proofs.BoolLemmas.{and_left, and_right, both}
 
 -- the second trees are the first with w among them
 pub data Inserted (w : Branch Seen) : Nodes Seen → Nodes Seen → Type 0 where

@@ -1,0 +1,5 @@
+pub mod BoolLemmas
+pub mod InsertedLemmas
+pub mod ToldChanges
+pub mod ToldSheets
+pub mod MoveTexts
