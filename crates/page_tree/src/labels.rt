@@ -133,7 +133,11 @@ pub(crate) fn doctype_label(alloc: Global, name: &str) -> Result<NodeLabel, Allo
 }
 
 /// The label of the node that a value spells, in any of the four forms; a doctype's only right below the document.
-pub(crate) fn read_label(alloc: Global, top: bool, v: &Value) -> Result<Option<NodeLabel>, AllocError>
+pub(crate) fn read_label(
+    alloc: Global,
+    top: bool,
+    v: &Value,
+) -> Result<Option<NodeLabel>, AllocError>
     ensures { IfOk result (λ label. label ≡ label_spelled top (view v.now)) }
 {
     if let Some(label) = element_label(alloc, v)? {
