@@ -236,7 +236,7 @@ gap_of level after some place text _ (piece_and {ts = more} p front rest is len 
 -- ---- what is known of such a text before a `{`
 
 -- the codes of white space
-white_codes : (P : ℕ → Type 0) → P 32 → P 9 → P 10 → P 12 → P 13 → (c : ℕ) → is_white c ≡ true → P c
+pub white_codes : (P : ℕ → Type 0) → P 32 → P 9 → P 10 → P 12 → P 13 → (c : ℕ) → is_white c ≡ true → P c
 white_codes P space tab line feed back c e =
     by (c == 32) (c == 9) (c == 10) (c == 12) (c == 13) refl refl refl refl refl
   where

@@ -59,3 +59,7 @@ pub mod PutPieces
 pub mod OldPreludes
 pub mod MadePreludes
 pub mod SpotStarts
+pub mod MediaSpots
+pub mod KeyNames
+pub mod OldMedia
+pub mod NewMedia

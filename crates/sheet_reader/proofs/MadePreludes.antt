@@ -58,22 +58,23 @@ use Rattle.sheet_reader.proofs.TextMoves.{pieces_moved, same_part, whole_tokens}
 use Rattle.sheet_reader.proofs.WordMoves.{SamePart, list_same, range_same}
 
 -- ---- the place between parts, where the prelude begins
-record Placed (text : List ℕ) (front : List Token) : Type 0 where
-  a : Option ℕ
-  j : ℕ
-  rs : List RuleForm
-  own : List Token
-  lead : List Token
-  is : front ≡ own ++ lead
-  spot : Spot text None 0 a j rs own
-  passed : AllPassed (level_of a) lead
-  ends : (own ≡ []) ⊎ EndsMarked own
+pub record Placed (text : List ℕ) (front : List Token) : Type 0 where
+  pub a : Option ℕ
+  pub j : ℕ
+  pub rs : List RuleForm
+  pub own : List Token
+  pub lead : List Token
+  pub is : front ≡ own ++ lead
+  pub spot : Spot text None 0 a j rs own
+  pub passed : AllPassed (level_of a) lead
+  pub ends : (own ≡ []) ⊎ EndsMarked own
 
-placed_at : (text : List ℕ) (a : Option ℕ) (j : ℕ) (front : List Token) → Strip text None 0 a j front → Placed text front
-placed_at text a j front s = by s refl refl
+pub placed_with : (text : List ℕ) (a : Option ℕ) (j : ℕ) (front : List Token) → Strip text None 0 a j front
+    → (l : Placed text front) × (l.j ≡ j)
+placed_with text a j front s = by s refl refl
   where
-    by : {around b : Option ℕ} {k g : ℕ} → Strip text around k b g front → around ≡ None → k ≡ 0 → Placed text front
-    by {around = around} {k = k} (bare _ all) e f =
+    by : {around b : Option ℕ} {k g : ℕ} → Strip text around k b g front → around ≡ None → k ≡ 0 → (l : Placed text front) × (l.j ≡ g)
+    by {around = around} {k = k} (bare _ all) e f = (
         record {
           a = around;
           j = k;
@@ -85,8 +86,10 @@ placed_at text a j front s = by s refl refl
               (subst (λ (n : ℕ). Spot text around n around k [] []) f at_spot);
           passed = all;
           ends = inl refl;
-        }
-    by {around = around} {b = b} {g = g} (marked _ own lead rs is ends spot all) e f =
+        },
+        refl,
+    )
+    by {around = around} {b = b} {g = g} (marked _ own lead rs is ends spot all) e f = (
         record {
           a = b;
           j = g;
@@ -98,7 +101,12 @@ placed_at text a j front s = by s refl refl
               (subst (λ (n : ℕ). Spot text around n b g rs own) f spot);
           passed = all;
           ends = inr ends;
-        }
+        },
+        refl,
+    )
+
+pub placed_at : (text : List ℕ) (a : Option ℕ) (j : ℕ) (front : List Token) → Strip text None 0 a j front → Placed text front
+placed_at text a j front s = (placed_with text a j front s).0
 
 -- pieces up to a mark, or none, are whole before anything
 none_whole : (after other front : List ℕ) (own : List Token) → own ≡ [] → IsWholeBefore after 0 front own → IsWholeBefore other 0 front own
@@ -124,7 +132,7 @@ mark_whole text front after own is whole m other =
     by ts cuts tokens.Semicolon e h = mark_part 59 tokens.Semicolon refl semi_piece semi_first text m.before m.last ts cuts e
     by ts cuts _ e h = absurd (cc)
 
-ends_whole : (text front after : List ℕ) (own : List Token) → text ≡ front ++ after → IsWholeBefore after 0 front own
+pub ends_whole : (text front after : List ℕ) (own : List Token) → text ≡ front ++ after → IsWholeBefore after 0 front own
     → (own ≡ []) ⊎ EndsMarked own → (other : List ℕ) → IsWholeBefore other 0 front own
 ends_whole text front after own is whole (inl none) other = none_whole after other front own none whole
 ends_whole text front after own is whole (inr m) other = mark_whole text front after own is whole m other
@@ -173,7 +181,7 @@ new_ends f ts trail brace curly passed ends rest =
     let here = stop_here stops.Block [] brace rest (ap (stops_at stops.Block) curly) in
     omega (arith, whole, front, own, on, here, length-append (map (raised f) ts) trail, map_length (raised f) ts)
 
-curly_on : (bs : List Bracket) (brace : Token) (rest : List Token) → brace.kind ≡ tokens.OpenCurly
+pub curly_on : (bs : List Bracket) (brace : Token) (rest : List Token) → brace.kind ≡ tokens.OpenCurly
     → 1 ≤ until_in stops.BlockEnd bs (brace ∷ rest)
 curly_on bs brace rest curly =
     let on =
@@ -270,16 +278,16 @@ brace_pieces : (place : ℕ) (rest : List ℕ) → pieces_after place 0 (123 ∷
 brace_pieces place rest = piece_first (123 ∷ rest) place (piece tokens.OpenCurly 1) (open_piece rest) (omega arith) (omega arith)
 
 -- what stands behind the text put in
-record TailPieces (place : ℕ) (tail : List ℕ) : Type 0 where
-  trail : List Token
-  brace : Token
-  zs : List Token
-  is : pieces_after place 0 tail ≡ trail ++ brace ∷ zs
-  blank : AllPassed Inner trail
-  curly : brace.kind ≡ tokens.OpenCurly
-  far : place ≤ brace.end
+pub record TailPieces (place : ℕ) (tail : List ℕ) : Type 0 where
+  pub trail : List Token
+  pub brace : Token
+  pub zs : List Token
+  pub is : pieces_after place 0 tail ≡ trail ++ brace ∷ zs
+  pub blank : AllPassed Inner trail
+  pub curly : brace.kind ≡ tokens.OpenCurly
+  pub far : place ≤ brace.end
 
-tail_pieces : (place : ℕ) (gap rest : List ℕ) → Gap Inner gap → TailPieces place (gap ++ 123 ∷ rest)
+pub tail_pieces : (place : ℕ) (gap rest : List ℕ) → Gap Inner gap → TailPieces place (gap ++ 123 ∷ rest)
 tail_pieces place gap rest g =
     let k = (skips Inner (123 ∷ rest) refl gap g place).start in
     record {
@@ -293,7 +301,7 @@ tail_pieces place gap rest g =
     }
 
 -- the text put in, and what stands behind it
-put_on : (put : List ℕ) (n : ℕ) (main behind : List ℕ) (m : ℕ) (ts : List Token) → IsWholeBefore behind m main ts
+pub put_on : (put : List ℕ) (n : ℕ) (main behind : List ℕ) (m : ℕ) (ts : List Token) → IsWholeBefore behind m main ts
     → pieces_after (n + m) 0 (main ++ behind) ≡ map (raised (λ x. n + x)) ts ++ pieces_after (n + (m + length main)) 0 behind
 put_on put n main behind m ts whole =
     pieces_moved n m 0 (main ++ behind)
@@ -350,7 +358,7 @@ pub record MadePrelude (text put : List ℕ) (old : Range) : Type 0 where
   pub body : old.start ≤ rule.body.start
   pub before : AllByRecursion (StartsBy old.start) rs
 
-front_same : (front x y : List ℕ) → SamePart (front ++ x) (front ++ y) (λ n. n) 0 (length front)
+pub front_same : (front x y : List ℕ) → SamePart (front ++ x) (front ++ y) (λ n. n) 0 (length front)
 front_same front x y =
     let both : SamePart ([] ++ (front ++ x)) ([] ++ (front ++ y)) (λ n. n) 0 (0 + length front) =
     same_part [] front x [] y (λ n. n) (λ n fits. refl) in

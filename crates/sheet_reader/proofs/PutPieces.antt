@@ -218,6 +218,12 @@ words_end text main last r solid e =
     let l = last_word text false main last solid in
     range_last l.before (word_of text l.spaced last) r (sym (ap range_of l.is) ∙ e)
 
+pub words_end_by : (text : List ℕ) (spaced : Bool) (main : List Token) (last : Token) (r : Range) → is_passed Inner last.kind ≡ false
+    → range_of (words_after text spaced (main ++ last ∷ [])) ≡ Some r → r.end ≡ last.end
+words_end_by text spaced main last r solid e =
+    let l = last_word text spaced main last solid in
+    range_last l.before (word_of text l.spaced last) r (sym (ap range_of l.is) ∙ e)
+
 -- where the words of pieces start whose first one is a word
 pub words_start : (text : List ℕ) (first : Token) (ts : List Token) (r : Range) → is_passed Inner first.kind ≡ false
     → range_of (words_after text false (first ∷ ts)) ≡ Some r → r.start ≡ first.start

@@ -1,5 +1,5 @@
 -- The style rule whose prelude an edit made is there.
-use Rattle.std.proofs.Common.{◌≡◌, ℕ, zero, suc, ◌+◌, Bool, true, false, cond, All, List, [], ◌∷◌, map, length}
+use Rattle.std.proofs.Common.{◌≡◌, ℕ, suc, ◌+◌, Bool, true, false, cond, All, List, [], ◌∷◌, map, length}
 use Rattle.std.proofs.Common.{Option, Some, None, Ok, Err, refl, sym, ap, subst, ◌∙◌}
 use Rattle.std.specs.Prelude.{slice_get, is_some, IsSomeAnd}
 use Rattle.std.specs.Str.{IsUtf8}
@@ -20,9 +20,10 @@ use Rattle.style_edits.specs.declared.faults.SheetFault.TheVariants.{BadText, Ba
 use Rattle.style_edits.specs.declared.lines.LineRange.{LineRange}
 use Rattle.style_edits.specs.declared.splice.Splice.{Splice}
 use Rattle.style_edits.specs.Splices.{spliced, spliced_entry, after_splice}
-use Rattle.style_edits.specs.Edits.{Found, is_at, splice_at, prelude_at, placed_text, selector_by, selector_in, mutable, client_by, found_by}
+use Rattle.style_edits.specs.Edits.{Found, is_at, splice_at, prelude_at, placed_text, selector_by, selector_in, mutable, client_by}
+use Rattle.style_edits.specs.Edits.{found_by}
 use Rattle.style_edits.specs.Edits.{selector_splice}
-use Rattle.style_edits.specs.EditedRules.{rules_before, made_rule, new_range, MakesPrelude}
+use Rattle.style_edits.specs.EditedRules.{rules_before, new_range, MakesPrelude}
 use Rattle.style_edits.proofs.BookForms.{entry_again}
 use Rattle.style_edits.proofs.SpliceForms.{made, stored_after}
 use Rattle.style_edits.proofs.FoundForms.{stored_of, selector_found}
