@@ -75,34 +75,34 @@ placed_with text a j front s = by s refl refl
   where
     by : {around b : Option ℕ} {k g : ℕ} → Strip text around k b g front → around ≡ None → k ≡ 0 → (l : Placed text front) × (l.j ≡ g)
     by {around = around} {k = k} (bare _ all) e f = (
-        record {
-          a = around;
-          j = k;
-          rs = [];
-          own = [];
-          lead = front;
-          is = refl;
-          spot = subst (λ (x : Option ℕ). Spot text x 0 around k [] []) e
-              (subst (λ (n : ℕ). Spot text around n around k [] []) f at_spot);
-          passed = all;
-          ends = inl refl;
-        },
-        refl,
+      record {
+        a = around;
+        j = k;
+        rs = [];
+        own = [];
+        lead = front;
+        is = refl;
+        spot = subst (λ (x : Option ℕ). Spot text x 0 around k [] []) e
+            (subst (λ (n : ℕ). Spot text around n around k [] []) f at_spot);
+        passed = all;
+        ends = inl refl;
+      },
+      refl,
     )
     by {around = around} {b = b} {g = g} (marked _ own lead rs is ends spot all) e f = (
-        record {
-          a = b;
-          j = g;
-          rs = rs;
-          own = own;
-          lead = lead;
-          is = is;
-          spot = subst (λ (x : Option ℕ). Spot text x 0 b g rs own) e
-              (subst (λ (n : ℕ). Spot text around n b g rs own) f spot);
-          passed = all;
-          ends = inr ends;
-        },
-        refl,
+      record {
+        a = b;
+        j = g;
+        rs = rs;
+        own = own;
+        lead = lead;
+        is = is;
+        spot = subst (λ (x : Option ℕ). Spot text x 0 b g rs own) e
+            (subst (λ (n : ℕ). Spot text around n b g rs own) f spot);
+        passed = all;
+        ends = inr ends;
+      },
+      refl,
     )
 
 pub placed_at : (text : List ℕ) (a : Option ℕ) (j : ℕ) (front : List Token) → Strip text None 0 a j front → Placed text front

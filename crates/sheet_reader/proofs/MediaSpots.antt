@@ -38,22 +38,25 @@ pub spot_other : (text other : List ℕ) (s : ℕ) → SamePart text other (λ x
 spot_other text other s same _ _ at_spot all = ([], at_spot)
 spot_other text other s same {around = around} {k = k} _ _ (past_part p rs xs part none spot) all =
     let both = tokens_split 0 s (part_pieces p) xs all in
-    let sub = spot_other text other s same rs xs spot both.1 in
-    (rules_in other (laid around p ∷ []) ++ sub.0,
-    past_part p sub.0 xs part (form_stays text other s same p both.0 ∙ ap (option_map (raised_media (λ x. x))) none) sub.1)
+    let sub = spot_other text other s same rs xs spot both.1 in (
+      rules_in other (laid around p ∷ []) ++ sub.0,
+      past_part p sub.0 xs part (form_stays text other s same p both.0 ∙ ap (option_map (raised_media (λ x. x))) none) sub.1,
+    )
 spot_other text other s same {around = around} {a = a} {k = k} {j = j} _ _ (past_media p m inner within rs xs part is own are spot) all =
     let both = tokens_split 0 s (part_pieces p) xs all in
     let sub = spot_other text other s same rs xs spot both.1 in
     let inner_all = subst (AllTokens 0 s) (flat_of Inner inner m.inside own).0 (form_in text 0 s p m is both.0).1 in
-    let too = laid_too text other s same k inner within are inner_all in
-    (rules_in other (laid around p ∷ within) ++ sub.0,
-    past_media p m inner within sub.0 xs part (media_stays text other s same p m is both.0) own too.are
-    (subst (λ (n : ℕ). Spot other around (suc k + n) a j sub.0 xs) too.count sub.1))
+    let too = laid_too text other s same k inner within are inner_all in (
+      rules_in other (laid around p ∷ within) ++ sub.0,
+      past_media p m inner within sub.0 xs part (media_stays text other s same p m is both.0) own too.are
+          (subst (λ (n : ℕ). Spot other around (suc k + n) a j sub.0 xs) too.count sub.1),
+    )
 spot_other text other s same {k = k} _ _ (in_media keyword prelude first rs xs at named values curly over spot) all =
-    let sub = spot_other text other s same rs xs spot (tokens_split 0 s prelude (first ∷ xs) all.1).1.1 in
-    (sub.0,
-    in_media keyword prelude first sub.0 xs at
-    (names_same text other (λ x. x) 0 s same keyword keyword.kind all.0 ∙ named) values curly over sub.1)
+    let sub = spot_other text other s same rs xs spot (tokens_split 0 s prelude (first ∷ xs) all.1).1.1 in (
+      sub.0,
+      in_media keyword prelude first sub.0 xs at
+          (names_same text other (λ x. x) 0 s same keyword keyword.kind all.0 ∙ named) values curly over sub.1,
+    )
 
 -- ---- where a media rule stands
 
@@ -187,8 +190,10 @@ module _ (text : List ℕ) (rule : MediaRule) where
       let more = ap (λ (ms : List MediaRule). slice_get ms i) (sym (media_cons text around p ls None none)) ∙ e in
       let same : k ≡ k + 0 = omega arith in
       behind_part around k 0 i i p ls (flat ps) (omega arith) all.0
-      (λ s any. (rules_in text (laid around p ∷ []) ++ s.rs,
-      past_part p s.rs s.front any none (subst (λ (n : ℕ). Spot text around n s.a s.j s.rs s.front) (sym same) s.spot)))
+      (λ s any. (
+        rules_in text (laid around p ∷ []) ++ s.rs,
+        past_part p s.rs s.front any none (subst (λ (n : ℕ). Spot text around n s.a s.j s.rs s.front) (sym same) s.spot),
+      ))
       (subst (λ (n : ℕ). MediaSpot text around n (flat ps) i rule) same (media_spot around k ps ls are all.1 i more))
   media_spot around k _ _ (media_laid p m inner ps within ls is own inner_are are) all i e =
       let own_flat = flat_of Inner inner m.inside own in
@@ -214,9 +219,11 @@ module _ (text : List ℕ) (rule : MediaRule) where
           which (on_right x sum g) =
               let same : suc k + length (media_in text within) ≡ k + suc (length (media_in text within)) = omega arith in
               behind_part around k (suc (length (media_in text within))) x (suc i) p ls (flat ps) (omega (arith, sum)) all.0
-              (λ s any. (rules_in text (laid around p ∷ within) ++ s.rs,
-              past_media p m inner within s.rs s.front any is own inner_are
-              (subst (λ (n : ℕ). Spot text around n s.a s.j s.rs s.front) (sym same) s.spot)))
+              (λ s any. (
+                rules_in text (laid around p ∷ within) ++ s.rs,
+                past_media p m inner within s.rs s.front any is own inner_are
+                    (subst (λ (n : ℕ). Spot text around n s.a s.j s.rs s.front) (sym same) s.spot),
+              ))
               (subst (λ (n : ℕ). MediaSpot text around n (flat ps) x rule) same (behind x g))
 
 -- ---- what is laid out there

@@ -585,8 +585,13 @@ media_made_in text i rule o put spaces sealed apart key =
         let text_is : text ≡ w.front ++ after =
         o.is ∙ ap (λ (t : List ℕ). t ++ old) w.is ∙ append_assoc w.front w.behind old in
         let some : 0 < length old =
-        omega (arith, length-append o.key (o.lead ++ (o.prelude ++ v)), length-append o.lead (o.prelude ++ v),
-        length-append o.prelude v, length-append o.gap (123 ∷ o.rest)) in
+        omega (
+          arith,
+          length-append o.key (o.lead ++ (o.prelude ++ v)),
+          length-append o.lead (o.prelude ++ v),
+          length-append o.prelude v,
+          length-append o.gap (123 ∷ o.rest),
+        ) in
         let gap = gap_of (level_of l.a) old some (0 + length w.front) w.behind l.lead w.second l.passed in
         let k = (skips (level_of l.a) Y refl w.behind gap (length w.front)).start in
         let at : length w.front + length w.behind ≡ n = sym (length-append w.front w.behind) ∙ sym (ap length w.is) in

@@ -111,8 +111,14 @@ words_behind text place keyword prelude brace more after l t kind left =
     let words = ap (words_after text false) l.is ∙ moved.1 in
     by s.front s.after p.front g.front m.behind
     (s.is ∙ ap (λ (x : List ℕ). s.front ++ x) (p.is ∙ ap (λ (x : List ℕ). p.front ++ x) (g.is ∙ ap (λ (x : List ℕ). g.front ++ x) m.is)))
-    (gap_of Inner s.after (omega (arith, ap length p.is, ap length g.is, ap length m.is, length-append p.front p.after,
-    length-append g.front g.after)) place s.front l.lead s.whole l.passed)
+    (gap_of Inner s.after (omega (
+      arith,
+      ap length p.is,
+      ap length g.is,
+      ap length m.is,
+      length-append p.front p.after,
+      length-append g.front g.after,
+    )) place s.front l.lead s.whole l.passed)
     (gap_of Inner g.after (omega (arith, ap length m.is)) (place + length s.front + length p.front) g.front t.trail g.whole t.passed)
     (first_is (place + length s.front) p.front p.after t.main t.last t.trail t.is p.whole)
     (ends_there p.after (place + length s.front) p.front t.main t.last p.whole) moved.0 words
