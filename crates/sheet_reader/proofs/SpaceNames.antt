@@ -18,7 +18,7 @@ use Rattle.sheet_reader.proofs.SpaceUnits.{over_seam, seam_line, seam_drop, Apar
 use Rattle.sheet_reader.proofs.SpaceRows.{Keeps, keeps_none, keeps_same, keeps_long, keeps_more, or_keeps, same_keeps, short_keeps, less}
 use Rattle.sheet_reader.proofs.SpaceRows.{closed_near}
 use Rattle.sheet_reader.proofs.SpaceRows.{longer, as_long}
-use Rattle.sheet_reader.proofs.SpaceRows.{comment_keeps, white_short, white_keeps, strings_keeps, name_near, hash_keeps, at_keeps}
+use Rattle.sheet_reader.proofs.SpaceRows.{comment_keeps, white_short, white_keeps, strings_keeps, name_near, ends_in_name, hash_keeps, at_keeps}
 use Rattle.sheet_reader.proofs.SpaceRows.{numeric_keeps, cdc_keeps, cdo_keeps, mark_keeps}
 
 -- what begins with a name: urls, bad urls, functions and idents, together
@@ -430,7 +430,7 @@ by_name v f x s s' (near_more m e g) =
     let one = bare_name t (length x) e s (ap (begins (λ d. d == 40)) first) in
     let two = bare_name t' (suc (length x)) g s' (ap (begins (λ d. d == 40)) second ∙ f.next_round line) in
     subst (λ (o : Option Piece). Keeps (over_seam x v) (length x) o (names_of t')) (sym one)
-    (subst (Keeps (over_seam x v) (length x) (Some (piece Ident (length x)))) (sym two) (keeps_more Ident m))
+    (subst (Keeps (over_seam x v) (length x) (Some (piece Ident (length x)))) (sym two) (keeps_more Ident refl m))
   where
     drop_over : (x v : List ℕ) → drop (suc (length x)) (x ++ v) ≡ drop 1 v
     drop_over [] [] = refl
@@ -485,29 +485,48 @@ space_first v f a x =
     subst (λ (o : Option Piece). Keeps seam n o (first_piece (a ∷ (x ++ v)))) (sym (rows_together (a ∷ (x ++ spaced))))
     (subst (Keeps seam n _) (sym (rows_together (a ∷ (x ++ v)))) all)
 
--- A piece that ends before the space is the same whatever stands behind the sealed text; but where a CR LF stands over the seam and the
--- piece ends at it, it may take the LF
-short_same : {s : Bool} (n : ℕ) (a b : Option Piece) (p : Piece) → Keeps s n a b → a ≡ Some p → p.len ≤ n
-    → (b ≡ Some p) ⊎ ((s ≡ true) × (p.len ≡ n) × (b ≡ Some (piece p.kind (suc n))))
+-- a piece that ends at a CR with an LF behind it takes the LF
+pub record TakesLine (v text : List ℕ) (p : Piece) : Type 0 where
+  pub over : over_seam text v ≡ true
+  pub len : p.len ≡ length text
+  pub found : first_piece (text ++ v) ≡ Some (piece p.kind (suc (length text)))
+  pub name : ends_in_name p.kind ≡ true
+
+record TakesMore (s : Bool) (n : ℕ) (b : Option Piece) (p : Piece) : Type 0 where
+  over : s ≡ true
+  len : p.len ≡ n
+  found : b ≡ Some (piece p.kind (suc n))
+  name : ends_in_name p.kind ≡ true
+
+-- a piece that ends before the space is the same whatever stands behind the sealed text, or takes the LF
+short_same : {s : Bool} (n : ℕ) (a b : Option Piece) (p : Piece) → Keeps s n a b → a ≡ Some p → p.len ≤ n → (b ≡ Some p) ⊎ TakesMore s n b p
 short_same n a b p keeps_none e fits = cc
 short_same n a b p (keeps_same q) e fits = inl e
 short_same n a b p (keeps_long q r far) e fits = let same : q ≡ p = cc in absurd (omega (arith, ap (λ (x : Piece). x.len) same, far))
-short_same n a b p (keeps_more k m) e fits =
+short_same n a b p (keeps_more k name m) e fits =
     let same : piece k n ≡ p = cc in
-    inr (m, sym (ap (λ (x : Piece). x.len) same), ap (λ (x : Piece). Some (piece x.kind (suc n))) same)
+    inr (record {
+      over = m;
+      len = sym (ap (λ (x : Piece). x.len) same);
+      found = ap (λ (x : Piece). Some (piece x.kind (suc n))) same;
+      name = subst (λ (x : Piece). ends_in_name x.kind ≡ true) same name;
+    })
 
 pub piece_more : (v : List ℕ) → Facts v → (text : List ℕ) (p : Piece) → 0 < p.len → p.len ≤ length text
-    → first_piece (text ++ spaced) ≡ Some p
-    → (first_piece (text ++ v) ≡ Some p)
-    ⊎ ((over_seam text v ≡ true) × (p.len ≡ length text) × (first_piece (text ++ v) ≡ Some (piece p.kind (suc (length text)))))
+    → first_piece (text ++ spaced) ≡ Some p → (first_piece (text ++ v) ≡ Some p) ⊎ TakesLine v text p
 piece_more v f [] p some fits e = absurd (omega arith)
-piece_more v f (a ∷ x) p some fits e = short_same (length (a ∷ x)) _ _ p (space_first v f a x) e fits
+piece_more v f (a ∷ x) p some fits e = by (short_same (length (a ∷ x)) _ _ p (space_first v f a x) e fits)
+  where
+    by : (first_piece (a ∷ (x ++ v)) ≡ Some p) ⊎ TakesMore (over_seam (a ∷ x) v) (length (a ∷ x)) (first_piece (a ∷ (x ++ v))) p
+        → (first_piece (a ∷ (x ++ v)) ≡ Some p) ⊎ TakesLine v (a ∷ x) p
+    by (inl same) = inl same
+    by (inr t) = inr (record { over = t.over; len = t.len; found = t.found; name = t.name })
 
 pub piece_kept : (v : List ℕ) → Facts v → (text : List ℕ) (p : Piece) → Apart text v → 0 < p.len → p.len ≤ length text
     → first_piece (text ++ spaced) ≡ Some p → first_piece (text ++ v) ≡ Some p
 piece_kept v f text p m some fits e = elim (piece_more v f text p some fits e) [
       | inl same ↦ same
-      | inr more ↦ absurd (clash (over_seam text v) m more.0)
+      | inr more ↦ absurd (clash (over_seam text v) m more.over)
     ]
   where
     clash : (b : Bool) → b ≡ false → b ≡ true → ⊥

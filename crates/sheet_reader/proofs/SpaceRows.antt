@@ -7,7 +7,7 @@ use Rattle.std.proofs.lemmas.List.{drop-append-le, length-drop}
 use Rattle.std.proofs.lemmas.Bool.Decides.{nat_tests}
 use Rattle.css_tokens.specs.declared.token.TokenKind.{TokenKind}
 use Rattle.css_tokens.specs.declared.token.TokenKind.TheVariants.{Comment, WhiteSpace, Str, BadString, Hash, Number, Percentage, Dimension}
-use Rattle.css_tokens.specs.declared.token.TokenKind.TheVariants.{AtKeyword}
+use Rattle.css_tokens.specs.declared.token.TokenKind.TheVariants.{AtKeyword, Ident}
 use Rattle.sheet_reader.proofs.Behind.{Piece}
 use Rattle.css_tokens.specs.Codes.{begins, is_newline, is_white, is_quote, is_sign}
 use Rattle.css_tokens.specs.Runs.{run, comment_unit, string_unit, name_unit, name_len, starts_ident, white_run}
@@ -23,35 +23,43 @@ use Rattle.sheet_reader.proofs.SpaceUnits.{comment_run}
 use Rattle.sheet_reader.proofs.SpaceUnits.{name_at, string_at, run_at, over_seam, seam_tail, seam_drop, seam_some}
 use Rattle.css_tokens.specs.Escapes.{escape_len}
 
+-- pieces of this kind may end in a name
+abbrev pub ends_in_name : TokenKind → Bool
+ends_in_name Ident = true
+ends_in_name (Hash flag) = true
+ends_in_name Dimension = true
+ends_in_name AtKeyword = true
+ends_in_name _ = false
+
 -- An answer of a row before the space, and one before what stands behind: both none, the same, or the first is past n codes; or, where
 -- a CR LF stands over the seam, of n codes and of one more
 pub data Keeps (seam : Bool) (n : ℕ) : Option Piece → Option Piece → Type 0 where
   keeps_none : Keeps seam n None None
   keeps_same : (p : Piece) → Keeps seam n (Some p) (Some p)
   keeps_long : (p : Piece) (b : Option Piece) → n < p.len → Keeps seam n (Some p) b
-  keeps_more : (k : TokenKind) → seam ≡ true → Keeps seam n (Some (piece k n)) (Some (piece k (suc n)))
+  keeps_more : (k : TokenKind) → ends_in_name k ≡ true → seam ≡ true → Keeps seam n (Some (piece k n)) (Some (piece k (suc n)))
 
 pub or_keeps : {s : Bool} (n : ℕ) (a a' b b' : Option Piece) → Keeps s n a a' → Keeps s n b b' → Keeps s n (a or b) (a' or b')
 or_keeps n a a' b b' keeps_none more = more
 or_keeps n a a' b b' (keeps_same p) more = keeps_same p
 or_keeps n a a' b b' (keeps_long p q far) more = keeps_long p (q or b') far
-or_keeps n a a' b b' (keeps_more k m) more = keeps_more k m
+or_keeps n a a' b b' (keeps_more k name m) more = keeps_more k name m
 
 pub same_keeps : {s : Bool} (n : ℕ) (a b : Option Piece) → a ≡ b → Keeps s n a b
 same_keeps {s = s} n None b e = subst (Keeps s n None) e keeps_none
 same_keeps {s = s} n (Some p) b e = subst (Keeps s n (Some p)) e (keeps_same p)
 
-pub more_keeps : {s : Bool} (n : ℕ) (k : TokenKind) (a b : ℕ) → s ≡ true → a ≡ n → b ≡ suc n → Keeps s n (Some (piece k a)) (Some (piece k b))
-more_keeps {s = s} n k a b m e g =
+pub more_keeps : {s : Bool} (n : ℕ) (k : TokenKind) (a b : ℕ) → ends_in_name k ≡ true → s ≡ true → a ≡ n → b ≡ suc n → Keeps s n (Some (piece k a)) (Some (piece k b))
+more_keeps {s = s} n k a b name m e g =
     subst (λ (x : ℕ). Keeps s n (Some (piece k x)) (Some (piece k b))) (sym e)
-    (subst (λ (x : ℕ). Keeps s n (Some (piece k n)) (Some (piece k x))) (sym g) (keeps_more k m))
+    (subst (λ (x : ℕ). Keeps s n (Some (piece k n)) (Some (piece k x))) (sym g) (keeps_more k name m))
 
-pub near_keeps : {s : Bool} (n : ℕ) (test : Bool) (kind : TokenKind) (a b : ℕ) → Near s n a b
+pub near_keeps : {s : Bool} (n : ℕ) (test : Bool) (kind : TokenKind) (a b : ℕ) → ends_in_name kind ≡ true → Near s n a b
     → Keeps s n (when test (piece kind a)) (when test (piece kind b))
-near_keeps n true kind a b (near_same same) = same_keeps n _ _ (ap (λ (k : ℕ). Some (piece kind k)) same)
-near_keeps n true kind a b (near_past far) = keeps_long (piece kind a) (Some (piece kind b)) far
-near_keeps n true kind a b (near_more m e g) = more_keeps n kind a b m e g
-near_keeps n false kind a b h = keeps_none
+near_keeps n true kind a b name (near_same same) = same_keeps n _ _ (ap (λ (k : ℕ). Some (piece kind k)) same)
+near_keeps n true kind a b name (near_past far) = keeps_long (piece kind a) (Some (piece kind b)) far
+near_keeps n true kind a b name (near_more m e g) = more_keeps n kind a b name m e g
+near_keeps n false kind a b name h = keeps_none
 
 pub short_keeps : {s : Bool} (n : ℕ) (test : Bool) (kind : TokenKind) (a b : ℕ) → Short n a b
     → Keeps s n (when test (piece kind a)) (when test (piece kind b))
@@ -280,7 +288,7 @@ hash_keeps v f a x = by (starts_at v f x)
     more m k s true over e g =
         let some = positive m 0 (omega (arith, e, seam_some v x over)) in
         let some_too = positive k 0 (omega (arith, g)) in
-        rw (some, some_too) (more_keeps (length (a ∷ x)) (Hash s) (1 + m) (1 + k) (seam_tail v a x over) (omega (arith, e)) (omega (arith, g)))
+        rw (some, some_too) (more_keeps (length (a ∷ x)) (Hash s) (1 + m) (1 + k) refl (seam_tail v a x over) (omega (arith, e)) (omega (arith, g)))
 
     same : (m k : ℕ) (s t b : Bool) → Near (over_seam x v) (length x) m k → s ≡ t
         → Keeps seam (length (a ∷ x)) (when (b && nat_lt 0 m) (piece (Hash s) (1 + m))) (when (b && nat_lt 0 k) (piece (Hash t) (1 + k)))
@@ -311,7 +319,7 @@ at_keeps v f a x = by (starts_at v f x)
         subst (λ (b : Bool). Keeps (over_seam (a ∷ x) v) (length (a ∷ x))
         (when (a == 64 && starts_ident (x ++ spaced)) (piece AtKeyword (1 + name_len (x ++ spaced))))
         (when (a == 64 && b) (piece AtKeyword (1 + name_len (x ++ v))))) starts
-        (near_keeps (length (a ∷ x)) (a == 64 && starts_ident (x ++ spaced)) AtKeyword _ _
+        (near_keeps (length (a ∷ x)) (a == 64 && starts_ident (x ++ spaced)) AtKeyword _ _ refl
         (near_wide (length (a ∷ x)) _ _ (seam_tail v a x) (near_one (length x) _ _ (name_near v f x))))
     by (inr far) = long_when (length (a ∷ x)) (a == 64) (starts_ident (x ++ spaced)) (starts_ident (x ++ v)) _ _ far.0
         (omega (arith, far.1))
@@ -441,7 +449,7 @@ numbers_keeps : {s : Bool} (size n m m' : ℕ) (percent starts : Bool) → Near 
     → Keeps s size (numbers n percent starts m) (numbers n percent starts m')
 unfolding numbers
 numbers_keeps size n m m' true starts near = same_keeps size _ _ refl
-numbers_keeps size n m m' false true near = near_keeps size (nat_lt 0 n) Dimension _ _ near
+numbers_keeps size n m m' false true near = near_keeps size (nat_lt 0 n) Dimension _ _ refl near
 numbers_keeps size n m m' false false near = same_keeps size _ _ refl
 
 numbers_far : {s : Bool} (size n m m' : ℕ) (percent starts other : Bool) → starts ≡ true → size < n + m
