@@ -97,7 +97,7 @@ escape_front unit o x y (escape_hex digits _ is are (white_code {c = c} white si
     (white_code white single)
 escape_front _ o x y (escape_code hex line) = escape_code hex line
 
-unit_front : (unit : List ℕ) (o : ℕ) (x y : List ℕ) → NameUnit unit (o ∷ x) → NameUnit unit (o ∷ y)
+pub unit_front : (unit : List ℕ) (o : ℕ) (x y : List ℕ) → NameUnit unit (o ∷ x) → NameUnit unit (o ∷ y)
 unit_front _ o x y (name_code e) = name_code e
 unit_front unit o x y (name_escape e) = name_escape (escape_front unit o x y e)
 
@@ -113,7 +113,7 @@ units_front name o x y (unit_and {first = first} {others = others} is unit more)
 
 -- ---- values
 
-digits_bytes : (digits x : List ℕ) → 0 < length digits → length digits ≤ 6 → list_all is_ascii_hexdigit digits ≡ true
+pub digits_bytes : (digits x : List ℕ) → 0 < length digits → length digits ≤ 6 → list_all is_ascii_hexdigit digits ≡ true
     → (length digits < 6 → begins is_ascii_hexdigit x ≡ false) → escape_bytes (digits ++ x) ≡ encode_utf8 (character_of (hex_value digits))
 unfolding escape_bytes escape_value
 digits_bytes [] x some few hex all = absurd (omega (arith, some))
@@ -129,7 +129,7 @@ digits_bytes (d ∷ digits) x some few hex all =
     by false e = cc
 
 -- what stands behind an escape is replaced apart from it
-escape_apart : (tail rest : List ℕ) → IsEscape (92 ∷ tail) rest
+pub escape_apart : (tail rest : List ℕ) → IsEscape (92 ∷ tail) rest
     → unescaped ((92 ∷ tail) ++ rest) ≡ escape_bytes (tail ++ rest) ++ unescaped rest
 unfolding escape_len
 escape_apart tail rest e =
@@ -150,10 +150,10 @@ escape_apart tail rest e =
     sizes true f n e = cc
 
 -- the bytes of an escape turn on the escape alone
-record SameBytes (unit x y : List ℕ) : Type 0 where
-  bytes : List ℕ
-  one : unescaped (unit ++ x) ≡ bytes ++ unescaped x
-  two : unescaped (unit ++ y) ≡ bytes ++ unescaped y
+pub record SameBytes (unit x y : List ℕ) : Type 0 where
+  pub bytes : List ℕ
+  pub one : unescaped (unit ++ x) ≡ bytes ++ unescaped x
+  pub two : unescaped (unit ++ y) ≡ bytes ++ unescaped y
 
 hex_same : (digits white x y : List ℕ) → AreHexDigits digits (white ++ x) → IsOneWhite white x → AreHexDigits digits (white ++ y)
     → IsOneWhite white y → SameBytes (92 ∷ (digits ++ white)) x y
@@ -206,7 +206,7 @@ plain_code : (c : ℕ) (x : List ℕ) → (c == 92) ≡ false → unescaped (c �
 unfolding unescaped_after
 plain_code c x e = rw e refl
 
-unit_same : (unit : List ℕ) (o : ℕ) (x y : List ℕ) → NameUnit unit (o ∷ x) → SameBytes unit (o ∷ x) (o ∷ y)
+pub unit_same : (unit : List ℕ) (o : ℕ) (x y : List ℕ) → NameUnit unit (o ∷ x) → SameBytes unit (o ∷ x) (o ∷ y)
 unit_same _ o x y (name_code {c = c} e) = record {
   bytes = c ∷ [];
   one = plain_code c (o ∷ x) (no_back c e);

@@ -63,3 +63,5 @@ pub mod MediaSpots
 pub mod KeyNames
 pub mod OldMedia
 pub mod NewMedia
+pub mod LineEnds
+pub mod SealedSeams

@@ -37,7 +37,7 @@ use Rattle.sheet_reader.specs.Grammar.{AreNested, plain_and, is_at_keyword}
 use Rattle.sheet_reader.specs.Layout.{names_media, MediaForm, media_form, media_rule, media_of, media_in, Laid, laid, level_of, laid_out}
 use Rattle.sheet_reader.specs.Layout.{prelude_range, media_laid}
 use Rattle.sheet_reader.specs.Moves.{replaced}
-use Rattle.sheet_reader.specs.Preludes.{ends_return, ends_keyword, takes_space, spaces_behind, spaces_by, spaces_at}
+use Rattle.sheet_reader.specs.Preludes.{ends_keyword, takes_space, spaces_behind, spaces_by, spaces_at}
 use Rattle.sheet_reader.specs.Parts.{block, PartForm, passed, at_rule, is_passed, parts}
 use Rattle.sheet_reader.specs.Sealing.{is_sealed, is_sealed_prelude}
 use Rattle.sheet_reader.specs.Sheets.{sheet_of}
@@ -58,12 +58,12 @@ use Rattle.sheet_reader.proofs.NestingForms.{closed_nested}
 use Rattle.sheet_reader.proofs.OldMedia.{OldMedia, old_media}
 use Rattle.sheet_reader.proofs.OpenForms.{passes}
 use Rattle.sheet_reader.proofs.PartMoves.{map_length}
-use Rattle.sheet_reader.proofs.PreludeWords.{passed_nested, nested_append, passed_nesting}
+use Rattle.sheet_reader.proofs.PreludeWords.{passed_nested, nested_append, passed_nesting, until_front}
 use Rattle.sheet_reader.proofs.PutPieces.{WholeParts, whole_split, solid_begin, LeadSolid, split_lead}
 use Rattle.sheet_reader.proofs.Raised.{raised}
 use Rattle.sheet_reader.proofs.ReadMoves.{AllTokens, nesting_raised}
-use Rattle.sheet_reader.proofs.SealedCuts.{SealedPieces, sealed_pieces, sealed_own, white_is}
-use Rattle.sheet_reader.proofs.SpaceUnits.{Apart, apart_none}
+use Rattle.sheet_reader.proofs.SealedCuts.{SealedPieces, sealed_pieces, sealed_own, white_is, AllWhite}
+use Rattle.sheet_reader.proofs.SealedSeams.{CutBefore, cut_before}
 use Rattle.sheet_reader.proofs.SpotEnds.{strip}
 use Rattle.sheet_reader.proofs.Spots.{Spot, nested_stays, closing, media_named, cut_is, values_at}
 use Rattle.sheet_reader.proofs.TextMoves.{whole_tokens}
@@ -237,13 +237,6 @@ passed_on level (t ∷ lead) all bs rest =
     let more = passed_on level lead all.1 bs rest in
     omega (arith, on, next, more)
 
-raised_on : (f : ℕ → ℕ) (bs : List Bracket) (xs ys : List Token)
-    → until_in stops.BlockOrSemicolon bs (map (raised f) xs ++ ys) ≡ until_in stops.BlockOrSemicolon bs (xs ++ ys)
-unfolding until_in
-raised_on f bs [] ys = refl
-raised_on f bs (x ∷ xs) ys =
-    ap (λ (n : ℕ). cond (is_none_open bs && stops_at stops.BlockOrSemicolon x.kind) 0 (suc n)) (raised_on f (open_after bs x.kind) xs ys)
-
 -- a prelude and its `{`
 record NewPrelude (place : ℕ) (tail : List ℕ) : Type 0 where
   prelude : List Token
@@ -285,32 +278,33 @@ us_on put sealed s closed ys =
         reaches stops.BlockOrSemicolon s.us (w.0 ∷ []) ys [] (omega (arith, cut, length-append s.us (w.0 ∷ [])))
 
 -- where it has words or marks
-put_prelude : (put gap rest lead : List ℕ) (s : SealedPieces put) → Gap Inner gap → Gap Inner lead → (place : ℕ) (l : LeadSolid s.us)
-    → nesting s.us ≡ Closed
-    → ((ys : List Token) → until stops.BlockOrSemicolon (s.us ++ ys) ≡ length s.us + until stops.BlockOrSemicolon ys)
-    → WholeParts (s.trail ++ (gap ++ 123 ∷ rest)) 0 s.front l.lead (l.first ∷ l.rest)
+put_prelude : (put gap rest lead front trail : List ℕ) (us : List Token) → put ≡ front ++ trail → AllWhite trail → Gap Inner gap
+    → Gap Inner lead → (place : ℕ) (l : LeadSolid us)
+    → nesting us ≡ Closed
+    → ((ys : List Token) → until stops.BlockOrSemicolon (us ++ ys) ≡ length us + until stops.BlockOrSemicolon ys)
+    → WholeParts (trail ++ (gap ++ 123 ∷ rest)) 0 front l.lead (l.first ∷ l.rest)
     → NewPrelude place (lead ++ (put ++ (gap ++ 123 ∷ rest)))
-put_prelude put gap rest lead s blank open_lead place l closed ends w =
+put_prelude put gap rest lead front trail us parts_are white blank open_lead place l closed ends w =
     let v = gap ++ 123 ∷ rest in
     let ts = l.first ∷ l.rest in
-    let Y = w.behind ++ (s.trail ++ v) in
-    let whole : IsWholeBefore (s.trail ++ v) (length w.front) w.behind ts =
-    subst (λ (n : ℕ). IsWholeBefore (s.trail ++ v) n w.behind ts) (omega arith) w.second in
-    let b = solid_begin (s.trail ++ v) (length w.front) w.behind l.first l.rest whole l.solid in
-    let open_front = gap_of Inner Y (omega (arith, b.1, length-append w.behind (s.trail ++ v))) 0 w.front l.lead w.first l.passed in
+    let Y = w.behind ++ (trail ++ v) in
+    let whole : IsWholeBefore (trail ++ v) (length w.front) w.behind ts =
+    subst (λ (n : ℕ). IsWholeBefore (trail ++ v) n w.behind ts) (omega arith) w.second in
+    let b = solid_begin (trail ++ v) (length w.front) w.behind l.first l.rest whole l.solid in
+    let open_front = gap_of Inner Y (omega (arith, b.1, length-append w.behind (trail ++ v))) 0 w.front l.lead w.first l.passed in
     let z = lead ++ w.front in
     let parted : lead ++ (put ++ v) ≡ z ++ Y =
-    ap (λ (t : List ℕ). lead ++ (t ++ v)) (s.parted ∙ ap (λ (t : List ℕ). t ++ s.trail) w.is)
-    ∙ ap (λ (t : List ℕ). lead ++ t) (append_assoc (w.front ++ w.behind) s.trail v ∙ append_assoc w.front w.behind (s.trail ++ v))
+    ap (λ (t : List ℕ). lead ++ (t ++ v)) (parts_are ∙ ap (λ (t : List ℕ). t ++ trail) w.is)
+    ∙ ap (λ (t : List ℕ). lead ++ t) (append_assoc (w.front ++ w.behind) trail v ∙ append_assoc w.front w.behind (trail ++ v))
     ∙ sym (append_assoc lead w.front Y) in
     let k = (skips Inner Y b.0 z (gap_append Inner lead w.front open_lead open_front) place).start in
     let n = place + length lead in
     let at : place + length z ≡ n + length w.front = omega (arith, length-append lead w.front) in
-    let t = tail_pieces (n + (length w.front + length w.behind)) (s.trail ++ gap) rest
-    (gap_append Inner s.trail gap (gap_whites Inner s.trail s.blank) blank) in
+    let t = tail_pieces (n + (length w.front + length w.behind)) (trail ++ gap) rest
+    (gap_append Inner trail gap (gap_whites Inner trail white) blank) in
     let f = λ (x : ℕ). n + x in
     let own = map (raised f) ts in
-    let on = put_on put n w.behind (s.trail ++ v) (length w.front) ts whole in
+    let on = put_on put n w.behind (trail ++ v) (length w.front) ts whole in
     let closed_rest : nesting ts ≡ Closed = sym (passed_nesting Inner l.lead l.passed [] ts) ∙ sym (ap nesting l.is) ∙ closed in
     record {
       prelude = k.lead ++ (own ++ t.trail);
@@ -320,7 +314,7 @@ put_prelude put gap rest lead s blank open_lead place l closed ends w =
           ∙ ap (λ (x : List Token). k.lead ++ x)
           (ap (λ (m : ℕ). pieces_after m 0 Y) at ∙ on
           ∙ ap (λ (x : List Token). own ++ x)
-          (ap (pieces_after (n + (length w.front + length w.behind)) 0) (sym (append_assoc s.trail gap (123 ∷ rest))) ∙ t.is)
+          (ap (pieces_after (n + (length w.front + length w.behind)) 0) (sym (append_assoc trail gap (123 ∷ rest))) ∙ t.is)
           ∙ sym (append_assoc own t.trail (t.brace ∷ t.zs)))
           ∙ sym (append_assoc k.lead (own ++ t.trail) (t.brace ∷ t.zs));
       nested = nested_append k.lead (own ++ t.trail) (passed_nested Inner k.lead k.passed)
@@ -334,10 +328,10 @@ put_prelude put gap rest lead s blank open_lead place l closed ends w =
     own_ends ys =
         let on = passed_on Inner l.lead l.passed [] ((l.first ∷ l.rest) ++ ys) in
         let all = ends ys in
-        let cut : until stops.BlockOrSemicolon (s.us ++ ys) ≡ until stops.BlockOrSemicolon (l.lead ++ ((l.first ∷ l.rest) ++ ys)) =
+        let cut : until stops.BlockOrSemicolon (us ++ ys) ≡ until stops.BlockOrSemicolon (l.lead ++ ((l.first ∷ l.rest) ++ ys)) =
         ap (λ (xs : List Token). until stops.BlockOrSemicolon (xs ++ ys)) l.is
         ∙ ap (until stops.BlockOrSemicolon) (append_assoc l.lead (l.first ∷ l.rest) ys) in
-        let size : length s.us ≡ length l.lead + length (l.first ∷ l.rest) =
+        let size : length us ≡ length l.lead + length (l.first ∷ l.rest) =
         ap (λ (xs : List Token). length xs) l.is ∙ length-append l.lead (l.first ∷ l.rest) in
         omega (arith, on, all, cut, size)
 
@@ -351,7 +345,7 @@ put_prelude put gap rest lead s blank open_lead place l closed ends w =
         let one = ap (until stops.BlockOrSemicolon) (append_assoc lead (own ++ trail) (brace ∷ ys)
         ∙ ap (λ (x : List Token). lead ++ x) (append_assoc own trail (brace ∷ ys))) in
         let two = passed_on Inner lead quiet [] (own ++ (trail ++ brace ∷ ys)) in
-        let three = raised_on f [] ts (trail ++ brace ∷ ys) in
+        let three = until_front stops.BlockOrSemicolon f [] ts (trail ++ brace ∷ ys) in
         let four = own_ends (trail ++ brace ∷ ys) in
         let five = passed_on Inner trail blank [] (brace ∷ ys) in
         let six = brace_here brace ys curly in
@@ -359,22 +353,23 @@ put_prelude put gap rest lead s blank open_lead place l closed ends w =
         (arith, one, two, three, four, five, six, length-append lead (own ++ trail), length-append own trail, map_length (raised f) ts)
 
 -- where it has none
-blank_prelude : (put gap rest lead : List ℕ) (s : SealedPieces put) → Gap Inner gap → Gap Inner lead → (place : ℕ) → AllPassed Inner s.us
-    → IsWholeBefore (s.trail ++ (gap ++ 123 ∷ rest)) 0 s.front s.us → NewPrelude place (lead ++ (put ++ (gap ++ 123 ∷ rest)))
-blank_prelude put gap rest lead s blank open_lead place all whole =
+blank_prelude : (put gap rest lead front trail : List ℕ) (us : List Token) → put ≡ front ++ trail → AllWhite trail → Gap Inner gap
+    → Gap Inner lead → (place : ℕ) → AllPassed Inner us
+    → IsWholeBefore (trail ++ (gap ++ 123 ∷ rest)) 0 front us → NewPrelude place (lead ++ (put ++ (gap ++ 123 ∷ rest)))
+blank_prelude put gap rest lead front trail us parts_are white blank open_lead place all whole =
     let v = gap ++ 123 ∷ rest in
     let open_front =
-    gap_of Inner (s.trail ++ v) (omega (arith, length-append s.trail v, length-append gap (123 ∷ rest))) 0 s.front s.us whole all in
-    let z = lead ++ (s.front ++ (s.trail ++ gap)) in
+    gap_of Inner (trail ++ v) (omega (arith, length-append trail v, length-append gap (123 ∷ rest))) 0 front us whole all in
+    let z = lead ++ (front ++ (trail ++ gap)) in
     let t = tail_pieces place z rest
-    (gap_append Inner lead (s.front ++ (s.trail ++ gap)) open_lead
-    (gap_append Inner s.front (s.trail ++ gap) open_front (gap_append Inner s.trail gap (gap_whites Inner s.trail s.blank) blank))) in
+    (gap_append Inner lead (front ++ (trail ++ gap)) open_lead
+    (gap_append Inner front (trail ++ gap) open_front (gap_append Inner trail gap (gap_whites Inner trail white) blank))) in
     let parted : lead ++ (put ++ v) ≡ z ++ 123 ∷ rest =
-    ap (λ (x : List ℕ). lead ++ (x ++ v)) s.parted
-    ∙ ap (λ (x : List ℕ). lead ++ x) (append_assoc s.front s.trail v
-    ∙ ap (λ (x : List ℕ). s.front ++ x) (sym (append_assoc s.trail gap (123 ∷ rest)))
-    ∙ sym (append_assoc s.front (s.trail ++ gap) (123 ∷ rest)))
-    ∙ sym (append_assoc lead (s.front ++ (s.trail ++ gap)) (123 ∷ rest)) in
+    ap (λ (x : List ℕ). lead ++ (x ++ v)) parts_are
+    ∙ ap (λ (x : List ℕ). lead ++ x) (append_assoc front trail v
+    ∙ ap (λ (x : List ℕ). front ++ x) (sym (append_assoc trail gap (123 ∷ rest)))
+    ∙ sym (append_assoc front (trail ++ gap) (123 ∷ rest)))
+    ∙ sym (append_assoc lead (front ++ (trail ++ gap)) (123 ∷ rest)) in
     record {
       prelude = t.trail;
       brace = t.brace;
@@ -388,24 +383,35 @@ blank_prelude put gap rest lead s blank open_lead place all whole =
           omega (arith, on, here);
     }
 
-new_prelude : (put gap rest lead : List ℕ) → is_sealed_prelude put ≡ true → Gap Inner gap → Gap Inner lead → Apart put (gap ++ 123 ∷ rest)
-    → (place : ℕ) → NewPrelude place (lead ++ (put ++ (gap ++ 123 ∷ rest)))
-new_prelude put gap rest lead sealed blank open_lead apart place = by (split_lead s.us)
+new_prelude : (put gap rest lead : List ℕ) → is_sealed_prelude put ≡ true → Gap Inner gap → Gap Inner lead → (place : ℕ)
+    → NewPrelude place (lead ++ (put ++ (gap ++ 123 ∷ rest)))
+new_prelude put gap rest lead sealed blank open_lead place =
+    subst (λ (t : List ℕ). NewPrelude place (lead ++ t)) c.same (by (split_lead us))
   where
     s : SealedPieces put
     s = sealed_pieces put (both (is_sealed put) _ sealed).0
 
-    closed : nesting s.us ≡ Closed
-    closed = sym (white_last [] s.us s.white (white_is s.white.kind s.is_white)) ∙ closed_is (nesting (s.us ++ s.white ∷ [])) s.nested
+    c : CutBefore put gap rest s
+    c = cut_before put gap rest s blank
 
-    whole : IsWholeBefore (s.trail ++ (gap ++ 123 ∷ rest)) 0 s.front s.us
-    whole = s.before (gap ++ 123 ∷ rest) (facts_gap gap rest blank) apart
+    us : List Token
+    us = map (raised c.moved) s.us
 
-    by : AllPassed Inner s.us ⊎ LeadSolid s.us → NewPrelude place (lead ++ (put ++ (gap ++ 123 ∷ rest)))
-    by (inl all) = blank_prelude put gap rest lead s blank open_lead place all whole
-    by (inr l) = put_prelude put gap rest lead s blank open_lead place l closed (us_on put sealed s closed)
-        (whole_split (s.trail ++ (gap ++ 123 ∷ rest)) 0 s.front l.lead (l.first ∷ l.rest)
-        (subst (IsWholeBefore (s.trail ++ (gap ++ 123 ∷ rest)) 0 s.front) l.is whole))
+    all_closed : nesting s.us ≡ Closed
+    all_closed = sym (white_last [] s.us s.white (white_is s.white.kind s.is_white)) ∙ closed_is (nesting (s.us ++ s.white ∷ [])) s.nested
+
+    ends : (ys : List Token) → until stops.BlockOrSemicolon (us ++ ys) ≡ length us + until stops.BlockOrSemicolon ys
+    ends ys =
+        let same = until_front stops.BlockOrSemicolon c.moved [] s.us ys in
+        let on = us_on put sealed s all_closed ys in
+        omega (arith, same, on, map_length (raised c.moved) s.us)
+
+    by : AllPassed Inner us ⊎ LeadSolid us → NewPrelude place (lead ++ (c.text ++ (c.behind ++ 123 ∷ rest)))
+    by (inl all) = blank_prelude c.text c.behind rest lead c.front c.trail us c.parted c.white c.blank open_lead place all c.whole
+    by (inr l) = put_prelude c.text c.behind rest lead c.front c.trail us c.parted c.white c.blank open_lead place l
+        (nesting_raised c.moved [] s.us ∙ all_closed) ends
+        (whole_split (c.trail ++ (c.behind ++ 123 ∷ rest)) 0 c.front l.lead (l.first ∷ l.rest)
+        (subst (IsWholeBefore (c.trail ++ (c.behind ++ 123 ∷ rest)) 0 c.front) l.is c.whole))
 
 -- ---- the media rule at a place between parts
 
@@ -552,9 +558,9 @@ record MadeIn (text : List ℕ) (i : ℕ) : Type 0 where
   there : slice_get (sheet_of text).media i ≡ Some rule
 
 media_made_in : (text : List ℕ) (i : ℕ) (rule : MediaRule) (o : OldMedia text i rule) (put spaces : List ℕ) → is_sealed_prelude put ≡ true
-    → Apart put (o.gap ++ 123 ∷ o.rest) → NewKey o.key o.lead spaces (put ++ (o.gap ++ 123 ∷ o.rest))
+    → NewKey o.key o.lead spaces (put ++ (o.gap ++ 123 ∷ o.rest))
     → MadeIn (o.front ++ (o.key ++ (o.lead ++ (spaces ++ (put ++ (o.gap ++ 123 ∷ o.rest)))))) i
-media_made_in text i rule o put spaces sealed apart key =
+media_made_in text i rule o put spaces sealed key =
     let same = subst (λ (t : List ℕ). SamePart t new (λ x. x) 0 n) (sym o.is) (front_same o.front old behind) in
     let all = subst (λ (m : ℕ). AllTokens 0 m o.before) (omega arith) (whole_tokens old 0 o.front o.before o.whole) in
     let s = spot_other text new n same o.rs o.before o.spot all in
@@ -602,7 +608,7 @@ media_made_in text i rule o put spaces sealed apart key =
         let first = piece_first Y n (piece tokens.AtKeyword size) key.found (omega arith)
         (omega (arith, length-append (64 ∷ key.name) (key.gap ++ (put ++ v)))) in
         let left : drop size Y ≡ key.gap ++ (put ++ v) = drop-append_seam (64 ∷ key.name) (key.gap ++ (put ++ v)) in
-        let p = new_prelude put o.gap o.rest key.gap sealed o.blank key.open_gap apart (n + size) in
+        let p = new_prelude put o.gap o.rest key.gap sealed o.blank key.open_gap (n + size) in
         let keyword : Token = record { kind = tokens.AtKeyword; start = n; end = n + size } in
         let pieces_are : pieces new ≡ l.own ++ (k.lead ++ keyword ∷ (p.prelude ++ p.brace ∷ p.zs)) =
         ap pieces new_is ∙ pieces_at (w.behind ++ Y) w.front l.own whole
@@ -651,9 +657,9 @@ find_key place lo (t ∷ before) keyword more all less at end =
 
 -- where the prelude of a media rule is replaced, it is there under its number
 pub media_stays : (text put : List ℕ) (i : ℕ) (rule : MediaRule) → slice_get (sheet_of text).media i ≡ Some rule
-    → is_sealed_prelude put ≡ true → ends_return put ≡ false
+    → is_sealed_prelude put ≡ true
     → IsSome (slice_get (sheet_of (replaced text rule.prelude (spaces_at text rule.prelude.start ++ put))).media i)
-media_stays text put i rule e sealed plain =
+media_stays text put i rule e sealed =
     let o = old_media text i rule e in
     let v = o.gap ++ 123 ∷ o.rest in
     let s = rule.prelude.start in
@@ -662,7 +668,7 @@ media_stays text put i rule e sealed plain =
     (omega (arith, length-append o.prelude v, length-append o.gap (123 ∷ o.rest))) o.open_lead
     (spaces_white text (find (ends_keyword s) (pieces text)))
     (λ none. spaces_are o none) (λ name. says o name) in
-    let m = media_made_in text i rule o put spaces sealed (apart_none v put plain) n in
+    let m = media_made_in text i rule o put spaces sealed n in
     there o (spaces) m
   where
     -- what stands right before it
