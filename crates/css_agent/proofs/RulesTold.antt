@@ -95,14 +95,14 @@ rules-told (edit.SetStyleTexts edits) book d all texts h =
     All-weaker (IsRuleThere d.book) (IsRuleTold d.book) (λ p there. rule-told d.book p there) (edited_rules xs book)
     (styles_made xs book d.book d.backs all (texts-all edits texts) (styles-are-done edits book d h).done)
 rules-told (edit.SetRuleSelector sheet range selector) book d all texts h =
-    λ plain. one-tells (selector_splice (number_named sheet) (line_range range) selector book) book
+    one-tells (selector_splice (number_named sheet) (line_range range) selector book) book
     (λ s found. made-told book s (BeginsIn (new_range s))
-    (prelude_made (number_named sheet) (line_range range) selector texts plain book s all found))
+    (prelude_made (number_named sheet) (line_range range) selector texts book s all found))
 rules-told (edit.SetStyleSheetText sheet text) book d all texts h = tt
 rules-told (edit.AddRule sheet rule_text location) book d all texts h =
     one-tells (rule_splice (number_named sheet) (line_range location) rule_text book) book
     (λ s found. made-told book s (StandsIn (new_range s))
     (rule_made (number_named sheet) (line_range location) rule_text texts book s all found))
 rules-told (edit.SetMediaText sheet range text) book d all texts h =
-    λ plain. one-tells-media (media_splice (number_named sheet) (line_range range) text book) book
-    (λ s found. media-told book s (media_made (number_named sheet) (line_range range) text plain book s found))
+    one-tells-media (media_splice (number_named sheet) (line_range range) text book) book
+    (λ s found. media-told book s (media_made (number_named sheet) (line_range range) text book s found))

@@ -11,7 +11,6 @@ use Rattle.cdp_messages.specs.Laws.{answers}
 use Rattle.client_views.specs.Moves.{IsPlainReply}
 use Rattle.sheet_reader.specs.declared.book.SheetEntry.{SheetEntry}
 use Rattle.sheet_reader.specs.Books.{IsStored}
-use Rattle.sheet_reader.specs.Preludes.{ends_return}
 use Rattle.style_edits.specs.declared.rule_places.RulePlace.{RulePlace}
 use Rattle.style_edits.specs.declared.splice.Splice.{Splice}
 use Rattle.style_edits.specs.Splices.{after_splice, back_splice, after_splices, TakesSplice}
@@ -96,16 +95,16 @@ abbrev pub TellsMedia : List SheetEntry → Splice → Type 0
 TellsMedia book s = IsMediaTold (after_splice s book) (back_splice s book)
 
 -- What is told of rules is so: of those whose bodies are edited, each as it stands after all of these edits; of one that is added; and of
--- a style rule or a media rule whose prelude is edited, where the new one does not end in a CR
+-- a style rule or a media rule whose prelude is edited
 abbrev pub TellsRules : List SheetEntry → CssEdit → CssDone → Type 0
 TellsRules book (edit.SetStyleTexts edits) d = All (IsRuleTold d.book) (edited_rules (map style_edit edits) book)
 TellsRules book (edit.SetRuleSelector sheet range selector) d =
-    ends_return selector ≡ false → All (TellsMade book) (css_splices book (edit.SetRuleSelector sheet range selector))
+    All (TellsMade book) (css_splices book (edit.SetRuleSelector sheet range selector))
 TellsRules book (edit.SetStyleSheetText sheet text) d = ⊤
 TellsRules book (edit.AddRule sheet rule_text location) d =
     All (TellsMade book) (css_splices book (edit.AddRule sheet rule_text location))
 TellsRules book (edit.SetMediaText sheet range text) d =
-    ends_return text ≡ false → All (TellsMedia book) (css_splices book (edit.SetMediaText sheet range text))
+    All (TellsMedia book) (css_splices book (edit.SetMediaText sheet range text))
 
 -- ---- of an edit
 

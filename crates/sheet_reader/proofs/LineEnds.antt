@@ -18,14 +18,13 @@ use Rattle.css_tokens.specs.Seams.{IsWholeBefore, no_more, piece_and}
 use Rattle.css_tokens.specs.Table.{PieceRow, comment_row, white_space_row, string_row, bad_string_row, hash_row, numeric_row, cdc_row}
 use Rattle.css_tokens.specs.Table.{url_row, bad_url_row, ident_row, cdo_row, at_keyword_row, mark_row, FormOf, IsFirstPiece}
 use Rattle.css_tokens.proofs.TableForms.{first_fits, first_is_first}
-use Rattle.sheet_reader.specs.Preludes.{ends_return}
 use Rattle.sheet_reader.proofs.Behind.{spaced, Piece}
 use Rattle.sheet_reader.proofs.KeyNames.{digits_bytes, escape_apart, unit_front, SameBytes, unit_same}
 use Rattle.sheet_reader.proofs.Raised.{raised}
 use Rattle.sheet_reader.proofs.SealedCuts.{SealedPieces, equal_halves, both}
 use Rattle.sheet_reader.proofs.SpaceRows.{ends_in_name}
 use Rattle.sheet_reader.proofs.SpaceNames.{TakesLine, piece_more}
-use Rattle.sheet_reader.proofs.SpaceUnits.{Facts, over_seam, seam_line}
+use Rattle.sheet_reader.proofs.SpaceUnits.{ends_return, Facts, over_seam, seam_line}
 
 -- ---- the value of a name that takes the LF
 
@@ -346,14 +345,14 @@ whole_near v b g place text _ (piece_and {ts = more} p front rest is len found w
               (piece_and p front (rest ++ 10 ∷ [])
               (ap (λ (t : List ℕ). t ++ 10 ∷ []) is ∙ append_assoc front rest (10 ∷ [])) len (ap first_piece text_is ∙ same) behind);
           stand = (
-              record {
-                low = omega arith;
-                some = omega (arith, holds);
-                high = omega (arith, size, len);
-                last = λ e. absurd (omega (arith, e, size, len, m.some));
-              },
-              subst (λ (t : List ℕ). AllByRecursion (StandsIn place t) more) (sym is)
-                  (stand_behind place p.len front rest more len m.stand),
+            record {
+              low = omega arith;
+              some = omega (arith, holds);
+              high = omega (arith, size, len);
+              last = λ e. absurd (omega (arith, e, size, len, m.some));
+            },
+            subst (λ (t : List ℕ). AllByRecursion (StandsIn place t) more) (sym is)
+                (stand_behind place p.len front rest more len m.stand),
           );
         }
 
@@ -387,20 +386,20 @@ whole_near v b g place text _ (piece_and {ts = more} p front rest is len found w
               (piece_and (piece p.kind (suc (length text))) (text ++ 10 ∷ []) [] (sym (append-nil (text ++ 10 ∷ [])))
               (omega (arith, length-append text (10 ∷ []))) last no_more));
           stand = (
-              record {
-                low = omega arith;
-                some = omega (arith, holds);
-                high = omega (arith, all);
-                last = λ e. record {
-                  before = [];
-                  own = text;
-                  is = refl;
-                  start = omega arith;
-                  says = says_same text p (ap (λ (x : List ℕ). first_piece (x ++ spaced)) (sym bare) ∙ here) all
-                      (sym (ap ends_return bare) ∙ seam_ends v (text ++ g) t.over) t.name;
-                };
-              },
-              subst (AllByRecursion (StandsIn place text)) (sym none) tt,
+            record {
+              low = omega arith;
+              some = omega (arith, holds);
+              high = omega (arith, all);
+              last = λ e. record {
+                before = [];
+                own = text;
+                is = refl;
+                start = omega arith;
+                says = says_same text p (ap (λ (x : List ℕ). first_piece (x ++ spaced)) (sym bare) ∙ here) all
+                    (sym (ap ends_return bare) ∙ seam_ends v (text ++ g) t.over) t.name;
+              };
+            },
+            subst (AllByRecursion (StandsIn place text)) (sym none) tt,
           );
         }
       where

@@ -34,8 +34,7 @@ use Rattle.sheet_reader.specs.Sealing.{is_white_kind, is_close_kind, is_closed_n
 use Rattle.sheet_reader.specs.Sealing.{is_sealed}
 use Rattle.sheet_reader.specs.Brackets.{nesting}
 use Rattle.sheet_reader.proofs.Behind.{spaced, IsBehind, at_end, at_stop, Piece}
-use Rattle.sheet_reader.specs.Preludes.{ends_return}
-use Rattle.sheet_reader.proofs.SpaceUnits.{Facts, facts_behind, Apart, apart_behind, apart_behind_front}
+use Rattle.sheet_reader.proofs.SpaceUnits.{ends_return, Facts, facts_behind, Apart, apart_behind, apart_behind_front}
 use Rattle.sheet_reader.proofs.SpaceNames.{piece_kept}
 
 -- ---- the first piece of a text with pieces

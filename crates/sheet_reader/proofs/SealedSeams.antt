@@ -151,10 +151,10 @@ line_words put = record {
   tight = λ e w j i. by w i
       (λ less. λ x. sym (below_line n e.start (omega (arith, j.some, j.high))) x == sym (below_line n w.end less) x)
       (λ same.
-          let at : past_line n w.end ≡ suc n = at_line n w.end same in
-          let start : past_line n e.start ≡ e.start = below_line n e.start (omega (arith, j.some, j.high)) in
-          apart_places e.start w.end (omega (arith, same, j.some, j.high))
-          ∙ sym (apart_places (past_line n e.start) (past_line n w.end) (omega (arith, at, start, j.some, j.high))));
+      let at : past_line n w.end ≡ suc n = at_line n w.end same in
+      let start : past_line n e.start ≡ e.start = below_line n e.start (omega (arith, j.some, j.high)) in
+      apart_places e.start w.end (omega (arith, same, j.some, j.high))
+      ∙ sym (apart_places (past_line n e.start) (past_line n w.end) (omega (arith, at, start, j.some, j.high))));
 }
   where
     n : ℕ

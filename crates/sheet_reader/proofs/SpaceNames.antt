@@ -420,7 +420,6 @@ by_name v f x s s' (near_same same) =
                 ] refl
           ] refl
     ]
-
 by_name v f x s s' (near_more m e g) =
     let t = x ++ spaced in
     let t' = x ++ v in
@@ -525,9 +524,9 @@ piece_more v f (a ∷ x) p some fits e = by (short_same (length (a ∷ x)) _ _ p
 pub piece_kept : (v : List ℕ) → Facts v → (text : List ℕ) (p : Piece) → Apart text v → 0 < p.len → p.len ≤ length text
     → first_piece (text ++ spaced) ≡ Some p → first_piece (text ++ v) ≡ Some p
 piece_kept v f text p m some fits e = elim (piece_more v f text p some fits e) [
-      | inl same ↦ same
-      | inr more ↦ absurd (clash (over_seam text v) m more.over)
-    ]
+  | inl same ↦ same
+  | inr more ↦ absurd (clash (over_seam text v) m more.over)
+]
   where
     clash : (b : Bool) → b ≡ false → b ≡ true → ⊥
     clash false e g = cc

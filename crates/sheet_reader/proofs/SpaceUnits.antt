@@ -11,8 +11,13 @@ use Rattle.css_tokens.specs.Runs.{starts_ident}
 use Rattle.css_tokens.proofs.SeamUnits.{stop_facts, prefix_within}
 use Rattle.std.proofs.lemmas.Bool.{eqb-true}
 use Rattle.std.proofs.lemmas.Bool.Decides.{nat_tests}
-use Rattle.sheet_reader.specs.Preludes.{ends_return}
 use Rattle.sheet_reader.proofs.Behind.{spaced, IsBehind, at_end, at_stop}
+
+-- the last code is a CR: it may be one newline with an LF behind it
+abbrev pub ends_return : List ℕ → Bool
+ends_return [] = false
+ends_return (a ∷ []) = a == 13
+ends_return (a ∷ b ∷ rest) = ends_return (b ∷ rest)
 
 -- what is known of what stands behind
 pub record Facts (v : List ℕ) : Type 0 where

@@ -1,7 +1,6 @@
 -- A new prelude in the place of that of a style rule or a media rule.
-use Rattle.std.specs.Prelude.{ℕ, ◌<◌, ◌≤◌, ◌==◌, ◌&&◌, nat_lt, Bool, false, List, [], ◌∷◌, ◌++◌, length, slice_get, Option, Some, None}
-use Rattle.std.specs.Prelude.{IsSomeAnd}
-use Rattle.std.specs.Prelude.{if◌then◌else◌}
+use Rattle.std.specs.Prelude.{ℕ, ◌<◌, ◌≤◌, ◌==◌, ◌&&◌, nat_lt, Bool, List, [], ◌∷◌, ◌++◌, length, slice_get, Option, Some, None}
+use Rattle.std.specs.Prelude.{IsSomeAnd, if◌then◌else◌}
 use Rattle.std.specs.List.{find, prefix_len}
 use Rattle.css_tokens.specs.declared.token.Range.{Range}
 use Rattle.css_tokens.specs.declared.token.Token.{Token}
@@ -9,12 +8,6 @@ use Rattle.css_tokens.specs.Pieces.{pieces}
 use Rattle.selectors.specs.Words.{between}
 use Rattle.sheet_reader.specs.Grammar.{is_at_keyword}
 use Rattle.sheet_reader.specs.Forms.{RuleForm}
-
--- the last code is a CR: it may be one newline with an LF behind it
-abbrev pub ends_return : List ℕ → Bool
-ends_return [] = false
-ends_return (a ∷ []) = a == 13
-ends_return (a ∷ b ∷ rest) = ends_return (b ∷ rest)
 
 -- a style rule whose prelude starts in this part of the text, and its body not before it
 pub record BeginsIn (part : Range) (r : RuleForm) : Type 0 where

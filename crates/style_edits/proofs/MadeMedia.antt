@@ -10,7 +10,7 @@ use Rattle.sheet_reader.specs.declared.book.SheetEntry.{SheetEntry}
 use Rattle.sheet_reader.specs.declared.sheet.MediaRule.{MediaRule}
 use Rattle.sheet_reader.specs.Books.{entry_of}
 use Rattle.sheet_reader.specs.Forms.{range}
-use Rattle.sheet_reader.specs.Preludes.{ends_return, spaces_at}
+use Rattle.sheet_reader.specs.Preludes.{spaces_at}
 use Rattle.sheet_reader.specs.Sealing.{is_sealed_prelude}
 use Rattle.sheet_reader.specs.Sheets.{sheet_of}
 use Rattle.sheet_reader.proofs.NewMedia.{media_stays}
@@ -111,9 +111,9 @@ prefix_most p (m ∷ ms) =
 last_one : (p : MediaRule → Bool) (ms : List MediaRule) (k : ℕ) → IsSome (slice_get ms k) → IsSome (slice_get ms (prefix_len p ms - 1))
 last_one p ms k e = get_some ms (prefix_len p ms - 1) (omega (arith, some_one ms k e, prefix_most p ms))
 
-pub media_made : (id : ℕ) (lines : LineRange) (text : List ℕ) → ends_return text ≡ false → (book : List SheetEntry) (s : Splice)
+pub media_made : (id : ℕ) (lines : LineRange) (text : List ℕ) (book : List SheetEntry) (s : Splice)
     → media_splice id lines text book ≡ Ok s → MakesMedia book s
-media_made id lines text plain book s h =
+media_made id lines text book s h =
     let m = media_remedia id lines text book s h in
     let d = made s book m.sheet m.found in
     let next = after_splice s book in
@@ -121,7 +121,7 @@ media_made id lines text plain book s h =
     let stays : IsSome (slice_get (sheet_of (spliced m.sheet.text s.start s.end (spaces_at m.sheet.text s.start ++ text))).media m.k) =
     subst (λ (part : Range). IsSome (slice_get
     (sheet_of (spliced m.sheet.text part.start part.end (spaces_at m.sheet.text part.start ++ text))).media m.k)) m.prelude
-    (media_stays m.sheet.text text m.k m.rule m.there m.sealed plain) in
+    (media_stays m.sheet.text text m.k m.rule m.there m.sealed) in
     let own : IsSome (slice_get (sheet_of new).media m.k) =
     subst (λ (put : List ℕ). IsSome (slice_get (sheet_of (spliced m.sheet.text s.start s.end put)).media m.k)) (sym m.own) stays in
     let there : entry_of s.sheet next ≡ Some (spliced_entry s m.sheet) = ap (entry_of s.sheet) d.after ∙ d.there in
