@@ -30,49 +30,53 @@ use Rattle.sheet_reader.specs.Grammar.{is_at_keyword}
 
 -- ---- the row of at-keywords
 
-kind_clash : (k named : TokenKind) → k ≡ named → is_at_keyword named ≡ false → is_at_keyword k ≡ true → ⊥
-kind_clash k named e a b = clash (is_at_keyword k) b (ap is_at_keyword e ∙ a)
+-- a predicate that holds of none of the kinds of marks
+pub mark_not : (p : TokenKind → Bool) → p tokens.Colon ≡ false → p tokens.Semicolon ≡ false → p tokens.Comma ≡ false → p tokens.OpenSquare ≡ false
+    → p tokens.CloseSquare ≡ false → p tokens.OpenRound ≡ false → p tokens.CloseRound ≡ false → p tokens.OpenCurly ≡ false
+    → p tokens.CloseCurly ≡ false → p tokens.Delim ≡ false → (c : ℕ) → p (mark_kind c) ≡ false
+mark_not p e1 e2 e3 e4 e5 e6 e7 e8 e9 e0 c =
+    by (c == 58) (c == 59) (c == 44) (c == 91) (c == 93) (c == 40) (c == 41) (c == 123) (c == 125)
+  where
+    by : (b1 b2 b3 b4 b5 b6 b7 b8 b9 : Bool)
+        → p (cond b1 tokens.Colon (cond b2 tokens.Semicolon (cond b3 tokens.Comma (cond b4 tokens.OpenSquare
+        (cond b5 tokens.CloseSquare (cond b6 tokens.OpenRound (cond b7 tokens.CloseRound (cond b8 tokens.OpenCurly
+        (cond b9 tokens.CloseCurly tokens.Delim))))))))) ≡ false
+    by true b2 b3 b4 b5 b6 b7 b8 b9 = e1
+    by false true b3 b4 b5 b6 b7 b8 b9 = e2
+    by false false true b4 b5 b6 b7 b8 b9 = e3
+    by false false false true b5 b6 b7 b8 b9 = e4
+    by false false false false true b6 b7 b8 b9 = e5
+    by false false false false false true b7 b8 b9 = e6
+    by false false false false false false true b8 b9 = e7
+    by false false false false false false false true b9 = e8
+    by false false false false false false false false true = e9
+    by false false false false false false false false false = e0
+
+pub kind_clash : (p : TokenKind → Bool) (k named : TokenKind) → k ≡ named → p named ≡ false → p k ≡ true → ⊥
+kind_clash p k named e a b = clash (p k) b (ap p e ∙ a)
   where
     clash : (b : Bool) → b ≡ true → b ≡ false → ⊥
     clash true e g = cc
     clash false e g = cc
 
-mark_other : (c : ℕ) → is_at_keyword (mark_kind c) ≡ false
-mark_other c = by (c == 58) (c == 59) (c == 44) (c == 91) (c == 93) (c == 40) (c == 41) (c == 123) (c == 125)
-  where
-    by : (b1 b2 b3 b4 b5 b6 b7 b8 b9 : Bool)
-        → is_at_keyword (cond b1 tokens.Colon (cond b2 tokens.Semicolon (cond b3 tokens.Comma (cond b4 tokens.OpenSquare
-        (cond b5 tokens.CloseSquare (cond b6 tokens.OpenRound (cond b7 tokens.CloseRound (cond b8 tokens.OpenCurly
-        (cond b9 tokens.CloseCurly tokens.Delim))))))))) ≡ false
-    by true b2 b3 b4 b5 b6 b7 b8 b9 = refl
-    by false true b3 b4 b5 b6 b7 b8 b9 = refl
-    by false false true b4 b5 b6 b7 b8 b9 = refl
-    by false false false true b5 b6 b7 b8 b9 = refl
-    by false false false false true b6 b7 b8 b9 = refl
-    by false false false false false true b7 b8 b9 = refl
-    by false false false false false false true b8 b9 = refl
-    by false false false false false false false true b9 = refl
-    by false false false false false false false false true = refl
-    by false false false false false false false false false = refl
-
 at_row : (row : PieceRow) (k : TokenKind) (front rest : List ℕ) → is_at_keyword k ≡ true → FormOf row k front rest
     → AtKeywordForm k front rest
 at_row at_keyword_row k front rest e f = f
-at_row comment_row k front rest e f = absurd (kind_clash k _ f.named refl e)
-at_row white_space_row k front rest e f = absurd (kind_clash k _ f.named refl e)
-at_row string_row k front rest e f = absurd (kind_clash k _ f.named refl e)
-at_row bad_string_row k front rest e f = absurd (kind_clash k _ f.named refl e)
-at_row hash_row k front rest e f = absurd (kind_clash k _ f.named refl e)
+at_row comment_row k front rest e f = absurd (kind_clash is_at_keyword k _ f.named refl e)
+at_row white_space_row k front rest e f = absurd (kind_clash is_at_keyword k _ f.named refl e)
+at_row string_row k front rest e f = absurd (kind_clash is_at_keyword k _ f.named refl e)
+at_row bad_string_row k front rest e f = absurd (kind_clash is_at_keyword k _ f.named refl e)
+at_row hash_row k front rest e f = absurd (kind_clash is_at_keyword k _ f.named refl e)
 at_row numeric_row k front rest e (a_percentage number l is) = cc
 at_row numeric_row k front rest e (a_dimension number name l is s n) = cc
 at_row numeric_row k front rest e (a_number l a b) = cc
-at_row cdc_row k front rest e f = absurd (kind_clash k _ f.named refl e)
-at_row url_row k front rest e f = absurd (kind_clash k _ f.named refl e)
-at_row bad_url_row k front rest e f = absurd (kind_clash k _ f.named refl e)
+at_row cdc_row k front rest e f = absurd (kind_clash is_at_keyword k _ f.named refl e)
+at_row url_row k front rest e f = absurd (kind_clash is_at_keyword k _ f.named refl e)
+at_row bad_url_row k front rest e f = absurd (kind_clash is_at_keyword k _ f.named refl e)
 at_row ident_row k front rest e f =
-    elim f.kinds [ inl a ↦ absurd (kind_clash k _ a.0 refl e) | inr b ↦ absurd (kind_clash k _ b.0 refl e) ]
-at_row cdo_row k front rest e f = absurd (kind_clash k _ f.named refl e)
-at_row mark_row k front rest e f = absurd (kind_clash k _ f.named (mark_other f.character) e)
+    elim f.kinds [ inl a ↦ absurd (kind_clash is_at_keyword k _ a.0 refl e) | inr b ↦ absurd (kind_clash is_at_keyword k _ b.0 refl e) ]
+at_row cdo_row k front rest e f = absurd (kind_clash is_at_keyword k _ f.named refl e)
+at_row mark_row k front rest e f = absurd (kind_clash is_at_keyword k _ f.named (mark_not is_at_keyword refl refl refl refl refl refl refl refl refl refl f.character) e)
 
 -- what begins with `@` and an ident start is an at-keyword
 at_first : (x : List ℕ) → starts_ident x ≡ true → first_piece (64 ∷ x) ≡ Some (piece AtKeyword (1 + name_len x))

@@ -1,30 +1,30 @@
 -- A sealed text that ends in a CR, before an LF: its pieces are those before a space, of which the last one may take the LF.
-use Rattle.std.proofs.Common.{◌≡◌, ◌⊎◌, inl, inr, ℕ, suc, ◌+◌, ◌<◌, ◌≤◌, nat_lt, ◌==◌, Bool, true, false, cond, ◌&&◌, List, [], ◌∷◌}
+use Rattle.std.proofs.Common.{◌≡◌, ◌⊎◌, inl, inr, ℕ, suc, ◌+◌, ◌<◌, ◌≤◌, nat_lt, ◌==◌, Bool, true, false, cond, List, [], ◌∷◌}
 use Rattle.std.proofs.Common.{◌++◌, map, length, drop, Some, refl, sym, ap, subst, ◌∙◌, append_assoc, append-nil, length-append, arith}
 use Rattle.std.specs.List.{AllByRecursion, list_all}
-use Rattle.std.specs.Char.{is_ascii_hexdigit, encode_utf8}
+use Rattle.std.specs.Char.{is_ascii_hexdigit}
 use Rattle.std.proofs.lemmas.Bool.{eqb-true}
 use Rattle.std.proofs.lemmas.Bool.Decides.{nat_tests}
 use Rattle.css_tokens.specs.declared.token.Token.{Token}
 use Rattle.css_tokens.specs.declared.token.TokenKind.{TokenKind}
 use Rattle.css_tokens.specs.declared.token.TokenKind.TheVariants as tokens
 use Rattle.css_tokens.specs.Codes.{begins, is_ident, is_newline}
-use Rattle.css_tokens.specs.Escapes.{unescaped, escape_bytes, character_of, hex_value}
-use Rattle.css_tokens.specs.Forms.{IsOneWhite, white_none, white_crlf, white_code, IsEscape, escape_hex, escape_code, escape_end}
-use Rattle.css_tokens.specs.Forms.{Units, no_units, unit_and, NameUnit, name_code, name_escape, IdentForm, HashForm}
+use Rattle.css_tokens.specs.Escapes.{unescaped, escape_bytes}
+use Rattle.css_tokens.specs.Forms.{white_none, white_crlf, white_code, IsEscape, escape_hex, escape_code, escape_end}
+use Rattle.css_tokens.specs.Forms.{Units, no_units, unit_and, NameUnit, name_code, name_escape}
 use Rattle.css_tokens.specs.Forms.{a_percentage, a_dimension, a_number}
-use Rattle.css_tokens.specs.Rows.{piece, first_piece, mark_kind}
+use Rattle.css_tokens.specs.Rows.{piece, first_piece}
 use Rattle.css_tokens.specs.Seams.{IsWholeBefore, no_more, piece_and}
 use Rattle.css_tokens.specs.Table.{PieceRow, comment_row, white_space_row, string_row, bad_string_row, hash_row, numeric_row, cdc_row}
 use Rattle.css_tokens.specs.Table.{url_row, bad_url_row, ident_row, cdo_row, at_keyword_row, mark_row, FormOf, IsFirstPiece}
 use Rattle.css_tokens.proofs.TableForms.{first_fits, first_is_first}
 use Rattle.sheet_reader.proofs.Behind.{spaced, Piece}
-use Rattle.sheet_reader.proofs.KeyNames.{digits_bytes, escape_apart, unit_front, SameBytes, unit_same}
+use Rattle.sheet_reader.proofs.KeyNames.{mark_not, kind_clash, digits_bytes, escape_apart, unit_front, unit_same}
 use Rattle.sheet_reader.proofs.Raised.{raised}
-use Rattle.sheet_reader.proofs.SealedCuts.{SealedPieces, equal_halves, both}
+use Rattle.sheet_reader.proofs.SealedCuts.{SealedPieces, equal_halves}
 use Rattle.sheet_reader.proofs.SpaceRows.{ends_in_name}
 use Rattle.sheet_reader.proofs.SpaceNames.{TakesLine, piece_more}
-use Rattle.sheet_reader.proofs.SpaceUnits.{ends_return, Facts, over_seam, seam_line}
+use Rattle.sheet_reader.proofs.SpaceUnits.{ends_return, both, Facts, over_seam, seam_line}
 
 -- ---- the value of a name that takes the LF
 
@@ -32,9 +32,6 @@ ends_behind : (xs : List ℕ) (y : ℕ) (ys : List ℕ) → ends_return (xs ++ y
 ends_behind [] y ys = refl
 ends_behind (a ∷ []) y ys = refl
 ends_behind (a ∷ b ∷ xs) y ys = ends_behind (b ∷ xs) y ys
-
-no_return : (c : ℕ) (p : ℕ → Bool) (b : Bool) → p 13 ≡ b → p c ≡ true → (c == 13) ≡ true → b ≡ true
-no_return c p b none e at = sym none ∙ ap p (sym (eqb-true c 13 at)) ∙ e
 
 no_digit : (d : ℕ) (digits : List ℕ) → list_all is_ascii_hexdigit digits ≡ true → (d == 13) ≡ false → ends_return (d ∷ digits) ≡ true → ⊥
 no_digit d [] hex other e = clash (d == 13) other e
@@ -103,34 +100,6 @@ name_line name (unit_and {first = first} {others = others} is unit more) e =
         ∙ ap (λ (t : List ℕ). b.bytes ++ t) (below (sym (ends_behind first o os) ∙ e)) ∙ sym b.one
 
 -- ---- which pieces do
-
-mark_not : (p : TokenKind → Bool) → p tokens.Colon ≡ false → p tokens.Semicolon ≡ false → p tokens.Comma ≡ false → p tokens.OpenSquare ≡ false
-    → p tokens.CloseSquare ≡ false → p tokens.OpenRound ≡ false → p tokens.CloseRound ≡ false → p tokens.OpenCurly ≡ false
-    → p tokens.CloseCurly ≡ false → p tokens.Delim ≡ false → (c : ℕ) → p (mark_kind c) ≡ false
-mark_not p e1 e2 e3 e4 e5 e6 e7 e8 e9 e0 c =
-    by (c == 58) (c == 59) (c == 44) (c == 91) (c == 93) (c == 40) (c == 41) (c == 123) (c == 125)
-  where
-    by : (b1 b2 b3 b4 b5 b6 b7 b8 b9 : Bool)
-        → p (cond b1 tokens.Colon (cond b2 tokens.Semicolon (cond b3 tokens.Comma (cond b4 tokens.OpenSquare
-        (cond b5 tokens.CloseSquare (cond b6 tokens.OpenRound (cond b7 tokens.CloseRound (cond b8 tokens.OpenCurly
-        (cond b9 tokens.CloseCurly tokens.Delim))))))))) ≡ false
-    by true b2 b3 b4 b5 b6 b7 b8 b9 = e1
-    by false true b3 b4 b5 b6 b7 b8 b9 = e2
-    by false false true b4 b5 b6 b7 b8 b9 = e3
-    by false false false true b5 b6 b7 b8 b9 = e4
-    by false false false false true b6 b7 b8 b9 = e5
-    by false false false false false true b7 b8 b9 = e6
-    by false false false false false false true b8 b9 = e7
-    by false false false false false false false true b9 = e8
-    by false false false false false false false false true = e9
-    by false false false false false false false false false = e0
-
-kind_clash : (p : TokenKind → Bool) (k named : TokenKind) → k ≡ named → p named ≡ false → p k ≡ true → ⊥
-kind_clash p k named e a b = clash (p k) b (ap p e ∙ a)
-  where
-    clash : (b : Bool) → b ≡ true → b ≡ false → ⊥
-    clash true e g = cc
-    clash false e g = cc
 
 is_plain : TokenKind → Bool
 is_plain tokens.Ident = true

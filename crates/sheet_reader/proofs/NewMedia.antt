@@ -46,7 +46,7 @@ use Rattle.sheet_reader.proofs.ExchangeForms.{reaches}
 use Rattle.sheet_reader.proofs.FrameForms.{media_append}
 use Rattle.sheet_reader.proofs.FreeWords.{closed_opens}
 use Rattle.sheet_reader.proofs.Gaps.{AllPassed, Gap, no_gap, gap_white, gap_comment, gap_mark, gap_append, gap_whites}
-use Rattle.sheet_reader.proofs.Gaps.{gap_of, skips, facts_gap, passed_top, white_codes, white_first}
+use Rattle.sheet_reader.proofs.Gaps.{gap_of, skips, passed_top, white_codes, white_first}
 use Rattle.sheet_reader.proofs.GrammarForms.{parts_spelled}
 use Rattle.sheet_reader.proofs.KeyNames.{units_front, Moves, stays, grows, units_move, SaysMedia, starts_media, KeyName, key_name}
 use Rattle.sheet_reader.proofs.KeyNames.{key_piece}
@@ -64,6 +64,7 @@ use Rattle.sheet_reader.proofs.Raised.{raised}
 use Rattle.sheet_reader.proofs.ReadMoves.{AllTokens, nesting_raised}
 use Rattle.sheet_reader.proofs.SealedCuts.{SealedPieces, sealed_pieces, sealed_own, white_is, AllWhite}
 use Rattle.sheet_reader.proofs.SealedSeams.{CutBefore, cut_before}
+use Rattle.sheet_reader.proofs.SpaceUnits.{both}
 use Rattle.sheet_reader.proofs.SpotEnds.{strip}
 use Rattle.sheet_reader.proofs.Spots.{Spot, nested_stays, closing, media_named, cut_is, values_at}
 use Rattle.sheet_reader.proofs.TextMoves.{whole_tokens}
@@ -249,10 +250,6 @@ record NewPrelude (place : ℕ) (tail : List ℕ) : Type 0 where
 
 brace_here : (brace : Token) (rest : List Token) → brace.kind ≡ tokens.OpenCurly → until stops.BlockOrSemicolon (brace ∷ rest) ≡ 0
 brace_here brace rest curly = stop_here stops.BlockOrSemicolon [] brace rest (ap (stops_at stops.BlockOrSemicolon) curly)
-
-both : (a b : Bool) → (a && b) ≡ true → (a ≡ true) × (b ≡ true)
-both true b e = (refl, e)
-both false b e = cc
 
 -- the search passes the pieces of the text put in, but for white space at its end
 us_on : (put : List ℕ) → is_sealed_prelude put ≡ true → (s : SealedPieces put) → nesting s.us ≡ Closed → (ys : List Token)

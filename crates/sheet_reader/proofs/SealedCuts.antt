@@ -34,7 +34,7 @@ use Rattle.sheet_reader.specs.Sealing.{is_white_kind, is_close_kind, is_closed_n
 use Rattle.sheet_reader.specs.Sealing.{is_sealed}
 use Rattle.sheet_reader.specs.Brackets.{nesting}
 use Rattle.sheet_reader.proofs.Behind.{spaced, IsBehind, at_end, at_stop, Piece}
-use Rattle.sheet_reader.proofs.SpaceUnits.{ends_return, Facts, facts_behind, Apart, apart_behind, apart_behind_front}
+use Rattle.sheet_reader.proofs.SpaceUnits.{ends_return, both, Facts, facts_behind, Apart, apart_behind, apart_behind_front}
 use Rattle.sheet_reader.proofs.SpaceNames.{piece_kept}
 
 -- ---- the first piece of a text with pieces
@@ -145,10 +145,6 @@ last_split p ts e = by (snoc_of ts) e
           passes = sym (ap (kind_passes p) last) ∙ e;
           but_last = ap (λ (n : ℕ). take n (front ++ t ∷ [])) size ∙ take-append_seam front (t ∷ []);
         }
-
-pub both : (a b : Bool) → (a && b) ≡ true → (a ≡ true) × (b ≡ true)
-both true b e = (refl, e)
-both false b e = cc
 
 -- the pieces of a sealed text with the space and `}` behind it
 record SealedEnd (ts : List Token) : Type 0 where

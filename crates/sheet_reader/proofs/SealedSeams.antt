@@ -4,7 +4,7 @@ use Rattle.std.proofs.Common.{drop, Option, Some, None, refl, sym, ap, subst, â—
 use Rattle.std.specs.List.{AllByRecursion}
 use Rattle.std.specs.Prelude.{slice_index, option_map}
 use Rattle.std.proofs.lemmas.Bool.Decides.{nat_tests}
-use Rattle.std.proofs.lemmas.List.{drop-drop, length-drop}
+use Rattle.std.proofs.lemmas.List.{drop-drop}
 use Rattle.std.proofs.Math.Seq.{drop-append_seam, take-append_seam}
 use Rattle.css_tokens.specs.declared.token.Token.{Token}
 use Rattle.css_tokens.specs.declared.token.TokenKind.{TokenKind}
@@ -12,17 +12,14 @@ use Rattle.css_tokens.specs.declared.token.TokenKind.TheVariants as tokens
 use Rattle.css_tokens.specs.Escapes.{unescaped}
 use Rattle.css_tokens.specs.Seams.{IsWholeBefore}
 use Rattle.selectors.specs.declared.words.Word.{Word}
-use Rattle.selectors.specs.declared.words.WordKind.{WordKind}
 use Rattle.selectors.specs.declared.words.WordKind.TheVariants as words
 use Rattle.selectors.specs.Forms.{SelectorForm}
 use Rattle.selectors.specs.Moves.{placed_selector}
 use Rattle.selectors.specs.Reading.{selector_list_of, word_value, hash_value, function_of, string_of}
 use Rattle.selectors.specs.Words.{between, word_kind, word_of, word_reading, words_after, words_by, passed_over}
-use Rattle.sheet_reader.specs.declared.brackets.Bracket.{Bracket}
-use Rattle.sheet_reader.specs.declared.brackets.Stop.{Stop}
 use Rattle.sheet_reader.specs.declared.parts.Level.TheVariants.{Inner}
 use Rattle.sheet_reader.proofs.Gaps.{Gap, no_gap, gap_white, gap_comment, gap_mark, facts_gap}
-use Rattle.sheet_reader.proofs.LineEnds.{past_line, below_line, at_line, LastCodes, StandsIn, TakesOne, SaysSame, sealed_near}
+use Rattle.sheet_reader.proofs.LineEnds.{past_line, below_line, at_line, LastCodes, StandsIn, TakesOne, sealed_near}
 use Rattle.sheet_reader.proofs.Raised.{raised, raised_word}
 use Rattle.sheet_reader.proofs.ReadMoves.{AllTokens}
 use Rattle.sheet_reader.proofs.SealedCuts.{SealedPieces, AllWhite}

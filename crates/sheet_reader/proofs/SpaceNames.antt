@@ -11,10 +11,10 @@ use Rattle.css_tokens.specs.Rows.{◌or◌, when, piece, open_url_len, is_url, o
 use Rattle.css_tokens.specs.Rows.{closes_url, first_piece, comment, white_space, string, bad_string, hash, numeric, cdc, url, bad_url}
 use Rattle.css_tokens.specs.Rows.{ident, cdo, at_keyword, mark}
 use Rattle.css_tokens.proofs.Ends.{run_stops}
-use Rattle.sheet_reader.proofs.Behind.{spaced, Piece, IsBehind}
-use Rattle.sheet_reader.proofs.SpaceUnits.{Facts, facts_behind, Short, Near, near_same, near_past, near_more, near_wide, near_add}
+use Rattle.sheet_reader.proofs.Behind.{spaced, Piece}
+use Rattle.sheet_reader.proofs.SpaceUnits.{Facts, Short, Near, near_same, near_past, near_more, near_wide, near_add}
 use Rattle.sheet_reader.proofs.SpaceUnits.{near_cond, near_else, begins_at, StartsSame, starts_at, escape_at, bad_url_at, run_at, run_least}
-use Rattle.sheet_reader.proofs.SpaceUnits.{over_seam, seam_line, seam_drop, Apart, apart_behind}
+use Rattle.sheet_reader.proofs.SpaceUnits.{over_seam, seam_line, seam_drop, Apart}
 use Rattle.sheet_reader.proofs.SpaceRows.{Keeps, keeps_none, keeps_same, keeps_long, keeps_more, or_keeps, same_keeps, short_keeps, less}
 use Rattle.sheet_reader.proofs.SpaceRows.{closed_near}
 use Rattle.sheet_reader.proofs.SpaceRows.{longer, as_long}
@@ -531,7 +531,3 @@ piece_kept v f text p m some fits e = elim (piece_more v f text p some fits e) [
     clash : (b : Bool) → b ≡ false → b ≡ true → ⊥
     clash false e g = cc
     clash true e g = cc
-
-pub piece_keeps : (v : List ℕ) → IsBehind v → (text : List ℕ) (p : Piece) → 0 < p.len → p.len ≤ length text
-    → first_piece (text ++ spaced) ≡ Some p → first_piece (text ++ v) ≡ Some p
-piece_keeps v b text p some fits e = piece_kept v (facts_behind v b) text p (apart_behind v b text) some fits e

@@ -96,9 +96,6 @@ pub apart_behind : (v : List ℕ) → IsBehind v → (x : List ℕ) → Apart x 
 apart_behind v at_end x = and_none (ends_return x)
 apart_behind v (at_stop c rest stop) x = apart_any (c ∷ rest) (stop_facts c stop).ten x
 
-pub apart_none : (v x : List ℕ) → ends_return x ≡ false → Apart x v
-apart_none v x e = ap (λ (b : Bool). b && begins (λ d. d == 10) v) e
-
 or_false : (a b : Bool) → a ≡ false → b ≡ false → (a || b) ≡ false
 or_false false false e g = refl
 or_false false true e g = cc
@@ -181,23 +178,11 @@ pub short_one : (n a b : ℕ) → Short n a b → Short (suc n) (1 + a) (1 + b)
 short_one n a b (inl same) = inl (omega (arith, same))
 short_one n a b (inr far) = inr (omega (arith, far))
 
-pub short_cond : (b : Bool) (n x y d : ℕ) → Short n x y → Short n (cond b x d) (cond b y d)
-short_cond true n x y d h = h
-short_cond false n x y d h = inl refl
-
-pub short_else : (b : Bool) (n x y d : ℕ) → Short n x y → Short n (cond b d x) (cond b d y)
-short_else true n x y d h = inl refl
-short_else false n x y d h = h
-
 -- The same, or past n; or, where a CR LF stands over the seam, one more than n where the first is n
 pub data Near (seam : Bool) (n a b : ℕ) : Type 0 where
   near_same : ◌≡◌ {A = ℕ} a b → Near seam n a b
   near_past : n < a → Near seam n a b
   near_more : seam ≡ true → ◌≡◌ {A = ℕ} a n → ◌≡◌ {A = ℕ} b (suc n) → Near seam n a b
-
-pub near_of : {s : Bool} (n a b : ℕ) → Short n a b → Near s n a b
-near_of n a b (inl same) = near_same same
-near_of n a b (inr far) = near_past far
 
 pub near_wide : {s t : Bool} (n a b : ℕ) → (s ≡ true → t ≡ true) → Near s n a b → Near t n a b
 near_wide n a b wide (near_same e) = near_same e
@@ -259,9 +244,9 @@ taken_in p (suc k) (d ∷ x) a =
     elim (p d) as (λ b. cond b (1 + prefix_len p (take k (x ++ spaced))) 0 ≤ length (d ∷ x)) [ true ↦ omega arith | false ↦ omega arith ]
 
 -- ---- escapes
-both_true : (a b : Bool) → (a && b) ≡ true → (a ≡ true) × (b ≡ true)
-both_true true b e = (refl, e)
-both_true false b e = absurd (cc)
+pub both : (a b : Bool) → (a && b) ≡ true → (a ≡ true) × (b ≡ true)
+both true b e = (refl, e)
+both false b e = absurd (cc)
 
 white_at : (v x : List ℕ) → Near (over_seam x v) (length x) (white_len (x ++ spaced)) (white_len (x ++ v))
 white_at v [] = near_past (omega arith)
@@ -270,7 +255,7 @@ white_at v (a ∷ []) = by (over_seam (a ∷ []) v) refl
     by : (b : Bool) → over_seam (a ∷ []) v ≡ b → Near (over_seam (a ∷ []) v) 1 (white_len (a ∷ spaced)) (white_len (a ∷ v))
     by false m = near_same (ap (λ (b : Bool). cond b 2 (cond (is_white a) 1 0)) (and_none (a == 13) ∙ sym m))
     by true m =
-        let code : a ≡ 13 = eqb-true a 13 (both_true (a == 13) _ m).0 in
+        let code : a ≡ 13 = eqb-true a 13 (both (a == 13) _ m).0 in
         near_more m (ap (λ (c : ℕ). white_len (c ∷ spaced)) code) (ap (λ (b : Bool). cond b 2 (cond (is_white a) 1 0)) m)
 white_at v (a ∷ b ∷ x) = near_same refl
 
@@ -359,7 +344,7 @@ newline_at v a [] = by (over_seam (a ∷ []) v) refl
     by : (b : Bool) → over_seam (a ∷ []) v ≡ b → Near (over_seam (a ∷ []) v) 1 (newline_len (a ∷ spaced)) (newline_len (a ∷ v))
     by false m = near_same (ap (λ (b : Bool). cond (is_newline a) (cond b 2 1) 0) (and_none (a == 13) ∙ sym m))
     by true m =
-        let code : a ≡ 13 = eqb-true a 13 (both_true (a == 13) _ m).0 in
+        let code : a ≡ 13 = eqb-true a 13 (both (a == 13) _ m).0 in
         near_more m (ap (λ (c : ℕ). newline_len (c ∷ spaced)) code)
         (ap (λ (b : Bool). cond (is_newline a) (cond b 2 1) 0) m ∙ ap (λ (c : ℕ). cond (is_newline c) 2 0) code)
 newline_at v a (b ∷ x) = near_same refl

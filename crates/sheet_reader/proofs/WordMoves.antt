@@ -482,9 +482,6 @@ module _ (text other : List ℕ) (f : ℕ → ℕ) (In : Word → Type 0) (same 
   first_part_agrees (w ∷ ws) all = first_by_agrees w ws w.kind refl all.0 all.1
 
   -- ---- compounds and selectors
-  ReadsSame : {X : Type 0} → (WordReading → Option ((List X × Bool) × WordReading)) → Type 0
-  ReadsSame read = (ws : List Word) → AllWords In ws → Agrees (read (here ws)) (read (there ws))
-
   front_agrees : {X : Type 0} (front : List X) (o o' : Option ((List X × Bool) × WordReading)) → Agrees o o'
       → Agrees (with_front front o) (with_front front o')
   front_agrees front _ _ fails = fails
