@@ -58,7 +58,7 @@ one-tells (Ok s) book each = All-cons (TellsMade book) s [] (each s refl) (All-n
 
 -- a media rule that is there is told
 media-told : (book : List SheetEntry) (s : Splice) → MakesMedia book s → TellsMedia book s
-media-told book s there = by-sheet (entry_of back.sheet next) there
+media-told book s made = by-sheet (entry_of back.sheet next) made.there
   where
     next : List SheetEntry
     next = after_splice s book
@@ -105,4 +105,4 @@ rules-told (edit.AddRule sheet rule_text location) book d all texts h =
     (rule_made (number_named sheet) (line_range location) rule_text texts book s all found))
 rules-told (edit.SetMediaText sheet range text) book d all texts h =
     one-tells-media (media_splice (number_named sheet) (line_range range) text book) book
-    (λ s found. media-told book s (media_made (number_named sheet) (line_range range) text book s found))
+    (λ s found. media-told book s (media_made (number_named sheet) (line_range range) text texts book s all found))

@@ -65,3 +65,4 @@ pub mod OldMedia
 pub mod NewMedia
 pub mod LineEnds
 pub mod SealedSeams
+pub mod MediaStarts

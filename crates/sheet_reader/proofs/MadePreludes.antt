@@ -48,12 +48,12 @@ use Rattle.sheet_reader.proofs.PreludeWords.{first_word, range_some, trail_words
 use Rattle.sheet_reader.proofs.PutPieces.{WholeParts, whole_split, whole_on, ends_there, inner_solid, PutPieces, put_pieces}
 use Rattle.sheet_reader.proofs.Raised.{raised, raised_word}
 use Rattle.sheet_reader.proofs.ReadMoves.{AllTokens, words_same, words_in, nesting_raised}
-use Rattle.sheet_reader.proofs.SealedCuts.{open_first, open_piece, close_first, close_piece, equal_halves}
+use Rattle.sheet_reader.proofs.SealedCuts.{open_first, open_piece, close_first, close_piece, equal_halves, split_at}
 use Rattle.sheet_reader.proofs.SpotEnds.{is_mark_kind, EndsMarked, Strip, bare, marked, strip}
 use Rattle.sheet_reader.proofs.SpotPaths.{spot_of}
 use Rattle.sheet_reader.proofs.Spots.{Spot, at_spot, Led, reads, nested_stays, led_lead}
 use Rattle.sheet_reader.proofs.SpotStarts.{StartsBy, all_by, whole_seam, spot_starts}
-use Rattle.sheet_reader.proofs.TextMoves.{pieces_moved, same_part, whole_tokens}
+use Rattle.sheet_reader.proofs.TextMoves.{pieces_moved, same_part, whole_tokens, widen}
 use Rattle.sheet_reader.proofs.WordMoves.{SamePart, list_same, range_same}
 
 -- ---- the place between parts, where the prelude begins
@@ -277,16 +277,24 @@ brace_pieces : (place : ℕ) (rest : List ℕ) → pieces_after place 0 (123 ∷
 brace_pieces place rest = piece_first (123 ∷ rest) place (piece tokens.OpenCurly 1) (open_piece rest) (omega arith) (omega arith)
 
 -- what stands behind the text put in
-pub record TailPieces (place : ℕ) (tail : List ℕ) : Type 0 where
+pub record TailPieces (place : ℕ) (gap rest : List ℕ) : Type 0 where
   pub trail : List Token
   pub brace : Token
   pub zs : List Token
-  pub is : pieces_after place 0 tail ≡ trail ++ brace ∷ zs
+  pub is : pieces_after place 0 (gap ++ 123 ∷ rest) ≡ trail ++ brace ∷ zs
   pub blank : AllPassed Inner trail
   pub curly : brace.kind ≡ tokens.OpenCurly
-  pub far : place ≤ brace.end
+  pub far : place + length gap < brace.end
+  pub left : AllTokens brace.end (brace.end + length rest) zs
 
-pub tail_pieces : (place : ℕ) (gap rest : List ℕ) → Gap Inner gap → TailPieces place (gap ++ 123 ∷ rest)
+-- the pieces of a text that stands at a place
+pieces_left : (place : ℕ) (text : List ℕ) → AllTokens place (place + length text) (pieces_after place 0 text)
+pieces_left place text =
+    let s = split_at (pieces_after place 0 text) [] place text (sym (append-nil (pieces_after place 0 text))) in
+    widen place (place + length s.front) place (place + length text) (pieces_after place 0 text) (omega arith)
+    (omega (arith, ap length s.is, length-append s.front s.after)) (whole_tokens s.after place s.front (pieces_after place 0 text) s.whole)
+
+pub tail_pieces : (place : ℕ) (gap rest : List ℕ) → Gap Inner gap → TailPieces place gap rest
 tail_pieces place gap rest g =
     let k = (skips Inner (123 ∷ rest) refl gap g place).start in
     record {
@@ -297,6 +305,7 @@ tail_pieces place gap rest g =
       blank = k.passed;
       curly = refl;
       far = omega arith;
+      left = pieces_left (place + length gap + 1) rest;
     }
 
 -- the text put in, and what stands behind it

@@ -20,6 +20,7 @@ use Rattle.sheet_reader.proofs.ExchangeForms.{reaches}
 use Rattle.sheet_reader.proofs.FrameForms.{media_append, media_cons}
 use Rattle.sheet_reader.proofs.GrammarForms.{parts_spelled, parts_only}
 use Rattle.sheet_reader.proofs.LayoutForms.{laid_spelled, laid_only}
+use Rattle.sheet_reader.proofs.MediaStarts.{StartFrom, from_append, take_tokens, drop_tokens, laid_from}
 use Rattle.sheet_reader.proofs.OpenForms.{opens, passes}
 use Rattle.sheet_reader.proofs.PartMoves.{AreFlat, flat_of, cons_follows, append_follows, part_rest}
 use Rattle.sheet_reader.proofs.Raised.{raised_media, flat}
@@ -229,15 +230,17 @@ module _ (text : List ℕ) (rule : MediaRule) where
 -- ---- what is laid out there
 
 -- such a part is laid out, behind so many media rules
-pub record LedLaid (text : List ℕ) (Own : Laid → Type 0) (k j : ℕ) (ls : List Laid) : Type 0 where
+pub record LedLaid (text : List ℕ) (Own : Laid → Type 0) (place k j : ℕ) (ls : List Laid) : Type 0 where
   pub before : List Laid
   pub here : Laid
   pub after : List Laid
   pub is : ls ≡ before ++ here ∷ after
   pub count : k + length (media_in text before) ≡ j
   pub own : Own here
+  -- the media rules that are laid out behind it start from a place on
+  pub behind : StartFrom place (media_in text after)
 
-module _ (text : List ℕ) (Own : Laid → Type 0) where
+module _ (text : List ℕ) (Own : Laid → Type 0) (place hi : ℕ) where
   pub out_is : (around : Option ℕ) (k : ℕ) (p : PartForm) (ts rest : List Token) (ls : List Laid) → ts ≡ part_pieces p ++ rest
       → IsPart (level_of around) p rest → AreLaid text around k (p ∷ parts (level_of around) rest) ls → ls ≡ laid_out text around k ts
   out_is around k p ts rest ls cut part are =
@@ -246,8 +249,8 @@ module _ (text : List ℕ) (Own : Laid → Type 0) where
       laid_only text around k ts ls (subst (λ (ps : List PartForm). AreLaid text around k ps ls) same are)
 
   pub laid_past : (around : Option ℕ) (k j : ℕ) (p : PartForm) (ts rest : List Token) → ts ≡ part_pieces p ++ rest
-      → IsPart (level_of around) p rest → media_form text p ≡ None → LedLaid text Own k j (laid_out text around k rest)
-      → LedLaid text Own k j (laid_out text around k ts)
+      → IsPart (level_of around) p rest → media_form text p ≡ None → LedLaid text Own place k j (laid_out text around k rest)
+      → LedLaid text Own place k j (laid_out text around k ts)
   laid_past around k j p ts rest cut part none l =
       let ls = laid_out text around k rest in
       let out = out_is around k p ts rest (laid around p ∷ ls) cut part
@@ -259,18 +262,20 @@ module _ (text : List ℕ) (Own : Laid → Type 0) where
         is = sym out ∙ ap (λ (xs : List Laid). laid around p ∷ xs) l.is;
         count = ap (λ (ms : List MediaRule). k + length ms) (media_cons text around p l.before None none) ∙ l.count;
         own = l.own;
+        behind = l.behind;
       }
 
-module _ (text : List ℕ) (core : List Token) (Own : Laid → Type 0) (a : Option ℕ) (j : ℕ)
+module _ (text : List ℕ) (core : List Token) (Own : Laid → Type 0) (place hi : ℕ) (a : Option ℕ) (j : ℕ)
     (stays : (bs : List Bracket) (rest : List Token) → length core ≤ until_in stops.BlockEnd bs (core ++ rest))
-    (leads : (zs : List Token) → LedLaid text Own j j (laid_out text a j (core ++ zs))) where
+    (leads : (zs : List Token) → AllTokens place hi zs → LedLaid text Own place j j (laid_out text a j (core ++ zs))) where
   laid_in : (around : Option ℕ) (k : ℕ) (keyword first : Token) (prelude xs zs : List Token)
       → keyword.kind ≡ tokens.AtKeyword → names_media text keyword keyword.kind ≡ true
       → ((rest : List Token) → AreValues (outside stops.BlockOrSemicolon) prelude (first ∷ rest)) → first.kind ≡ tokens.OpenCurly
       → length (xs ++ core) ≤ until stops.BlockEnd (xs ++ (core ++ zs))
-      → ((others : List Token) → LedLaid text Own (suc k) j (laid_out text (Some k) (suc k) (xs ++ (core ++ others))))
-      → LedLaid text Own k j (laid_out text around k ((keyword ∷ (prelude ++ first ∷ xs)) ++ (core ++ zs)))
-  laid_in around k keyword first prelude xs zs at named values curly fits next =
+      → AllTokens place hi zs
+      → ((others : List Token) → AllTokens place hi others → LedLaid text Own place (suc k) j (laid_out text (Some k) (suc k) (xs ++ (core ++ others))))
+      → LedLaid text Own place k j (laid_out text around k ((keyword ∷ (prelude ++ first ∷ xs)) ++ (core ++ zs)))
+  laid_in around k keyword first prelude xs zs at named values curly fits all next =
       by (drop n whole) refl
     where
       whole : List Token
@@ -291,13 +296,14 @@ module _ (text : List ℕ) (core : List Token) (Own : Laid → Type 0) (a : Opti
       inside_is : inside ≡ xs ++ (core ++ short)
       inside_is = ap (take n) (sym (append_assoc xs core zs)) ∙ take_front (xs ++ core) zs n fits ∙ append_assoc xs core short
 
-      l : LedLaid text Own (suc k) j within
-      l = subst (λ (ts : List Token). LedLaid text Own (suc k) j (laid_out text (Some k) (suc k) ts)) (sym inside_is) (next short)
+      l : LedLaid text Own place (suc k) j within
+      l = subst (λ (ts : List Token). LedLaid text Own place (suc k) j (laid_out text (Some k) (suc k) ts)) (sym inside_is)
+          (next short (take_tokens place hi (n - length (xs ++ core)) zs all))
 
       put : (last : Option Token) (rest : List Token) → whole ≡ inside ++ (option_to_list last ++ rest)
-          → IsEnding (block first inside last) rest
-          → LedLaid text Own k j (laid_out text around k ((keyword ∷ (prelude ++ first ∷ xs)) ++ (core ++ zs)))
-      put last rest cut ends =
+          → IsEnding (block first inside last) rest → AllTokens place hi rest
+          → LedLaid text Own place k j (laid_out text around k ((keyword ∷ (prelude ++ first ∷ xs)) ++ (core ++ zs)))
+      put last rest cut ends left =
           let p : PartForm = at_rule keyword prelude (block first inside last) in
           let m : MediaForm = record { keyword = keyword; prelude = prelude; inside = inside } in
           let i : ℕ = suc k + length (media_in text within) in
@@ -309,7 +315,7 @@ module _ (text : List ℕ) (core : List Token) (Own : Laid → Type 0) (a : Opti
             ends = ends;
           }) in
           let is : media_form text p ≡ Some m = media_named text keyword prelude first inside last named in
-          let out = out_is text Own around k p ((keyword ∷ (prelude ++ first ∷ xs)) ++ (core ++ zs)) rest (laid around p ∷ (within ++ ls))
+          let out = out_is text Own place hi around k p ((keyword ∷ (prelude ++ first ∷ xs)) ++ (core ++ zs)) rest (laid around p ∷ (within ++ ls))
           (cut_is keyword first prelude xs (core ++ zs) inside (option_to_list last) rest cut) part
           (media_laid p m (parts Inner inside) (parts (level_of around) rest) within ls is (parts_spelled Inner inside)
           (laid_spelled text (Some k) (suc k) inside) (laid_spelled text around i rest)) in
@@ -322,35 +328,51 @@ module _ (text : List ℕ) (core : List Token) (Own : Laid → Type 0) (a : Opti
                 (ap (λ (ys : List Laid). ys ++ ls) l.is ∙ append_assoc l.before (l.here ∷ l.after) ls);
             count = omega (arith, list, l.count);
             own = l.own;
+            behind = subst (StartFrom place) (sym (media_append text l.after ls))
+                (from_append place (media_in text l.after) (media_in text ls) l.behind (laid_from text place hi around i rest left));
           }
 
+      rest_of : (left : List Token) → drop n whole ≡ left → AllTokens place hi left
+      rest_of left e =
+          let q = n - length (xs ++ core) in
+          let cut : drop n whole ≡ drop q zs =
+          ap (drop n) (sym (append_assoc xs core zs)) ∙ drop_front (xs ++ core) zs n fits in
+          subst (AllTokens place hi) (sym cut ∙ e) (drop_tokens place hi q zs all)
+        where
+          drop_front : (xs ys : List Token) (n : ℕ) → length xs ≤ n → drop n (xs ++ ys) ≡ drop (n - length xs) ys
+          drop_front [] ys n less = let same : n ≡ n - 0 = omega arith in ap (λ (m : ℕ). drop m ys) same
+          drop_front (x ∷ xs) ys zero less = absurd (omega (arith, less))
+          drop_front (x ∷ xs) ys (suc n) less =
+              let same : n - length xs ≡ suc n - suc (length xs) = omega arith in
+              drop_front xs ys n (omega (arith, less)) ∙ ap (λ (m : ℕ). drop m ys) same
+
       by : (left : List Token) → drop n whole ≡ left
-          → LedLaid text Own k j (laid_out text around k ((keyword ∷ (prelude ++ first ∷ xs)) ++ (core ++ zs)))
+          → LedLaid text Own place k j (laid_out text around k ((keyword ∷ (prelude ++ first ∷ xs)) ++ (core ++ zs)))
       by [] e =
           let s = until_splits stops.BlockEnd whole in
           put None [] (sym (take-append-drop n whole) ∙ ap (λ (ts : List Token). inside ++ ts) e)
-          (in_open_block first inside curly (subst (AreValues (outside stops.BlockEnd) inside) e s.values) refl)
+          (in_open_block first inside curly (subst (AreValues (outside stops.BlockEnd) inside) e s.values) refl) tt
       by (c ∷ rest) e =
           let s = until_splits stops.BlockEnd whole in
           put (Some c) rest (sym (take-append-drop n whole) ∙ ap (λ (ts : List Token). inside ++ ts) e)
           (in_block first c inside curly (subst (AreValues (outside stops.BlockEnd) inside) e s.values)
-          (closing c.kind (subst (EndsBefore (outside stops.BlockEnd)) e s.stopped)))
+          (closing c.kind (subst (EndsBefore (outside stops.BlockEnd)) e s.stopped))) (rest_of (c ∷ rest) e).1
 
   -- What is laid out at the place is laid out there.
-  pub reads_laid : {around : Option ℕ} {k : ℕ} (rs : List RuleForm) (xs : List Token) → Spot text around k a j rs xs → (zs : List Token)
-      → LedLaid text Own k j (laid_out text around k (xs ++ (core ++ zs)))
-  reads_laid _ _ at_spot zs = leads zs
-  reads_laid {around = around} {k = k} _ _ (past_part p rs xs part none spot) zs =
+  pub reads_laid : {around : Option ℕ} {k : ℕ} (rs : List RuleForm) (xs : List Token) → Spot text around k a j rs xs → (zs : List Token) → AllTokens place hi zs
+      → LedLaid text Own place k j (laid_out text around k (xs ++ (core ++ zs)))
+  reads_laid _ _ at_spot zs all = leads zs all
+  reads_laid {around = around} {k = k} _ _ (past_part p rs xs part none spot) zs all =
       let rest = xs ++ (core ++ zs) in
-      laid_past text Own around k j p ((part_pieces p ++ xs) ++ (core ++ zs)) rest (append_assoc (part_pieces p) xs (core ++ zs))
+      laid_past text Own place hi around k j p ((part_pieces p ++ xs) ++ (core ++ zs)) rest (append_assoc (part_pieces p) xs (core ++ zs))
       (part rest)
-      none (reads_laid rs xs spot zs)
-  reads_laid {around = around} {k = k} _ _ (past_media p m inner within rs xs part is own are spot) zs =
+      none (reads_laid rs xs spot zs all)
+  reads_laid {around = around} {k = k} _ _ (past_media p m inner within rs xs part is own are spot) zs all =
       let rest = xs ++ (core ++ zs) in
       let i = suc k + length (media_in text within) in
       let ls = laid_out text around i rest in
-      let l = reads_laid rs xs spot zs in
-      let out = out_is text Own around k p ((part_pieces p ++ xs) ++ (core ++ zs)) rest (laid around p ∷ (within ++ ls))
+      let l = reads_laid rs xs spot zs all in
+      let out = out_is text Own place hi around k p ((part_pieces p ++ xs) ++ (core ++ zs)) rest (laid around p ∷ (within ++ ls))
       (append_assoc (part_pieces p) xs (core ++ zs)) (part rest)
       (media_laid p m inner (parts (level_of around) rest) within ls is own are (laid_spelled text around i rest)) in
       let list = ap (λ (ms : List MediaRule). length ms) (media_cons text around p (within ++ l.before) (Some m) is)
@@ -365,9 +387,10 @@ module _ (text : List ℕ) (core : List Token) (Own : Laid → Type 0) (a : Opti
             (ap (λ (ys : List Laid). within ++ ys) l.is ∙ sym (append_assoc within l.before (l.here ∷ l.after)));
         count = omega (arith, list, sum, l.count);
         own = l.own;
+        behind = l.behind;
       }
-  reads_laid {around = around} {k = k} _ _ (in_media keyword prelude first rs xs at named values curly over spot) zs =
+  reads_laid {around = around} {k = k} _ _ (in_media keyword prelude first rs xs at named values curly over spot) zs all =
       let on = passes stops.BlockEnd xs (core ++ zs) [] (over (core ++ zs)) in
       let here = stays (opens [] xs) zs in
-      laid_in around k keyword first prelude xs zs at named values curly (omega (arith, on, here, length-append xs core))
-      (λ others. reads_laid rs xs spot others)
+      laid_in around k keyword first prelude xs zs at named values curly (omega (arith, on, here, length-append xs core)) all
+      (λ others more. reads_laid rs xs spot others more)

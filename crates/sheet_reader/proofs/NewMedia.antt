@@ -37,7 +37,7 @@ use Rattle.sheet_reader.specs.Grammar.{AreNested, plain_and, is_at_keyword}
 use Rattle.sheet_reader.specs.Layout.{names_media, MediaForm, media_form, media_rule, media_of, media_in, Laid, laid, level_of, laid_out}
 use Rattle.sheet_reader.specs.Layout.{prelude_range, media_laid}
 use Rattle.sheet_reader.specs.Moves.{replaced}
-use Rattle.sheet_reader.specs.Preludes.{ends_keyword, takes_space, spaces_behind, spaces_by, spaces_at}
+use Rattle.sheet_reader.specs.Preludes.{KeepsMedia, ends_keyword, takes_space, spaces_behind, spaces_by, spaces_at}
 use Rattle.sheet_reader.specs.Parts.{block, PartForm, passed, at_rule, is_passed, parts}
 use Rattle.sheet_reader.specs.Sealing.{is_sealed, is_sealed_prelude}
 use Rattle.sheet_reader.specs.Sheets.{sheet_of}
@@ -53,6 +53,18 @@ use Rattle.sheet_reader.proofs.KeyNames.{key_piece}
 use Rattle.sheet_reader.proofs.LayoutForms.{laid_spelled}
 use Rattle.sheet_reader.proofs.MadePreludes.{Placed, placed_with, ends_whole, tail_pieces, put_on, front_same, curly_on}
 use Rattle.sheet_reader.proofs.MediaSpots.{spot_other, LedLaid, out_is, laid_past, reads_laid}
+use Rattle.sheet_reader.proofs.MediaStarts.{StartFrom, from_append, laid_from, up_to_all}
+use Rattle.sheet_reader.proofs.UsableForms.{sheet_usable}
+use Rattle.std.specs.Str.{IsUtf8}
+use Rattle.std.specs.List.{AllByRecursion, prefix_len}
+use Rattle.std.specs.Prelude.{nat_le}
+use Rattle.css_tokens.specs.declared.token.Range.{Range}
+use Rattle.selectors.specs.Ranges.{AreBetween}
+use Rattle.selectors.specs.Words.{word_of}
+use Rattle.selectors.specs.declared.words.Word.{Word}
+use Rattle.sheet_reader.proofs.PutPieces.{at_place, passed_words}
+use Rattle.sheet_reader.proofs.PreludeWords.{lead_words, first_word, range_some}
+use Rattle.sheet_reader.proofs.ReadMoves.{tokens_split}
 use Rattle.sheet_reader.proofs.MovedLaw.{white_last, closed_is}
 use Rattle.sheet_reader.proofs.NestingForms.{closed_nested}
 use Rattle.sheet_reader.proofs.OldMedia.{OldMedia, old_media}
@@ -239,7 +251,7 @@ passed_on level (t ∷ lead) all bs rest =
     omega (arith, on, next, more)
 
 -- a prelude and its `{`
-record NewPrelude (place : ℕ) (tail : List ℕ) : Type 0 where
+record NewPrelude (place size : ℕ) (tail : List ℕ) : Type 0 where
   prelude : List Token
   brace : Token
   zs : List Token
@@ -247,6 +259,12 @@ record NewPrelude (place : ℕ) (tail : List ℕ) : Type 0 where
   nested : AreNested prelude
   curly : brace.kind ≡ tokens.OpenCurly
   ends : (rest : List Token) → until stops.BlockOrSemicolon (prelude ++ brace ∷ rest) ≡ length prelude
+  -- it starts among the first codes, and the `{` stands behind them
+  starts : (text : List ℕ) (keyword : Token) → keyword.end ≤ place
+      → (prelude_range keyword (range_of (words_after text false prelude))).start ≤ place + size
+  far : place + size < brace.end
+  hi : ℕ
+  left : AllTokens brace.end hi zs
 
 brace_here : (brace : Token) (rest : List Token) → brace.kind ≡ tokens.OpenCurly → until stops.BlockOrSemicolon (brace ∷ rest) ≡ 0
 brace_here brace rest curly = stop_here stops.BlockOrSemicolon [] brace rest (ap (stops_at stops.BlockOrSemicolon) curly)
@@ -280,8 +298,8 @@ put_prelude : (put gap rest lead front trail : List ℕ) (us : List Token) → p
     → nesting us ≡ Closed
     → ((ys : List Token) → until stops.BlockOrSemicolon (us ++ ys) ≡ length us + until stops.BlockOrSemicolon ys)
     → WholeParts (trail ++ (gap ++ 123 ∷ rest)) 0 front l.lead (l.first ∷ l.rest)
-    → NewPrelude place (lead ++ (put ++ (gap ++ 123 ∷ rest)))
-put_prelude put gap rest lead front trail us parts_are white blank open_lead place l closed ends w =
+    → (size : ℕ) → l.first.start < size → size ≤ length put → NewPrelude place (length lead + size) (lead ++ (put ++ (gap ++ 123 ∷ rest)))
+put_prelude put gap rest lead front trail us parts_are white blank open_lead place l closed ends w limit early within =
     let v = gap ++ 123 ∷ rest in
     let ts = l.first ∷ l.rest in
     let Y = w.behind ++ (trail ++ v) in
@@ -318,6 +336,26 @@ put_prelude put gap rest lead front trail us parts_are white blank open_lead pla
           (nested_append own t.trail (closed_nested own (nesting_raised f [] ts ∙ closed_rest)) (passed_nested Inner t.trail t.blank));
       curly = t.curly;
       ends = λ ys. count k.lead k.passed t.trail t.blank t.brace t.curly f ys;
+      starts = λ text keyword at.
+          let moved = lead_words text false k.lead (own ++ t.trail) k.passed in
+          let one = range_some (word_of text moved.0 (raised f l.first)) (words_after text false (map (raised f) l.rest ++ t.trail)) in
+          let found : range_of (words_after text false (k.lead ++ (own ++ t.trail))) ≡ Some one.0 =
+          ap range_of (moved.1 ∙ first_word text moved.0 (raised f l.first) (map (raised f) l.rest ++ t.trail) l.solid) ∙ one.1 in
+          let start : (prelude_range keyword (range_of (words_after text false (k.lead ++ (own ++ t.trail))))).start ≡ n + l.first.start =
+          ap (λ (o : Option Range). (prelude_range keyword o).start) found ∙ one.2 in
+          omega (arith, start, early);
+      far = omega (
+        arith,
+        t.far,
+        within,
+        ap length parts_are,
+        ap length w.is,
+        length-append front trail,
+        length-append w.front w.behind,
+        length-append trail gap,
+      );
+      hi = t.brace.end + length rest;
+      left = t.left;
     }
   where
     own_ends : (ys : List Token)
@@ -351,9 +389,9 @@ put_prelude put gap rest lead front trail us parts_are white blank open_lead pla
 
 -- where it has none
 blank_prelude : (put gap rest lead front trail : List ℕ) (us : List Token) → put ≡ front ++ trail → AllWhite trail → Gap Inner gap
-    → Gap Inner lead → (place : ℕ) → AllPassed Inner us
-    → IsWholeBefore (trail ++ (gap ++ 123 ∷ rest)) 0 front us → NewPrelude place (lead ++ (put ++ (gap ++ 123 ∷ rest)))
-blank_prelude put gap rest lead front trail us parts_are white blank open_lead place all whole =
+    → Gap Inner lead → (place : ℕ) → AllPassed Inner us → (size : ℕ) → size ≤ length put
+    → IsWholeBefore (trail ++ (gap ++ 123 ∷ rest)) 0 front us → NewPrelude place (length lead + size) (lead ++ (put ++ (gap ++ 123 ∷ rest)))
+blank_prelude put gap rest lead front trail us parts_are white blank open_lead place all limit within whole =
     let v = gap ++ 123 ∷ rest in
     let open_front =
     gap_of Inner (trail ++ v) (omega (arith, length-append trail v, length-append gap (123 ∷ rest))) 0 front us whole all in
@@ -378,12 +416,28 @@ blank_prelude put gap rest lead front trail us parts_are white blank open_lead p
           let on = passed_on Inner t.trail t.blank [] (t.brace ∷ ys) in
           let here = brace_here t.brace ys t.curly in
           omega (arith, on, here);
+      starts = λ text keyword at.
+          let none : (prelude_range keyword (range_of (words_after text false t.trail))).start ≡ keyword.end =
+          ap (λ (ws : List Word). (prelude_range keyword (range_of ws)).start) (passed_words text t.trail t.blank) in
+          omega (arith, none, at);
+      far = omega (
+        arith,
+        t.far,
+        within,
+        ap length parts_are,
+        length-append front trail,
+        length-append lead (front ++ (trail ++ gap)),
+        length-append front (trail ++ gap),
+        length-append trail gap,
+      );
+      hi = t.brace.end + length rest;
+      left = t.left;
     }
 
 new_prelude : (put gap rest lead : List ℕ) → is_sealed_prelude put ≡ true → Gap Inner gap → Gap Inner lead → (place : ℕ)
-    → NewPrelude place (lead ++ (put ++ (gap ++ 123 ∷ rest)))
+    → NewPrelude place (length lead + length put) (lead ++ (put ++ (gap ++ 123 ∷ rest)))
 new_prelude put gap rest lead sealed blank open_lead place =
-    subst (λ (t : List ℕ). NewPrelude place (lead ++ t)) c.same (by (split_lead us))
+    subst (λ (t : List ℕ). NewPrelude place (length lead + length put) (lead ++ t)) c.same (by (split_lead us))
   where
     s : SealedPieces put
     s = sealed_pieces put (both (is_sealed put) _ sealed).0
@@ -403,12 +457,13 @@ new_prelude put gap rest lead sealed blank open_lead place =
         let on = us_on put sealed s all_closed ys in
         omega (arith, same, on, map_length (raised c.moved) s.us)
 
-    by : AllPassed Inner us ⊎ LeadSolid us → NewPrelude place (lead ++ (c.text ++ (c.behind ++ 123 ∷ rest)))
-    by (inl all) = blank_prelude c.text c.behind rest lead c.front c.trail us c.parted c.white c.blank open_lead place all c.whole
+    by : AllPassed Inner us ⊎ LeadSolid us → NewPrelude place (length lead + length put) (lead ++ (c.text ++ (c.behind ++ 123 ∷ rest)))
+    by (inl all) = blank_prelude c.text c.behind rest lead c.front c.trail us c.parted c.white c.blank open_lead place all (length put) c.long c.whole
     by (inr l) = put_prelude c.text c.behind rest lead c.front c.trail us c.parted c.white c.blank open_lead place l
         (nesting_raised c.moved [] s.us ∙ all_closed) ends
         (whole_split (c.trail ++ (c.behind ++ 123 ∷ rest)) 0 c.front l.lead (l.first ∷ l.rest)
         (subst (IsWholeBefore (c.trail ++ (c.behind ++ 123 ∷ rest)) 0 c.front) l.is c.whole))
+        (length put) (at_place (length put) l.lead l.first l.rest (subst (AllByRecursion (λ t. t.start < length put)) l.is c.early)) c.long
 
 -- ---- the media rule at a place between parts
 
@@ -424,11 +479,11 @@ IsMedia text keyword prelude l =
 module _ (text : List ℕ) (a : Option ℕ) (j : ℕ) (keyword : Token) (prelude : List Token) (brace : Token)
     (at : keyword.kind ≡ tokens.AtKeyword)
     (named : names_media text keyword keyword.kind ≡ true) (curly : brace.kind ≡ tokens.OpenCurly)
-    (ends : (rest : List Token) → until stops.BlockOrSemicolon (prelude ++ brace ∷ rest) ≡ length prelude) where
+    (ends : (rest : List Token) → until stops.BlockOrSemicolon (prelude ++ brace ∷ rest) ≡ length prelude) (hi : ℕ) where
   led_by : (zs inside : List Token) (last : Option Token) (rest : List Token) → zs ≡ inside ++ (option_to_list last ++ rest)
-      → IsEnding (block brace inside last) rest
-      → LedLaid text (IsMedia text keyword prelude) j j (laid_out text a j (keyword ∷ (prelude ++ brace ∷ zs)))
-  led_by zs inside last rest cut closed =
+      → IsEnding (block brace inside last) rest → AllTokens brace.end hi zs
+      → LedLaid text (IsMedia text keyword prelude) brace.end j j (laid_out text a j (keyword ∷ (prelude ++ brace ∷ zs)))
+  led_by zs inside last rest cut closed all =
       let p : PartForm = at_rule keyword prelude (block brace inside last) in
       let m : MediaForm = record { keyword = keyword; prelude = prelude; inside = inside } in
       let within = laid_out text (Some j) (suc j) inside in
@@ -442,7 +497,9 @@ module _ (text : List ℕ) (a : Option ℕ) (j : ℕ) (keyword : Token) (prelude
         ends = closed;
       }) in
       let form : media_form text p ≡ Some m = media_named text keyword prelude brace inside last named in
-      let out = out_is text (IsMedia text keyword prelude) a j p (keyword ∷ (prelude ++ brace ∷ zs)) rest (laid a p ∷ (within ++ ls))
+      let both = tokens_split brace.end hi inside (option_to_list last ++ rest) (subst (AllTokens brace.end hi) cut all) in
+      let left = tokens_split brace.end hi (option_to_list last) rest both.1 in
+      let out = out_is text (IsMedia text keyword prelude) brace.end hi a j p (keyword ∷ (prelude ++ brace ∷ zs)) rest (laid a p ∷ (within ++ ls))
       (ap (λ (l : List Token). keyword ∷ l) (sym (append_assoc prelude (brace ∷ []) zs))
       ∙ cut_is keyword brace prelude [] zs inside (option_to_list last) rest cut) part
       (media_laid p m (parts Inner inside) (parts (level_of a) rest) within ls form (parts_spelled Inner inside)
@@ -454,43 +511,46 @@ module _ (text : List ℕ) (a : Option ℕ) (j : ℕ) (keyword : Token) (prelude
         is = sym out;
         count = omega (arith, ap (λ (ms : List MediaRule). length ms) (no_media_in text));
         own = (media_rule text a m, ap (option_map (media_rule text a)) form, refl);
+        behind = subst (StartFrom brace.end) (sym (media_append text within ls))
+            (from_append brace.end (media_in text within) (media_in text ls) (laid_from text brace.end hi (Some j) (suc j) inside both.0)
+            (laid_from text brace.end hi a i rest left.1));
       }
 
-  led_here : (zs : List Token) → LedLaid text (IsMedia text keyword prelude) j j (laid_out text a j (keyword ∷ (prelude ++ brace ∷ zs)))
-  led_here zs = by (drop n zs) refl
+  led_here : (zs : List Token) → AllTokens brace.end hi zs → LedLaid text (IsMedia text keyword prelude) brace.end j j (laid_out text a j (keyword ∷ (prelude ++ brace ∷ zs)))
+  led_here zs all = by (drop n zs) refl
     where
       n : ℕ
       n = until stops.BlockEnd zs
 
       by : (left : List Token) → drop n zs ≡ left
-          → LedLaid text (IsMedia text keyword prelude) j j (laid_out text a j (keyword ∷ (prelude ++ brace ∷ zs)))
+          → LedLaid text (IsMedia text keyword prelude) brace.end j j (laid_out text a j (keyword ∷ (prelude ++ brace ∷ zs)))
       by [] e =
           let s = until_splits stops.BlockEnd zs in
           led_by zs (take n zs) None [] (sym (take-append-drop n zs) ∙ ap (λ (l : List Token). take n zs ++ l) e)
-          (in_open_block brace (take n zs) curly (subst (AreValues (outside stops.BlockEnd) (take n zs)) e s.values) refl)
+          (in_open_block brace (take n zs) curly (subst (AreValues (outside stops.BlockEnd) (take n zs)) e s.values) refl) all
       by (c ∷ rest) e =
           let s = until_splits stops.BlockEnd zs in
           led_by zs (take n zs) (Some c) rest (sym (take-append-drop n zs) ∙ ap (λ (l : List Token). take n zs ++ l) e)
           (in_block brace c (take n zs) curly (subst (AreValues (outside stops.BlockEnd) (take n zs)) e s.values)
-          (closing c.kind (subst (EndsBefore (outside stops.BlockEnd)) e s.stopped)))
+          (closing c.kind (subst (EndsBefore (outside stops.BlockEnd)) e s.stopped))) all
 
-  led_behind : (lead : List Token) → AllPassed (level_of a) lead → (zs : List Token)
-      → LedLaid text (IsMedia text keyword prelude) j j (laid_out text a j (lead ++ keyword ∷ (prelude ++ brace ∷ zs)))
+  led_behind : (lead : List Token) → AllPassed (level_of a) lead → (zs : List Token) → AllTokens brace.end hi zs
+      → LedLaid text (IsMedia text keyword prelude) brace.end j j (laid_out text a j (lead ++ keyword ∷ (prelude ++ brace ∷ zs)))
   unfolding media_form
-  led_behind [] all zs = led_here zs
-  led_behind (x ∷ lead) all zs =
+  led_behind [] all zs left = led_here zs left
+  led_behind (x ∷ lead) all zs left =
       let rest = lead ++ keyword ∷ (prelude ++ brace ∷ zs) in
-      laid_past text (IsMedia text keyword prelude) a j j (passed x) (x ∷ rest) rest refl (passed_part x all.0) refl
-      (led_behind lead all.1 zs)
+      laid_past text (IsMedia text keyword prelude) brace.end hi a j j (passed x) (x ∷ rest) rest refl (passed_part x all.0) refl
+      (led_behind lead all.1 zs left)
 
   -- so it is there, with so many media rules before it
   pub media_there : (rs : List RuleForm) (own lead : List Token) → Spot text None 0 a j rs own → AllPassed (level_of a) lead
       → AreNested prelude
-      → (zs : List Token)
-      → LedLaid text (IsMedia text keyword prelude) 0 j (laid_out text None 0 (own ++ (lead ++ keyword ∷ (prelude ++ brace ∷ zs))))
-  media_there rs own lead spot quiet nested zs =
-      subst (λ (l : List Token). LedLaid text (IsMedia text keyword prelude) 0 j (laid_out text None 0 (own ++ l))) (core_is zs)
-      (reads_laid text core (IsMedia text keyword prelude) a j stays leads rs own spot zs)
+      → (zs : List Token) → AllTokens brace.end hi zs
+      → LedLaid text (IsMedia text keyword prelude) brace.end 0 j (laid_out text None 0 (own ++ (lead ++ keyword ∷ (prelude ++ brace ∷ zs))))
+  media_there rs own lead spot quiet nested zs left =
+      subst (λ (l : List Token). LedLaid text (IsMedia text keyword prelude) brace.end 0 j (laid_out text None 0 (own ++ l))) (core_is zs)
+      (reads_laid text core (IsMedia text keyword prelude) brace.end hi a j stays leads rs own spot zs left)
     where
       core : List Token
       core = lead ++ (keyword ∷ (prelude ++ brace ∷ []))
@@ -516,10 +576,10 @@ module _ (text : List ℕ) (a : Option ℕ) (j : ℕ) (keyword : Token) (prelude
           ∙ length-append (lead ++ keyword ∷ prelude) (brace ∷ []) in
           omega (arith, cut, on, one, size)
 
-      leads : (ys : List Token) → LedLaid text (IsMedia text keyword prelude) j j (laid_out text a j (core ++ ys))
-      leads ys =
-          subst (λ (l : List Token). LedLaid text (IsMedia text keyword prelude) j j (laid_out text a j l)) (sym (core_is ys))
-          (led_behind lead quiet ys)
+      leads : (ys : List Token) → AllTokens brace.end hi ys → LedLaid text (IsMedia text keyword prelude) brace.end j j (laid_out text a j (core ++ ys))
+      leads ys more =
+          subst (λ (l : List Token). LedLaid text (IsMedia text keyword prelude) brace.end j j (laid_out text a j l)) (sym (core_is ys))
+          (led_behind lead quiet ys more)
 
 -- ---- put together
 
@@ -549,15 +609,25 @@ some_at k text ls m here before after is count own =
         own_get [] = refl
         own_get (x ∷ xs) = own_get xs
 
--- media rule i of the new text
-record MadeIn (text : List ℕ) (i : ℕ) : Type 0 where
+media_split : (text : List ℕ) (ls : List Laid) (m : MediaRule) (here : Laid) (before after : List Laid) → ls ≡ before ++ here ∷ after
+    → media_of text here ≡ Some m → media_in text ls ≡ media_in text before ++ m ∷ media_in text after
+unfolding media_in
+media_split text ls m here before after is own =
+    ap (media_in text) is ∙ media_append text before (here ∷ after)
+    ∙ ap (λ (o : Option MediaRule). media_in text before ++ (option_to_list o ++ media_in text after)) own
+
+-- media rule i of the new text, the last one whose prelude does not start behind a place
+record MadeIn (text : List ℕ) (i place : ℕ) : Type 0 where
   rule : MediaRule
   there : slice_get (sheet_of text).media i ≡ Some rule
+  last : prefix_len (λ (m : MediaRule). nat_le m.prelude.start place) (sheet_of text).media ≡ i + 1
 
 media_made_in : (text : List ℕ) (i : ℕ) (rule : MediaRule) (o : OldMedia text i rule) (put spaces : List ℕ) → is_sealed_prelude put ≡ true
     → NewKey o.key o.lead spaces (put ++ (o.gap ++ 123 ∷ o.rest))
+    → IsUtf8 (o.front ++ (o.key ++ (o.lead ++ (spaces ++ (put ++ (o.gap ++ 123 ∷ o.rest))))))
     → MadeIn (o.front ++ (o.key ++ (o.lead ++ (spaces ++ (put ++ (o.gap ++ 123 ∷ o.rest)))))) i
-media_made_in text i rule o put spaces sealed key =
+    (length o.front + length o.key + length o.lead + (length spaces + length put))
+media_made_in text i rule o put spaces sealed key utf8 =
     let same = subst (λ (t : List ℕ). SamePart t new (λ x. x) 0 n) (sym o.is) (front_same o.front old behind) in
     let all = subst (λ (m : ℕ). AllTokens 0 m o.before) (omega arith) (whole_tokens old 0 o.front o.before o.whole) in
     let s = spot_other text new n same o.rs o.before o.spot all in
@@ -582,7 +652,8 @@ media_made_in text i rule o put spaces sealed key =
     Y : List ℕ
     Y = (64 ∷ key.name) ++ (key.gap ++ (put ++ v))
 
-    by : (l : Placed new o.before) → l.j ≡ o.j → WholeParts old 0 o.front l.own l.lead → MadeIn new i
+    by : (l : Placed new o.before) → l.j ≡ o.j → WholeParts old 0 o.front l.own l.lead
+        → MadeIn new i (length o.front + length o.key + length o.lead + (length spaces + length put))
     by l number w =
         let after = w.behind ++ old in
         let text_is : text ≡ w.front ++ after =
@@ -619,9 +690,34 @@ media_made_in text i rule o put spaces sealed key =
         let named : names_media new keyword keyword.kind ≡ true =
         ap (λ (t : List ℕ). bytes_eq (map to_ascii_lowercase (unescaped t)) (codes "media")) name_is ∙ key.says in
         let led =
-        media_there new l.a l.j keyword p.prelude p.brace refl named p.curly p.ends l.rs l.own k.lead l.spot k.passed p.nested p.zs in
+        media_there new l.a l.j keyword p.prelude p.brace refl named p.curly p.ends p.hi l.rs l.own k.lead l.spot k.passed p.nested p.zs p.left in
+        let ls = laid_out new None 0 (l.own ++ (k.lead ++ keyword ∷ (p.prelude ++ p.brace ∷ p.zs))) in
+        let media_is : (sheet_of new).media ≡ media_in new led.before ++ led.own.0 ∷ media_in new led.after =
+        ap (λ (ts : List Token). media_in new (laid_out new None 0 ts)) pieces_are
+        ∙ media_split new ls led.own.0 led.here led.before led.after led.is led.own.1 in
+        let place = length o.front + length o.key + length o.lead + (length spaces + length put) in
+        let same_place : n + size + (length key.gap + length put) ≡ place =
+        omega (
+          arith,
+          ap length key.is,
+          length-append o.key (o.lead ++ (spaces ++ (put ++ v))),
+          length-append o.lead (spaces ++ (put ++ v)),
+          length-append spaces (put ++ v),
+          length-append put v,
+          length-append (64 ∷ key.name) (key.gap ++ (put ++ v)),
+          length-append key.gap (put ++ v),
+        ) in
+        let starts = p.starts new keyword (omega arith) in
+        let start_is : (led.own.0).prelude.start ≡ (prelude_range keyword (range_of (words_after new false p.prelude))).start =
+        ap (λ (r : Range). r.start) led.own.2 in
+        let order = subst (λ (ms : List MediaRule). AreBetween new 0 (length new) (map (λ (m : MediaRule). m.prelude) ms)) media_is
+        (sheet_usable new utf8).media in
+        let up = up_to_all new 0 (length new) place p.brace.end (media_in new led.before) led.own.0 (media_in new led.after) order
+        (omega (arith, starts, start_is, same_place)) (omega (arith, p.far, same_place)) led.behind in
         record {
           rule = led.own.0;
+          last = ap (prefix_len (λ (m : MediaRule). nat_le m.prelude.start place)) media_is ∙ up
+              ∙ omega (arith, led.count, number, o.number);
           there = ap (λ (ts : List Token). slice_get (media_in new (laid_out new None 0 ts)) i) pieces_are
               ∙ some_at i new (laid_out new None 0 (l.own ++ (k.lead ++ keyword ∷ (p.prelude ++ p.brace ∷ p.zs)))) led.own.0 led.here
               led.before led.after led.is (omega (arith, led.count, number, o.number)) led.own.1;
@@ -654,9 +750,10 @@ find_key place lo (t ∷ before) keyword more all less at end =
 
 -- where the prelude of a media rule is replaced, it is there under its number
 pub media_stays : (text put : List ℕ) (i : ℕ) (rule : MediaRule) → slice_get (sheet_of text).media i ≡ Some rule
-    → is_sealed_prelude put ≡ true
-    → IsSome (slice_get (sheet_of (replaced text rule.prelude (spaces_at text rule.prelude.start ++ put))).media i)
-media_stays text put i rule e sealed =
+    → is_sealed_prelude put ≡ true → IsUtf8 (replaced text rule.prelude (spaces_at text rule.prelude.start ++ put))
+    → KeepsMedia i (rule.prelude.start + length (spaces_at text rule.prelude.start ++ put))
+    (sheet_of (replaced text rule.prelude (spaces_at text rule.prelude.start ++ put))).media
+media_stays text put i rule e sealed utf8 =
     let o = old_media text i rule e in
     let v = o.gap ++ 123 ∷ o.rest in
     let s = rule.prelude.start in
@@ -665,8 +762,7 @@ media_stays text put i rule e sealed =
     (omega (arith, length-append o.prelude v, length-append o.gap (123 ∷ o.rest))) o.open_lead
     (spaces_white text (find (ends_keyword s) (pieces text)))
     (λ none. spaces_are o none) (λ name. says o name) in
-    let m = media_made_in text i rule o put spaces sealed n in
-    there o (spaces) m
+    there o spaces n utf8
   where
     -- what stands right before it
     spaces_are : (o : OldMedia text i rule) → o.lead ≡ [] → spaces_at text rule.prelude.start ≡ spaces_for o.key
@@ -699,10 +795,10 @@ media_stays text put i rule e sealed =
         (sym (ap (λ (t : List ℕ). bytes_eq (map to_ascii_lowercase (unescaped t)) (codes "media")) cut)
         ∙ sym (ap (names_media text o.keyword) o.at) ∙ o.named)
 
-    there : (o : OldMedia text i rule) (spaces : List ℕ)
-        → MadeIn (o.front ++ (o.key ++ (o.lead ++ (spaces ++ (put ++ (o.gap ++ 123 ∷ o.rest)))))) i
-        → IsSome (slice_get (sheet_of (replaced text rule.prelude (spaces ++ put))).media i)
-    there o spaces m =
+    there : (o : OldMedia text i rule) (spaces : List ℕ) → NewKey o.key o.lead spaces (put ++ (o.gap ++ 123 ∷ o.rest))
+        → IsUtf8 (replaced text rule.prelude (spaces ++ put))
+        → KeepsMedia i (rule.prelude.start + length (spaces ++ put)) (sheet_of (replaced text rule.prelude (spaces ++ put))).media
+    there o spaces n whole =
         let v = o.gap ++ 123 ∷ o.rest in
         let lead = (o.front ++ o.key) ++ o.lead in
         let size : length lead ≡ rule.prelude.start =
@@ -719,5 +815,9 @@ media_stays text put i rule e sealed =
         ∙ append_assoc (o.front ++ o.key) o.lead ((spaces ++ put) ++ v)
         ∙ append_assoc o.front o.key (o.lead ++ ((spaces ++ put) ++ v))
         ∙ ap (λ (t : List ℕ). o.front ++ (o.key ++ (o.lead ++ t))) (append_assoc spaces put v) in
-        subst (λ (x : Option MediaRule). IsSome x)
-        (sym (ap (λ (t : List ℕ). slice_get (sheet_of t).media i) new_is ∙ m.there)) refl
+        let m = media_made_in text i rule o put spaces sealed n (subst IsUtf8 new_is whole) in
+        let place : length o.front + length o.key + length o.lead + (length spaces + length put)
+        ≡ rule.prelude.start + length (spaces ++ put) = omega (arith, o.start, length-append spaces put) in
+        subst (λ (t : List ℕ). KeepsMedia i (rule.prelude.start + length (spaces ++ put)) (sheet_of t).media) (sym new_is)
+        (subst (λ (p : ℕ). KeepsMedia i p (sheet_of (o.front ++ (o.key ++ (o.lead ++ (spaces ++ (put ++ v)))))).media) place
+        (record { there = subst (λ (x : Option MediaRule). IsSome x) (sym m.there) refl; last = m.last }))

@@ -322,7 +322,7 @@ pub record PutSeam (put gap rest : List ℕ) : Type 0 where
   pub ss : List SelectorForm
   pub cut : PutPieces text (behind ++ 123 ∷ rest) ss (length put)
 
-at_place : (n : ℕ) (xs : List Token) (y : Token) (ys : List Token) → AllByRecursion (λ t. t.start < n) (xs ++ y ∷ ys) → y.start < n
+pub at_place : (n : ℕ) (xs : List Token) (y : Token) (ys : List Token) → AllByRecursion (λ t. t.start < n) (xs ++ y ∷ ys) → y.start < n
 at_place n [] y ys all = all.0
 at_place n (x ∷ xs) y ys all = at_place n xs y ys all.1
 

@@ -250,6 +250,7 @@ pub record CutBefore (put gap rest : List ℕ) (s : SealedPieces put) : Type 0 w
   pub moved : ℕ → ℕ
   pub whole : IsWholeBefore (trail ++ (behind ++ 123 ∷ rest)) 0 front (map (raised moved) s.us)
   pub early : AllByRecursion (λ t. t.start < length put) (map (raised moved) s.us)
+  pub long : length put ≤ length text
   pub list : (ss : List SelectorForm) → selector_list_of (word_reading put (words_after put false s.us)) ≡ Some ss
       → IsListOf text (map (raised moved) s.us)
 
@@ -305,6 +306,7 @@ cut_before put gap rest s blank = by (sealed_near put s (gap ++ 123 ∷ rest) (f
       white = s.blank;
       moved = λ x. x;
       whole = subst (IsWholeBefore (s.trail ++ v) 0 s.front) (sym (raised_none s.us)) whole;
+      long = omega arith;
       early = early_tokens (length put) (0 + length s.front) s.us (omega (arith, size)) (whole_tokens (s.trail ++ v) 0 s.front s.us whole);
       list = λ ss e. record {
         ss = ss;
@@ -332,6 +334,7 @@ cut_before put gap rest s blank = by (sealed_near put s (gap ++ 123 ∷ rest) (f
           moved = past_line (length put);
           whole = subst (λ (x : List ℕ). IsWholeBefore x 0 (put ++ 10 ∷ []) (map (raised (past_line (length put))) s.us)) b.is whole;
           early = early_line put s.us stand;
+          long = omega (arith, length-append put (10 ∷ []));
           list = λ ss e. record {
             ss = map (placed_selector (past_line (length put))) ss;
             is = line_list put s.us ss stand e;

@@ -1,6 +1,6 @@
 -- A new prelude in the place of that of a style rule or a media rule.
-use Rattle.std.specs.Prelude.{ℕ, ◌<◌, ◌≤◌, ◌==◌, ◌&&◌, nat_lt, Bool, List, [], ◌∷◌, ◌++◌, length, slice_get, Option, Some, None}
-use Rattle.std.specs.Prelude.{IsSomeAnd, if◌then◌else◌}
+use Rattle.std.specs.Prelude.{◌≡◌, ℕ, ◌+◌, ◌<◌, ◌≤◌, ◌==◌, ◌&&◌, nat_lt, nat_le, Bool, List, [], ◌∷◌, ◌++◌, length, slice_get, Option, Some, None}
+use Rattle.std.specs.Prelude.{IsSome, IsSomeAnd, if◌then◌else◌}
 use Rattle.std.specs.List.{find, prefix_len}
 use Rattle.css_tokens.specs.declared.token.Range.{Range}
 use Rattle.css_tokens.specs.declared.token.Token.{Token}
@@ -8,6 +8,7 @@ use Rattle.css_tokens.specs.Pieces.{pieces}
 use Rattle.selectors.specs.Words.{between}
 use Rattle.sheet_reader.specs.Grammar.{is_at_keyword}
 use Rattle.sheet_reader.specs.Forms.{RuleForm}
+use Rattle.sheet_reader.specs.declared.sheet.MediaRule.{MediaRule}
 
 -- a style rule whose prelude starts in this part of the text, and its body not before it
 pub record BeginsIn (part : Range) (r : RuleForm) : Type 0 where
@@ -41,3 +42,8 @@ spaces_by text (Some t) = spaces_behind (between text t.start t.end)
 -- what goes before a text that is put at this place: nothing, unless an at-keyword ends there
 abbrev pub spaces_at : List ℕ → ℕ → List ℕ
 spaces_at text place = spaces_by text (find (ends_keyword place) (pieces text))
+
+-- media rule k is there, and it is the last one whose prelude does not start behind a place
+pub record KeepsMedia (k place : ℕ) (media : List MediaRule) : Type 0 where
+  pub there : IsSome (slice_get media k)
+  pub last : prefix_len (λ m. nat_le m.prelude.start place) media ≡ k + 1

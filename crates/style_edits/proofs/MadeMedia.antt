@@ -1,16 +1,17 @@
--- After an edit of a media rule's prelude there is a media rule at the place that is answered.
-use Rattle.std.proofs.Common.{◌≡◌, ℕ, zero, suc, ◌+◌, ◌-◌, ◌<◌, ◌≤◌, nat_le, Bool, true, false, cond, List, [], ◌∷◌, ◌++◌, map, length}
+-- After an edit of a media rule's prelude that media rule is at the place that is answered.
+use Rattle.std.proofs.Common.{◌≡◌, ℕ, zero, suc, ◌+◌, ◌-◌, ◌<◌, ◌≤◌, nat_le, Bool, true, false, cond, All, List, [], ◌∷◌, ◌++◌, map, length}
 use Rattle.std.proofs.Common.{Option, Some, None, Ok, Err, refl, sym, ap, subst, ◌∙◌, arith}
-use Rattle.std.specs.Prelude.{slice_get, option_and_then, IsSome}
+use Rattle.std.specs.Prelude.{slice_get, option_and_then, IsSome, IsSomeAnd}
+use Rattle.std.specs.Str.{IsUtf8}
 use Rattle.std.specs.List.{find, prefix_len}
 use Rattle.css_tokens.specs.declared.token.Range.{Range}
 use Rattle.sheet_reader.specs.declared.book.Origin.{Origin}
 use Rattle.sheet_reader.specs.declared.book.Origin.TheVariants as origins
 use Rattle.sheet_reader.specs.declared.book.SheetEntry.{SheetEntry}
 use Rattle.sheet_reader.specs.declared.sheet.MediaRule.{MediaRule}
-use Rattle.sheet_reader.specs.Books.{entry_of}
+use Rattle.sheet_reader.specs.Books.{IsStored, entry_of}
 use Rattle.sheet_reader.specs.Forms.{range}
-use Rattle.sheet_reader.specs.Preludes.{spaces_at}
+use Rattle.sheet_reader.specs.Preludes.{KeepsMedia, spaces_at}
 use Rattle.sheet_reader.specs.Sealing.{is_sealed_prelude}
 use Rattle.sheet_reader.specs.Sheets.{sheet_of}
 use Rattle.sheet_reader.proofs.NewMedia.{media_stays}
@@ -23,7 +24,8 @@ use Rattle.style_edits.specs.MediaEdits.{media_at, media_by, media_in, media_spl
 use Rattle.style_edits.specs.MediaEdits.{media_rule_at}
 use Rattle.style_edits.specs.MediaEdits.{made_media, MakesMedia}
 use Rattle.style_edits.proofs.BookForms.{entry_again}
-use Rattle.style_edits.proofs.SpliceForms.{made}
+use Rattle.style_edits.proofs.FoundForms.{stored_of, media_splice_found}
+use Rattle.style_edits.proofs.SpliceForms.{made, stored_after}
 
 -- the splice puts a sealed text in the place of the prelude of media rule k of its sheet
 record Remedia (book : List SheetEntry) (text : List ℕ) (s : Splice) : Type 0 where
@@ -91,43 +93,31 @@ media_remedia id lines text book s h = by (entry_of id book) refl h
     by None found k = absurd (cc)
     by (Some e) found k = at e e.origin found k
 
--- where there is one of them, the last one of those in front is there, and else the first
-some_one : (ms : List MediaRule) (k : ℕ) → IsSome (slice_get ms k) → 0 < length ms
-some_one [] zero e = absurd (cc)
-some_one [] (suc k) e = absurd (cc)
-some_one (m ∷ ms) k e = omega arith
-
-get_some : (ms : List MediaRule) (n : ℕ) → n < length ms → IsSome (slice_get ms n)
-get_some [] n less = absurd (omega (arith, less))
-get_some (m ∷ ms) zero less = refl
-get_some (m ∷ ms) (suc n) less = get_some ms n (omega (arith, less))
-
-prefix_most : (p : MediaRule → Bool) (ms : List MediaRule) → prefix_len p ms ≤ length ms
-prefix_most p [] = omega arith
-prefix_most p (m ∷ ms) =
-    let more = prefix_most p ms in
-    elim (p m) as (λ b. cond b (1 + prefix_len p ms) 0 ≤ length (m ∷ ms)) [ true ↦ omega (arith, more) | false ↦ omega arith ]
-
-last_one : (p : MediaRule → Bool) (ms : List MediaRule) (k : ℕ) → IsSome (slice_get ms k) → IsSome (slice_get ms (prefix_len p ms - 1))
-last_one p ms k e = get_some ms (prefix_len p ms - 1) (omega (arith, some_one ms k e, prefix_most p ms))
-
-pub media_made : (id : ℕ) (lines : LineRange) (text : List ℕ) (book : List SheetEntry) (s : Splice)
+pub media_made : (id : ℕ) (lines : LineRange) (text : List ℕ) → IsUtf8 text → (book : List SheetEntry) (s : Splice) → All IsStored book
     → media_splice id lines text book ≡ Ok s → MakesMedia book s
-media_made id lines text book s h =
+media_made id lines text utf8 book s all h =
     let m = media_remedia id lines text book s h in
     let d = made s book m.sheet m.found in
+    let takes = media_splice_found id lines text book s all utf8 h in
     let next = after_splice s book in
+    let entry : entry_of s.sheet next ≡ Some (spliced_entry s m.sheet) = ap (entry_of s.sheet) d.after ∙ d.there in
+    let stored = stored_of s.sheet next (spliced_entry s m.sheet) entry (stored_after s book takes all) in
     let new = spliced m.sheet.text s.start s.end s.text in
-    let stays : IsSome (slice_get (sheet_of (spliced m.sheet.text s.start s.end (spaces_at m.sheet.text s.start ++ text))).media m.k) =
-    subst (λ (part : Range). IsSome (slice_get
-    (sheet_of (spliced m.sheet.text part.start part.end (spaces_at m.sheet.text part.start ++ text))).media m.k)) m.prelude
-    (media_stays m.sheet.text text m.k m.rule m.there m.sealed) in
-    let own : IsSome (slice_get (sheet_of new).media m.k) =
-    subst (λ (put : List ℕ). IsSome (slice_get (sheet_of (spliced m.sheet.text s.start s.end put)).media m.k)) (sym m.own) stays in
-    let there : entry_of s.sheet next ≡ Some (spliced_entry s m.sheet) = ap (entry_of s.sheet) d.after ∙ d.there in
+    let keeps : KeepsMedia m.k (s.start + length s.text) (sheet_of new).media =
+    subst (λ (put : List ℕ). IsUtf8 (spliced m.sheet.text s.start s.end put)
+    → KeepsMedia m.k (s.start + length put) (sheet_of (spliced m.sheet.text s.start s.end put)).media) (sym m.own)
+    (subst (λ (part : Range). IsUtf8 (spliced m.sheet.text part.start part.end (spaces_at m.sheet.text part.start ++ text))
+    → KeepsMedia m.k (part.start + length (spaces_at m.sheet.text part.start ++ text))
+    (sheet_of (spliced m.sheet.text part.start part.end (spaces_at m.sheet.text part.start ++ text))).media) m.prelude
+    (λ whole. media_stays m.sheet.text text m.k m.rule m.there m.sealed whole)) stored.utf8 in
     let back = back_in s m.sheet in
-    let place : edited_media next back ≡ media_up_to (sheet_of new).media back.end - 1 = ap (media_place_by back) there in
-    let last = last_one (λ (x : MediaRule). nat_le x.prelude.start back.end) (sheet_of new).media m.k own in
-    subst (λ (o : Option MediaRule). IsSome o)
-    (sym (ap (made_media next) d.back ∙ ap (media_rule_at next s.sheet) place
-    ∙ ap (option_and_then (λ (x : SheetEntry). slice_get (sheet_of x.text).media (media_up_to (sheet_of new).media back.end - 1))) there)) last
+    let last = keeps.last in
+    let answered : edited_media next back ≡ m.k = ap (media_place_by back) entry ∙ omega (arith, last) in
+    record {
+      own = subst (λ (o : Option MediaRule). IsSomeAnd o (λ (x : MediaRule). x.prelude ≡ range s.start s.end))
+          (sym (ap (λ (b : Splice). media_rule_at book s.sheet (edited_media next b)) d.back ∙ ap (media_rule_at book s.sheet) answered
+          ∙ ap (option_and_then (λ (x : SheetEntry). slice_get (sheet_of x.text).media m.k)) m.found ∙ m.there)) m.prelude;
+      there = subst (λ (o : Option MediaRule). IsSome o)
+          (sym (ap (made_media next) d.back ∙ ap (media_rule_at next s.sheet) answered
+          ∙ ap (option_and_then (λ (x : SheetEntry). slice_get (sheet_of x.text).media m.k)) entry)) keeps.there;
+    }

@@ -1,10 +1,12 @@
 -- What a client's edit of the prelude of a media rule comes to.
-use Rattle.std.specs.Prelude.{ℕ, ◌-◌, nat_le, List, ◌++◌, map, slice_get, Option, Some, None, option_and_then, IsSome, Err, if◌then◌else◌}
+use Rattle.std.specs.Prelude.{◌≡◌, ℕ, ◌-◌, nat_le, List, ◌++◌, map, slice_get, Option, Some, None, option_and_then, IsSome, IsSomeAnd, Err}
+use Rattle.std.specs.Prelude.{if◌then◌else◌}
 use Rattle.std.specs.List.{find, prefix_len}
 use Rattle.css_tokens.specs.declared.token.Range.{Range}
 use Rattle.sheet_reader.specs.declared.book.SheetEntry.{SheetEntry}
 use Rattle.sheet_reader.specs.declared.sheet.MediaRule.{MediaRule}
 use Rattle.sheet_reader.specs.Books.{entry_of}
+use Rattle.sheet_reader.specs.Forms.{range}
 use Rattle.sheet_reader.specs.Preludes.{spaces_at}
 use Rattle.sheet_reader.specs.Sheets.{sheet_of}
 use Rattle.sheet_reader.specs.Sealing.{is_sealed_prelude}
@@ -53,6 +55,9 @@ media_rule_at book sheet place = option_and_then (λ e. slice_get (sheet_of e.te
 abbrev pub made_media : List SheetEntry → Splice → Option MediaRule
 made_media book back = media_rule_at book back.sheet (edited_media book back)
 
--- there is a media rule at the place that is answered for a splice of the book, in the book that the splice left
-abbrev pub MakesMedia : List SheetEntry → Splice → Type 0
-MakesMedia book s = IsSome (made_media (after_splice s book) (back_splice s book))
+-- The place that is answered for a splice of the book is the number of the media rule whose prelude the splice replaced, and there is a
+-- media rule with that number in the book that the splice left
+pub record MakesMedia (book : List SheetEntry) (s : Splice) : Type 0 where
+  pub own : IsSomeAnd (media_rule_at book s.sheet (edited_media (after_splice s book) (back_splice s book)))
+      (λ m. m.prelude ≡ range s.start s.end)
+  pub there : IsSome (made_media (after_splice s book) (back_splice s book))

@@ -37,7 +37,8 @@ pub fn edits_law()
 /// The style rule that an edit made is there. `edited_rule` answers, for a new body, the place of the rule whose body is the edit's
 /// text, no more and no less; for a new prelude, that of a rule whose prelude starts in the edit's text; and for a rule that was added,
 /// that of one that stands in the edit's text. And where bodies are edited one after the other, each such rule is at its place after all
-/// the edits. So too, after an edit of a media rule's prelude, there is a media rule at the place that `edited_media` answers.
+/// the edits. After an edit of a media rule's prelude `edited_media` answers the number that this media rule had, and there is a media
+/// rule with that number.
 pub fn rules_law()
     ensures style { (x : StyleEdit) → IsUtf8 x.text → EachMakes MakesBody (style_splice x) }
     ensures selector { (id : ℕ) (lines : LineRange) (text : List ℕ) → IsUtf8 text
