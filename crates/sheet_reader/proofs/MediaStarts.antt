@@ -5,7 +5,6 @@ use Rattle.std.specs.Prelude.{slice_get, option_map, option_to_list}
 use Rattle.std.specs.List.{AllByRecursion, prefix_len}
 use Rattle.std.proofs.lemmas.Bool.Decides.{nat_tests}
 use Rattle.std.proofs.lemmas.List.{take-append-drop}
-use Rattle.css_tokens.specs.declared.token.Range.{Range}
 use Rattle.css_tokens.specs.declared.token.Token.{Token}
 use Rattle.selectors.specs.declared.words.Word.{Word}
 use Rattle.selectors.specs.Ranges.{AreBetween}
