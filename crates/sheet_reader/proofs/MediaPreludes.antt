@@ -277,7 +277,8 @@ new_prelude put gap rest lead sealed blank open_lead place =
         omega (arith, same, on, map_length (raised c.moved) s.us)
 
     by : AllPassed Inner us ⊎ LeadSolid us → NewPrelude place (length lead + length put) (lead ++ (c.text ++ (c.behind ++ 123 ∷ rest)))
-    by (inl all) = blank_prelude c.text c.behind rest lead c.front c.trail us c.parted c.white c.blank open_lead place all (length put) c.long c.whole
+    by (inl all) = blank_prelude c.text c.behind rest lead c.front c.trail us c.parted c.white c.blank open_lead place all
+        (length put) c.long c.whole
     by (inr l) = put_prelude c.text c.behind rest lead c.front c.trail us c.parted c.white c.blank open_lead place l
         (nesting_raised c.moved [] s.us ∙ all_closed) ends
         (whole_split (c.trail ++ (c.behind ++ 123 ∷ rest)) 0 c.front l.lead (l.first ∷ l.rest)

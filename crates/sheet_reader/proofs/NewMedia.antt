@@ -243,7 +243,8 @@ module _ (text : List ℕ) (a : Option ℕ) (j : ℕ) (keyword : Token) (prelude
       let form : media_form text p ≡ Some m = media_named text keyword prelude brace inside last named in
       let both = tokens_split brace.end hi inside (option_to_list last ++ rest) (subst (AllTokens brace.end hi) cut all) in
       let left = tokens_split brace.end hi (option_to_list last) rest both.1 in
-      let out = out_is text (IsMedia text keyword prelude) brace.end hi a j p (keyword ∷ (prelude ++ brace ∷ zs)) rest (laid a p ∷ (within ++ ls))
+      let out = out_is text (IsMedia text keyword prelude) brace.end hi a j p (keyword ∷ (prelude ++ brace ∷ zs)) rest
+      (laid a p ∷ (within ++ ls))
       (ap (λ (l : List Token). keyword ∷ l) (sym (append_assoc prelude (brace ∷ []) zs))
       ∙ cut_is keyword brace prelude [] zs inside (option_to_list last) rest cut) part
       (media_laid p m (parts Inner inside) (parts (level_of a) rest) within ls form (parts_spelled Inner inside)
@@ -260,7 +261,8 @@ module _ (text : List ℕ) (a : Option ℕ) (j : ℕ) (keyword : Token) (prelude
             (laid_from text brace.end hi a i rest left.1));
       }
 
-  led_here : (zs : List Token) → AllTokens brace.end hi zs → LedLaid text (IsMedia text keyword prelude) brace.end j j (laid_out text a j (keyword ∷ (prelude ++ brace ∷ zs)))
+  led_here : (zs : List Token) → AllTokens brace.end hi zs
+      → LedLaid text (IsMedia text keyword prelude) brace.end j j (laid_out text a j (keyword ∷ (prelude ++ brace ∷ zs)))
   led_here zs all = by (drop n zs) refl
     where
       n : ℕ
@@ -291,7 +293,8 @@ module _ (text : List ℕ) (a : Option ℕ) (j : ℕ) (keyword : Token) (prelude
   pub media_there : (rs : List RuleForm) (own lead : List Token) → Spot text None 0 a j rs own → AllPassed (level_of a) lead
       → AreNested prelude
       → (zs : List Token) → AllTokens brace.end hi zs
-      → LedLaid text (IsMedia text keyword prelude) brace.end 0 j (laid_out text None 0 (own ++ (lead ++ keyword ∷ (prelude ++ brace ∷ zs))))
+      → LedLaid text (IsMedia text keyword prelude) brace.end 0 j
+      (laid_out text None 0 (own ++ (lead ++ keyword ∷ (prelude ++ brace ∷ zs))))
   media_there rs own lead spot quiet nested zs left =
       subst (λ (l : List Token). LedLaid text (IsMedia text keyword prelude) brace.end 0 j (laid_out text None 0 (own ++ l))) (core_is zs)
       (reads_laid text core (IsMedia text keyword prelude) brace.end hi a j stays leads rs own spot zs left)
@@ -320,7 +323,8 @@ module _ (text : List ℕ) (a : Option ℕ) (j : ℕ) (keyword : Token) (prelude
           ∙ length-append (lead ++ keyword ∷ prelude) (brace ∷ []) in
           omega (arith, cut, on, one, size)
 
-      leads : (ys : List Token) → AllTokens brace.end hi ys → LedLaid text (IsMedia text keyword prelude) brace.end j j (laid_out text a j (core ++ ys))
+      leads : (ys : List Token) → AllTokens brace.end hi ys
+          → LedLaid text (IsMedia text keyword prelude) brace.end j j (laid_out text a j (core ++ ys))
       leads ys more =
           subst (λ (l : List Token). LedLaid text (IsMedia text keyword prelude) brace.end j j (laid_out text a j l)) (sym (core_is ys))
           (led_behind lead quiet ys more)
@@ -434,7 +438,8 @@ media_made_in text i rule o put spaces sealed key utf8 =
         let named : names_media new keyword keyword.kind ≡ true =
         ap (λ (t : List ℕ). bytes_eq (map to_ascii_lowercase (unescaped t)) (codes "media")) name_is ∙ key.says in
         let led =
-        media_there new l.a l.j keyword p.prelude p.brace refl named p.curly p.ends p.hi l.rs l.own k.lead l.spot k.passed p.nested p.zs p.left in
+        media_there new l.a l.j keyword p.prelude p.brace refl named p.curly p.ends p.hi l.rs l.own k.lead
+        l.spot k.passed p.nested p.zs p.left in
         let ls = laid_out new None 0 (l.own ++ (k.lead ++ keyword ∷ (p.prelude ++ p.brace ∷ p.zs))) in
         let media_is : (sheet_of new).media ≡ media_in new led.before ++ led.own.0 ∷ media_in new led.after =
         ap (λ (ts : List Token). media_in new (laid_out new None 0 ts)) pieces_are
