@@ -1,6 +1,6 @@
 -- The numbers after an edit that nothing is wrong with.
 use Rattle.std.proofs.Common.{zero, suc, ◌+◌, ◌<◌, ◌==◌, ◌||◌, get_or, drop, ◌≡◌, ℕ, ◌≤◌, Bool, true, false}
-use Rattle.std.proofs.Common.{Option, Some, None, IsSome, List, [], ◌∷◌, length, refl, sym, ap, ◌∙◌, subst, arith}
+use Rattle.std.proofs.Common.{Option, Some, None, IsSome, IfSome, List, [], ◌∷◌, length, refl, sym, ap, ◌∙◌, subst, arith}
 use Rattle.node_tree.specs.Nodes.{Nodes, none, node, Branch, nodes_of, alone, node_count, branch_count, height}
 use Rattle.node_tree.specs.Keys.{At, tally, find, spot}
 use Rattle.node_tree.specs.Levels.{most_levels}
@@ -22,13 +22,18 @@ use Rattle.std.specs.FinMap as numbers
 use Rattle.std.proofs.lemmas.List.{drop_more}
 use Rattle.front_mirror.proofs.TableLemmas.{puts_is}
 use Rattle.front_mirror.specs.Tables.{PutsAt, with_entry, by_id, table_slots, table_trees, tree_in, KeepsMirror, IsTable}
-use Rattle.front_mirror.specs.Sizes.{noted, on_path, IsCounted, BecomesOn, shifted, leaving_trees}
+use Rattle.node_tree.specs.Numbers.{number_limit, counted_limit}
+use Rattle.front_mirror.specs.Sizes.{noted, on_path, HasLowIds, HasRoomUpTo, IsCounted, BecomesOn, shifted, leaving_trees}
+use Rattle.front_mirror.proofs.ApartLemmas.{Once}
+use Rattle.front_mirror.proofs.FewLemmas.{few_nodes, count_seen}
+use Rattle.front_mirror.proofs.RankLemmas.{rank-less}
+use Rattle.front_mirror.proofs.SizeLemmas.{found-there}
 use Rattle.client_views.proofs.InsertedLemmas.{TakenOut}
-use Rattle.front_mirror.proofs.EditLemmas.{added, edit_added, edit_ready, mirror_of_edit, counted_none, bare-at}
+use Rattle.front_mirror.proofs.EditLemmas.{added, edit_added, edit_ready, mirror_of_edit, low_added, once_of_edit, counted_none, bare-at}
 use Rattle.front_mirror.proofs.EditTurns.{ready_known, ready_suits}
 use Rattle.front_mirror.proofs.LookLemmas.{located}
 use Rattle.front_mirror.proofs.ChildLemmas.{known-found}
-use Rattle.front_mirror.proofs.CountedLemmas.{noted-inside}
+use Rattle.front_mirror.proofs.CountedLemmas.{noted-inside, noted-outside}
 use Rattle.front_mirror.proofs.RecountLemmas.{Leaving, inserted_stands, change_counted}
 
 -- what the slots keep under the id of a known node
@@ -40,10 +45,6 @@ found_trees t roots n table low x b found =
     let h = height_above-at (at-back s.2) in
     let kept : Keeps by_id (table_slots t) (alone b) l.slot.parent (x ∷ []) = (l.slot, l.at, refl, l.row_is, l.below, tt) in
     kept_trees-keeps by_id (table_slots t) most_levels (alone b) l.slot.parent (x ∷ []) kept (omega arith)
-
-count_seen : (n : Nodes Told) → node_count (seen_nodes n) ≡ node_count n
-count_seen none = refl
-count_seen (node r c t) = rw (count_seen c, count_seen t) refl
 
 module _ (t : Table) (roots : List ℕ) (id : ℕ) (e : NodeChange) (kept : KeepsMirror t roots) (fits : fits_edit e ≡ true)
     (clear : spot_fault (tree_in t roots) (edit_told id e) (spot seen_id id 0 (tree_in t roots)) ≡ None) where
@@ -113,7 +114,47 @@ module _ (t : Table) (roots : List ℕ) (id : ℕ) (e : NodeChange) (kept : Keep
       (subst (λ j. BecomesOn (λ k. on_path seen_id k a) (shifted j fewer) noting mid) more_is (became x depth o a named))))
       forgot
 
+-- ---- no number grows too great
+
+module _ (t : Table) (roots : List ℕ) (id : ℕ) (e : NodeChange) (kept : KeepsMirror t roots) (fits : fits_edit e ≡ true)
+    (clear : spot_fault (tree_in t roots) (edit_told id e) (spot seen_id id 0 (tree_in t roots)) ≡ None) (nodes : List (Branch Told))
+    (are : nodes_of nodes ≡ edit_nodes e) where
+  once : Once (tree_in t roots) (nodes_of nodes)
+  once = subst (λ n. Once (tree_in t roots) n) (sym are) (once_of_edit (tree_in t roots) id e kept.mirror fits clear)
+
+  few_more : node_count (nodes_of nodes) ≤ counted_limit
+  few_more =
+      let come : shown_of nodes ≡ added (edit_change e) = ap (λ (o : Nodes Told). seen_nodes o) are ∙ edit_added e in
+      let low : HasLowIds (shown_of nodes) = subst HasLowIds (sym come) (low_added (tree_in t roots) id e kept.mirror fits) in
+      let h = few_nodes (shown_of nodes) (λ x. let k = once.ids x in omega arith) low in
+      let k = count_seen (nodes_of nodes) in
+      omega arith
+
+  -- the nodes that come with an edit
+  pub few_come : node_count (nodes_of nodes) < number_limit
+  few_come = omega (arith, few_more)
+
+  -- each number has room for the nodes that come
+  pub room_noted : (more : ℕ) → more ≡ node_count (nodes_of nodes) → (start noting : ℕ → Option ℕ)
+      → noting ≡ noted seen_id (shown_of nodes) start → IsCounted seen_id start (tree_in t roots) → HasLowIds (tree_in t roots)
+      → HasRoomUpTo id more noting (tree_in t roots)
+  room_noted more m start noting n counted low k known up_to =
+      let here = known-found k (tree_in t roots) known in
+      let there = found-there seen_id k (tree_in t roots) (known_at k (tree_in t roots)) here in
+      let o = once.ids k in
+      let is : noting k ≡ Some (branch_count (known_at k (tree_in t roots))) =
+      ap (λ f. f k) n ∙ noted-outside seen_id (shown_of nodes) start k (omega arith)
+      ∙ counted k (known_at k (tree_in t roots)) here
+      in
+      let less = rank-less k (tree_in t roots) kept.mirror (known_at k (tree_in t roots)) here in
+      let few = few_nodes (tree_in t roots) kept.mirror.view.ids low in
+      let few2 = few_more in
+      subst (λ (c : Option ℕ). IfSome c (λ count. count + more < number_limit)) (sym is) (omega arith)
+
 -- ---- an empty mirror, and a new document
+
+pub none_low : (n : Nodes Seen) → n ≡ none → HasLowIds n
+none_low n empty = subst HasLowIds (sym empty) (λ x far. refl)
 
 pub none_counted : (counts : ℕ → Option ℕ) (n : Nodes Seen) → n ≡ none → IsCounted seen_id counts n
 none_counted counts n empty = subst (λ (m : Nodes Seen). IsCounted seen_id counts m) (sym empty) (λ k b found. absurd cc)
@@ -171,6 +212,9 @@ count_turn nodes i b count own sum within is size more e =
     omega arith
 
 -- ---- a table and a map that were taken out
+
+pub low_again : (n m : Nodes Seen) → HasLowIds n → m ≡ n → HasLowIds m
+low_again n m low same = subst HasLowIds (sym same) low
 
 pub kept_again : (a b : Table) (ks js : List ℕ) → KeepsMirror a ks → b ≡ a → js ≡ ks → KeepsMirror b js
 kept_again a b ks js kept t k = subst (λ (x : Table). KeepsMirror x js) (sym t) (subst (λ (l : List ℕ). KeepsMirror a l) (sym k) kept)

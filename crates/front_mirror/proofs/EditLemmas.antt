@@ -26,10 +26,11 @@ use Rattle.front_mirror.specs.Shown.{known_at, no_node}
 use Rattle.front_mirror.specs.Front.{FrontValue, ToldChange, is_kin, is_unique, is_fresh, takes_change, knows_named, stands_low}
 use Rattle.front_mirror.specs.Front.{change_fault, told, with_tree, at_spot}
 use Rattle.front_mirror.specs.Edits.{edit_nodes, edit_change, edit_told, fits_edit, is_ready, spot_fault, with_changed}
+use Rattle.front_mirror.specs.Sizes.{HasLowIds}
 use Rattle.front_mirror.proofs.ToldLemmas.{height-seen}
 use Rattle.front_mirror.proofs.ViewLemmas.{clear_three, shows_nodes}
 use Rattle.front_mirror.proofs.SpotLemmas.{spot_branch, find-spot, put-spot, depth-at}
-use Rattle.front_mirror.proofs.ApartLemmas.{once_new}
+use Rattle.front_mirror.proofs.ApartLemmas.{Once, once_new}
 use Rattle.client_views.proofs.InsertedLemmas.{Inserted, tally-inserted, height-inserted, inserted_after, taken_out, passes-at, all-at}
 use Rattle.client_views.proofs.InsertedLemmas.{all-inserted}
 use Rattle.client_views.proofs.BoolLemmas.{and_left, and_right, both}
@@ -390,6 +391,40 @@ module _ (v : Nodes Seen) (id : ℕ) (e : NodeChange) (mirror : IsMirror v) (fit
 
   pub mirror_of_edit : spot_fault v (edit_told id e) (spot seen_id id 0 v) ≡ None → IsMirror (with_changed id (edit_change e) v)
   mirror_of_edit clear = mirror_at (spot seen_id id 0 v) refl clear
+
+  -- the ids that come are low
+  pub low_added : HasLowIds (added (edit_change e))
+  low_added x far =
+      let shows = shows_nodes (edit_nodes e) (and_left (fits_nodes (edit_nodes e)) (has_named_attribute (edit_change e)) fits) in
+      ap (tally seen_id x) (sym (edit_added e)) ∙ shows.low x far
+
+  low_at : (o : Option (Spot Seen)) → spot seen_id id 0 v ≡ o → spot_fault v (edit_told id e) o ≡ None → HasLowIds v
+      → HasLowIds (with_changed id (edit_change e) v)
+  low_at None is clear low = absurd cc
+  low_at (Some s) is clear low =
+      let fine = clear_change v (edit_told id e) s clear in
+      let p = put-spot seen_id id (changed (edit_change e) s.branch) 0 v s is in
+      let owes = changed-owes s.branch (sound-at p.2 mirror) (edit_change e) fine.suits (fine_edit e fits) in
+      let kept : HasLowIds (put seen_id id (changed (edit_change e) s.branch) v) =
+      λ x far.
+      let h = tally_kept seen_id x (added (edit_change e)) p.2 (owes.ids x) in
+      let k = low x far in
+      let l = low_added x far in
+      omega arith
+      in
+      rw (known-spot id v s is) kept
+
+  -- its ids stay low
+  pub low_of_edit : spot_fault v (edit_told id e) (spot seen_id id 0 v) ≡ None → HasLowIds v → HasLowIds (with_changed id (edit_change e) v)
+  low_of_edit clear low = low_at (spot seen_id id 0 v) refl clear low
+
+  once_at : (o : Option (Spot Seen)) → spot_fault v (edit_told id e) o ≡ None → Once v (edit_nodes e)
+  once_at None clear = absurd cc
+  once_at (Some s) clear = once_new v (edit_nodes e) mirror.view (clear_change v (edit_told id e) s clear).new
+
+  -- the nodes that come are others than those of the tree
+  pub once_of_edit : spot_fault v (edit_told id e) (spot seen_id id 0 v) ≡ None → Once v (edit_nodes e)
+  once_of_edit clear = once_at (spot seen_id id 0 v) clear
 
   -- and the node is there, and may be changed
   ready_at : (o : Option (Spot Seen)) → spot seen_id id 0 v ≡ o → spot_fault v (edit_told id e) o ≡ None

@@ -33,4 +33,5 @@ mod SizeLemmas
 mod PathLemmas
 mod CountedLemmas
 mod RecountLemmas
+mod FewLemmas
 mod EditCounts

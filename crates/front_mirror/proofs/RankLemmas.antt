@@ -31,7 +31,7 @@ count_first-suc zero (node r c t) b e =
     omega arith
 count_first-suc (suc i) (node r c t) b e = let h = count_first-suc i t b e in omega arith
 
-nat_cases : (j i : ℕ) → (j < i) ⊎ (i ≤ j)
+pub nat_cases : (j i : ℕ) → (j < i) ⊎ (i ≤ j)
 nat_cases zero zero = inr (omega arith)
 nat_cases zero (suc i) = inl (omega arith)
 nat_cases (suc j) zero = inr (omega arith)

@@ -7,6 +7,8 @@ use Rattle.node_tree.specs.Keys.{tally, first_true}
 use Rattle.node_tree.specs.Labels.{is_document, is_formed_label, is_named_label}
 use Rattle.node_tree.specs.Seen.{Seen, is_opened, seen_id, seen_serial}
 use Rattle.dom_objects.specs.Told.{Told, seen_nodes, told_nodes, told_branch}
+use Rattle.cdp_json.specs.Kinds.{is_counted}
+use Rattle.node_tree.specs.Numbers.{counted_limit}
 use Rattle.dom_objects.specs.NodeObject.{fits_row, fits_place, is_counted_row, same, fits_hold}
 use Rattle.dom_objects.specs.NodeData.{fits_below, fits_nodes, fits_tree}
 use Rattle.front_mirror.specs.Shown.{told_id, told_serial}
@@ -14,6 +16,7 @@ use Rattle.client_views.specs.Views.{IsView, IsMirror, is_bare, has_formed_label
 use Rattle.node_tree.specs.Levels.{most_levels}
 use Rattle.front_mirror.specs.Front.{is_kin, is_unique, root_fault}
 use Rattle.dom_objects.proofs.NodeTrees.{fitting_parts, tree_parts}
+use Rattle.front_mirror.specs.Sizes.{HasLowIds}
 use Rattle.front_mirror.proofs.DistinctLemmas.{absent_and}
 use Rattle.front_mirror.proofs.ToldLemmas.{height-seen, keys-seen}
 use Rattle.client_views.proofs.ToldChanges.{height-told}
@@ -102,6 +105,7 @@ same_is false true e = cc
 same_is false false e = refl
 
 record Placed (top : Bool) (r : Told) : Type 0 where
+  counted : nat_lt r.seen.id counted_limit ≡ true
   id : nat_lt 0 r.seen.id ≡ true
   formed : is_formed_label r.seen.label ≡ true
   named : is_named_label r.seen.label ≡ true
@@ -116,7 +120,11 @@ placed_row top w r fits =
     let e = and_left _ (same (is_document r.seen.label.kind) top) b in
     let f = and_left _ (is_named_label r.seen.label) e in
     let g = and_left _ (is_formed_label r.seen.label) f in
+    let counts = and_left (is_counted_row r) (fits_place top w r) fits in
+    let two = and_left (is_counted r.seen.id && is_counted r.seen.serial) (is_counted r.count)
+    (and_left _ (is_counted r.parent) counts) in
     record {
+      counted = and_left (is_counted r.seen.id) (is_counted r.seen.serial) two;
       id = and_left (nat_lt 0 r.seen.id) (nat_lt 0 r.seen.serial) g;
       formed = and_right (nat_lt 0 r.seen.id && nat_lt 0 r.seen.serial) (is_formed_label r.seen.label) f;
       named = and_right (nat_lt 0 r.seen.id && nat_lt 0 r.seen.serial && is_formed_label r.seen.label) (is_named_label r.seen.label) e;
@@ -131,11 +139,16 @@ below_or false (node r c t) e = cc
 above_here : (r : Told) (n : ℕ) → nat_lt 0 r.seen.id ≡ true → n ≡ 0 → cond {A = ℕ} (r.seen.id == 0) 1 0 + n ≡ 0
 above_here r n positive e = grind arith
 
+low_here : (r : Told) (n x : ℕ) → nat_lt r.seen.id counted_limit ≡ true → counted_limit ≤ x → n ≡ 0
+    → cond {A = ℕ} (r.seen.id == x) 1 0 + n ≡ 0
+low_here r n x low far e = grind arith
+
 -- what the rows of a message show together
 pub record Shows (n : Nodes Told) : Type 0 where
   pub above : tally seen_id 0 (seen_nodes n) ≡ 0
   pub bare : is_bare (seen_nodes n) ≡ true
   pub labels : has_formed_labels (seen_nodes n) ≡ true
+  pub low : HasLowIds (seen_nodes n)
 
 shows_more : (top : Bool) (w : ℕ) (r : Told) (c t : Nodes Told) → fits_row top w r ≡ true → fits_below r c ≡ true → Shows c → Shows t
     → Shows (node r c t)
@@ -147,10 +160,18 @@ shows_more top w r c t fits below sc st =
           let h = above_here r (tally seen_id 0 (seen_nodes c) + tally seen_id 0 (seen_nodes t)) p.id e in omega arith;
       bare = rw (below_or (is_opened r.seen.hold) c below, sc.bare, st.bare) refl;
       labels = rw (p.formed, p.named, sc.labels, st.labels) refl;
+      low = λ x far.
+          let e : tally seen_id x (seen_nodes c) + tally seen_id x (seen_nodes t) ≡ 0 =
+          let a = sc.low x far in let b = st.low x far in omega arith
+          in
+          let h = low_here r (tally seen_id x (seen_nodes c) + tally seen_id x (seen_nodes t)) x p.counted far e in omega arith;
     }
 
+shows_none : Shows none
+shows_none = record { above = refl; bare = refl; labels = refl; low = λ x far. refl }
+
 pub shows_nodes : (n : Nodes Told) → fits_nodes n ≡ true → Shows n
-shows_nodes none fits = record { above = refl; bare = refl; labels = refl }
+shows_nodes none fits = shows_none
 shows_nodes (node r c t) fits =
     let p = fitting_parts r c t fits in shows_more false (width c) r c t p.row p.below (shows_nodes c p.children) (shows_nodes t p.later)
 
@@ -176,13 +197,21 @@ clear_root b e = let p = clear_three _ _ _ (is_kin b.row.seen.id b.children) (is
 pub within_limit : (h limit : ℕ) → nat_le h limit ≡ true → h ≤ limit
 within_limit h limit e = grind arith
 
+-- a document that comes
+shows_root : (b : Branch Told) → fits_tree true b ≡ true → Shows (alone b)
+shows_root b fits =
+    let parts = tree_parts true b fits in
+    shows_more true (width b.children) b.row b.children none parts.row parts.below (shows_nodes b.children parts.children) shows_none
+
+pub low_of_root : (b : Branch Told) → fits_tree true b ≡ true → HasLowIds (seen_nodes (alone b))
+low_of_root b fits = (shows_root b fits).low
+
 -- the mirror that a document becomes
 pub mirror_of_root : (b : Branch Told) → root_fault b ≡ None → fits_tree true b ≡ true → IsMirror (seen_nodes (alone b))
 mirror_of_root b e fits =
     let clear = clear_root b e in
     let parts = tree_parts true b fits in
-    let shows = shows_more true (width b.children) b.row b.children none parts.row parts.below (shows_nodes b.children parts.children)
-    (record { above = refl; bare = refl; labels = refl }) in
+    let shows = shows_root b fits in
     let place = placed_row true (width b.children) b.row parts.row in
     record {
       view = record {
@@ -206,7 +235,7 @@ pub keys-told : (key : Seen → ℕ) (p : ℕ) (n : Nodes Seen) → keys (λ r. 
 keys-told key p none = refl
 keys-told key p (node r c t) = rw (keys-told key r.id c, keys-told key p t) refl
 
-subst_times : (key : Seen → ℕ) (n : Nodes Seen) (x : ℕ) → tally key x n ≤ 1 → times x (keys key n) ≤ 1
+pub subst_times : (key : Seen → ℕ) (n : Nodes Seen) (x : ℕ) → tally key x n ≤ 1 → times x (keys key n) ≤ 1
 subst_times key n x h = let e = tally-keys key x n in omega arith
 
 pub unique_told : (p : ℕ) (n : Nodes Seen) → IsView n → is_unique (told_nodes p n) ≡ true

@@ -1,7 +1,9 @@
 -- How many nodes stand at and below each node, kept in a map by its key.
-use Rattle.std.specs.Prelude.{List, [], ◌∷◌, ◌≡◌, ℕ, suc, ◌+◌, ◌-◌, ◌==◌, ◌||◌, cond, Bool, Option, Some, option_map}
+use Rattle.std.specs.Prelude.{List, [], ◌∷◌, ◌≡◌, ℕ, suc, ◌+◌, ◌-◌, ◌<◌, ◌≤◌, ◌==◌, ◌||◌, cond, Bool}
+use Rattle.std.specs.Prelude.{Option, Some, option_map, IsSome, IfSome}
 use Rattle.node_tree.specs.Nodes.{Nodes, none, node, Branch, node_count, branch_count}
-use Rattle.node_tree.specs.Keys.{At, here, within, past, find}
+use Rattle.node_tree.specs.Keys.{At, here, within, past, find, tally}
+use Rattle.node_tree.specs.Numbers.{number_limit, counted_limit}
 use Rattle.node_tree.specs.Levels.{most_levels}
 use Rattle.node_tree.specs.Seen.{Seen, seen_id}
 use Rattle.std.specs.Ordering.{nat_cmp}
@@ -10,6 +12,7 @@ use Rattle.front_mirror.specs.declared.edits.NodeChange.{NodeChange}
 use Rattle.front_mirror.specs.declared.edits.NodeChange.TheVariants as edit
 use Rattle.front_mirror.specs.declared.table.Table.{Table}
 use Rattle.front_mirror.specs.Tables.{with_entry, table_trees, tree_in, KeepsMirror}
+use Rattle.front_mirror.specs.Walks.{rank_of}
 
 -- under the key of each node stands how many nodes there are at and below it
 abbrev pub IsCounted : {R : Type 0} → (R → ℕ) → (ℕ → Option ℕ) → Nodes R → Type 0
@@ -34,6 +37,15 @@ BecomesOn on f old new = (k : ℕ) → new k ≡ cond (on k) (option_map f (old 
 abbrev pub shifted : ℕ → ℕ → ℕ → ℕ
 shifted more fewer x = x + more - fewer
 
+-- no node has an id that a message cannot carry
+abbrev pub HasLowIds : Nodes Seen → Type 0
+HasLowIds n = (x : ℕ) → counted_limit ≤ x → tally seen_id x n ≡ 0
+
+-- the number of each node up to the one of that id, in document order, can be so many more
+abbrev pub HasRoomUpTo : ℕ → ℕ → (ℕ → Option ℕ) → Nodes Seen → Type 0
+HasRoomUpTo id more counts n = (k : ℕ) → IsSome (find seen_id k n) → rank_of seen_id k n ≤ rank_of seen_id id n
+    → IfSome (counts k) (λ count. count + more < number_limit)
+
 -- the nodes of a table that leave with an edit
 abbrev pub leaving_trees : Table → NodeChange → Nodes Seen
 leaving_trees t (edit.Show nodes) = none
@@ -44,7 +56,8 @@ leaving_trees t (edit.SetAttribute name value) = none
 leaving_trees t (edit.DropAttribute name) = none
 leaving_trees t (edit.SetValue value) = none
 
--- the table of a mirror keeps its tree, and the map has its numbers
+-- the table of a mirror keeps its tree, whose ids came in messages, and the map has its numbers
 pub record KeepsCounted (t : Table) (roots : List ℕ) (counts : numbers.FinMap nat_cmp ℕ) : Type 0 where
   pub kept : KeepsMirror t roots
   pub counted : IsCounted seen_id (numbers.get counts) (tree_in t roots)
+  pub low : HasLowIds (tree_in t roots)

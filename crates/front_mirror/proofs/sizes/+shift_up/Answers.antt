@@ -1,5 +1,5 @@
 -- The way up from the parent is shorter.
-use Rattle.std.proofs.Common.{◌<◌, sym, subst}
+use Rattle.std.proofs.Common.{◌<◌, sym, subst, arith}
 use Rattle.std.specs.FinMap as map
 use Rattle.node_tree.specs.Seen.{seen_id}
 use Rattle.front_mirror.specs.Sizes.{shifted}
@@ -7,7 +7,11 @@ use Rattle.front_mirror.specs.Tables.{tree_in}
 use Rattle.front_mirror.specs.Walks.{rank_of}
 use Rattle.front_mirror.proofs.RankLemmas.{parent-known, parent-smaller}
 use Rattle.front_mirror.proofs.PathLemmas.{becomes_root, becomes_up}
+use Rattle.front_mirror.proofs.FewLemmas.{room_before}
 use Rattle.front_mirror.proofs.sizes.+shift_up.Goals as goal
+
+pub shift_one-requires : goal.shift_one-requires
+shift_one-requires t c = record { few = c.requires.few c.args.id c.requires.known (omega arith) }
 
 pub returns-then-parent-eq0 : goal.returns-then-parent-eq0
 returns-then-parent-eq0 t c = λ b depth m e named.
@@ -23,8 +27,15 @@ shift_up-requires t c = (
       (sym c.parent_in-parent.ensures) c.if-parent-eq0.false),
   (
     c.requires.kept,
-    parent-known c.args.id c.parent_in-parent.result (tree_in c.args.table.now c.args.roots.now) c.requires.kept.mirror c.requires.known
-        (sym c.parent_in-parent.ensures) c.if-parent-eq0.false,
+    (
+      parent-known c.args.id c.parent_in-parent.result (tree_in c.args.table.now c.args.roots.now) c.requires.kept.mirror c.requires.known
+          (sym c.parent_in-parent.ensures) c.if-parent-eq0.false,
+      room_before (tree_in c.args.table.now c.args.roots.now) c.args.id c.parent_in-parent.result c.args.more
+          (shifted c.args.more c.args.fewer) (map.get c.args.counts.now) (map.get c.shift_one.new.counts)
+          (parent-smaller c.args.id c.parent_in-parent.result (tree_in c.args.table.now c.args.roots.now) c.requires.kept.mirror
+          c.requires.known
+          (sym c.parent_in-parent.ensures) c.if-parent-eq0.false) c.in_ok-shift_one.ensures c.requires.few,
+    ),
   ),
 )
 

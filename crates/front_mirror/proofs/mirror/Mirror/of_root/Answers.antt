@@ -1,16 +1,24 @@
 -- The slots of the root and of all below it keep its tree.
-use Rattle.std.proofs.Common.{ℕ, List, [], ◌∷◌, ◌++◌, ap, ◌∙◌}
-use Rattle.node_tree.specs.Nodes.{Branch}
-use Rattle.dom_objects.specs.Told.{Told, seen_branch}
+use Rattle.std.proofs.Common.{ℕ, ◌<◌, List, [], ◌∷◌, ◌++◌, sym, ap, ◌∙◌, subst}
+use Rattle.node_tree.specs.Nodes.{Branch, alone, nodes_of, node_count}
+use Rattle.node_tree.specs.Numbers.{number_limit}
+use Rattle.dom_objects.specs.Told.{Told, seen_branch, seen_nodes}
 use Rattle.std.specs.FinMap as map
 use Rattle.node_tree.specs.Seen.{seen_id}
 use Rattle.front_mirror.specs.Shown.{shown_of}
 use Rattle.front_mirror.specs.Sizes.{noted}
 use Rattle.front_mirror.specs.Tables.{tree_in}
-use Rattle.front_mirror.proofs.EditCounts.{root_counted}
-use Rattle.front_mirror.proofs.ViewLemmas.{mirror_of_root}
+use Rattle.front_mirror.proofs.EditCounts.{root_counted, low_again}
+use Rattle.front_mirror.proofs.ViewLemmas.{mirror_of_root, low_of_root}
+use Rattle.front_mirror.proofs.FewLemmas.{few_of_root}
 use Rattle.front_mirror.proofs.EditTableLemmas.{root_kept}
 use Rattle.front_mirror.proofs.mirror.Mirror.of_root.Goals as goal
+
+pub note_all-requires : goal.note_all-requires
+note_all-requires c = record {
+  few = subst (λ (l : List (Branch Told)). node_count (nodes_of l) < number_limit) (sym c.from_ref.ensures.value)
+      (few_of_root c.args.root c.requires.clear c.requires.fits);
+}
 
 pub invariant_of-result : goal.invariant_of-result
 invariant_of-result c =
@@ -26,6 +34,8 @@ invariant_of-result c =
           (c.in_ok-note_all.ensures.notes
           ∙ ap (λ (l : List (Branch Told)). noted seen_id (shown_of l) (map.get c.new-counts.result)) c.from_ref.ensures.value)
           k.0 (mirror_of_root c.args.root c.requires.clear c.requires.fits).view.ids;
+      low = low_again (seen_nodes (alone c.args.root)) (tree_in c.plant.new.self c.push.new.self)
+          (low_of_root c.args.root c.requires.fits) k.0;
     }
 
 pub returns : goal.returns
