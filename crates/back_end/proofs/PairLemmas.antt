@@ -33,8 +33,8 @@ use Rattle.back_end.specs.Seats.{StandsFor, HasRoomLeft}
 use Rattle.back_end.specs.Guests.{GuestStands, Hears, CanHear, heard_step}
 use Rattle.back_end.specs.Pairs.{Pair, root_state, second_state, second_client, root_done, attached_done, sent_to, attached_frames}
 use Rattle.back_end.specs.Pairs.{answered_step, routed_step, pair_step, PairHasRoom}
-use Rattle.back_end.specs.PairSeats.{PairHasRoomLeft, SeatsStandFor, PairStandsFor, NewPairsStand, IsUnused, IsGuestAt, IsGuestOf, seat_again, WasTold, WasToldOf}
-use Rattle.back_end.specs.PairSeats.{IsRenewed}
+use Rattle.back_end.specs.PairSeats.{PairHasRoomLeft, SeatsStandFor, PairStandsFor, PairsHaveRoomLeft, NewPairsStand, IsUnused}
+use Rattle.back_end.specs.PairSeats.{IsGuestAt, IsGuestOf, seat_again, WasTold, WasToldOf, IsRenewed}
 use Rattle.back_end.specs.declared.guest.Guest.{Guest}
 use Rattle.back_end.specs.declared.mux.Mux.{Mux}
 use Rattle.back_end.specs.declared.seat.Seat.{Seat}
@@ -45,7 +45,7 @@ use Rattle.back_end.proofs.FrameLemmas.{asked-steps-well}
 use Rattle.back_end.proofs.OutsideSteps.{asked-outside}
 use Rattle.back_end.proofs.HeardLemmas.{outside-is-heard}
 use Rattle.back_end.proofs.StepLemmas.{turn-steps-well}
-use Rattle.back_end.proofs.SeatRoom.{room-of, seated-state}
+use Rattle.back_end.proofs.SeatRoom.{has-room-left, room-of, seated-state}
 use Rattle.back_end.proofs.StartLemmas.{stands-first}
 use Rattle.back_end.proofs.WatchedLemmas.{none-set}
 
@@ -203,6 +203,17 @@ pair-room mux side p stands left = record {
   number = subst (λ (s : Sessions). s.next < 2 ^ 50) stands.sessions_are left.2;
 }
 
+-- and the other way round
+pub pairs-have-room-left : PairsHaveRoomLeft
+pairs-have-room-left mux side p stands = (
+  λ left. pair-room mux side p stands left,
+  λ room. (
+    has-room-left mux.root side (root_state p) stands.root_stands room.root,
+    has-room-left mux.second side (second_state p) stands.second_stands room.second,
+    subst (λ (s : Sessions). s.next < 2 ^ 50) (sym stands.sessions_are) room.number,
+  ),
+)
+
 -- and the states are such that can be
 pub pair-states : (mux : Mux) (side : PageSide) (p : Pair) → PairStandsFor mux side p → IsState (root_state p) × IsState (second_state p)
 pair-states mux side p stands =
@@ -310,7 +321,8 @@ pub answered-stands : (p : Pair) (frame : List ℕ) (side : PageSide) (root seco
 answered-stands p frame side root second before after mux stands is same renewed router =
     let sessions = (routing frame p.sessions).sessions in
     let now : after ≡ sessions = is ∙ ap (λ (s : Sessions). (routing frame s).sessions) stands.sessions_are in
-    let new : IsRenewed sessions.attached second mux.second = subst (λ (s : Sessions). IsRenewed s.attached second mux.second) now renewed in
+    let new : IsRenewed sessions.attached second mux.second =
+    subst (λ (s : Sessions). IsRenewed s.attached second mux.second) now renewed in
     record {
       root_stands = subst (λ (s : Seat). StandsFor s side (root_state p)) (sym same) stands.root_stands;
       second_stands = renewed-stands sessions.attached root second mux side (root_state p) p.second new stands.root_stands
