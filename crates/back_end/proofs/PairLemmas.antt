@@ -133,12 +133,12 @@ guest-can-hear edits (Some session) seat side (Some g) few of stands room =
 -- ---- what it is told
 
 -- the frames of moves are those of their messages
-moves-are-messages : (ms : List Move) → frames_of_moves ms ≡ message_frames (map message_of ms)
+pub moves-are-messages : (ms : List Move) → frames_of_moves ms ≡ message_frames (map message_of ms)
 moves-are-messages [] = refl
 moves-are-messages (m ∷ ms) = ap (λ (rest : List ℕ). framed (move_text m) ++ rest) (moves-are-messages ms)
 
 -- the texts of moves have no zero byte
-all-texts : (ms : List Move) → AreTexts ms → All (λ m. IsText (message_text m)) (map message_of ms)
+pub all-texts : (ms : List Move) → AreTexts ms → All (λ m. IsText (message_text m)) (map message_of ms)
 all-texts [] texts = All-nil (λ m. IsText (message_text m))
 all-texts (m ∷ ms) texts =
     All-cons (λ n. IsText (message_text n)) (message_of m) (map message_of ms) texts.0 (all-texts ms texts.1)
