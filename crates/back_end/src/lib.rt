@@ -16,8 +16,10 @@
 mod breakpoints;
 mod desk;
 mod faults;
+mod guest;
 mod laws;
 mod load_scan;
+mod mux;
 mod node_edits;
 mod own;
 mod pauses;
@@ -35,7 +37,8 @@ mod trees;
 mod undoing;
 
 pub use faults::ActFault;
-pub use laws::{outside_law, search_law, start_law, step_law, undo_law};
+pub use laws::{outside_law, search_law, start_law, step_law, two_clients_law, undo_law};
+pub use mux::Mux;
 pub use page_forms::{Act, ActErr, PageForm, SheetForm, read_act, read_page};
 pub use page_tree::EditFault;
 pub use seat::Seat;
