@@ -55,8 +55,8 @@ returns-in_default-clause-told c = λ other stands.
     (ap (replace_fault c.args.text.now c.args.side.now.sheets.entries)
     (named-none c.args.sheet.now c.book.result.now c.args.side.now.sheets.entries (c.in_default.ensures {u = tt}).found c.book.ensures))
 
-pub returns-in-if-is_full_without-clause-told : goal.returns-in-if-is_full_without-clause-told
-returns-in-if-is_full_without-clause-told c = λ other stands.
+pub returns-then-is_full_without-clause-told : goal.returns-then-is_full_without-clause-told
+returns-then-is_full_without-clause-told c = λ other stands.
     let found = named-found c.args.sheet.now c.book.result.now c.args.side.now.sheets.entries c.in-Some.entry.now c.in-Some.ensures.found
     c.book.ensures in
     unacted-hears c.args.guest.now c.args.side.now other (act.ReplaceSheet c.args.sheet.now c.args.text.now) _ stands
