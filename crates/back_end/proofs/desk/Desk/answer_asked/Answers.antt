@@ -1,11 +1,9 @@
 -- What was asked is answered as the command that was read, or refused.
-use Rattle.std.proofs.Common.{◌≡◌, ◌++◌, Result, Ok, Err, true, sym, ap, subst, ◌∙◌, append-nil}
+use Rattle.std.proofs.Common.{◌≡◌, ◌++◌, Result, Ok, true, sym, subst}
 use Rattle.std.specs.Result.{OnOk}
 use Rattle.std.specs.Prelude.{IfOk}
 use Rattle.cdp_messages.specs.Asked.{fits_command}
 use Rattle.back_end.specs.Texts.{HasServedTexts}
-use Rattle.pipe_frames.specs.Frames.{framed}
-use Rattle.cdp_messages.specs.Replies.{refused_text}
 use Rattle.cdp_messages.specs.Answers.{ReadsAsked}
 use Rattle.cdp_messages.specs.declared.command.Asked.{Asked}
 use Rattle.cdp_messages.specs.declared.command.ReadErr.{ReadErr}
@@ -15,9 +13,6 @@ use Rattle.back_end.specs.Steps.{asked_step}
 use Rattle.back_end.specs.Seats.{BothStandFor}
 use Rattle.back_end.specs.Outside.{asked_outward}
 use Rattle.back_end.specs.Guests.{Hears, heard_step}
-use Rattle.back_end.proofs.SeatLemmas.{on_ok}
-use Rattle.back_end.proofs.ScriptLemmas.{in_any}
-use Rattle.back_end.proofs.GuestSteps.{unchanged-hears}
 use Rattle.back_end.proofs.desk.Desk.answer_asked.Goals as goal
 
 pub answer-requires-clause-command : goal.answer-requires-clause-command
@@ -48,27 +43,3 @@ returns-in-Ok-clause-told c = λ r state other reads both stands.
     subst (λ (x : Result Asked Refused). OnOk c.answer.result
     (Hears c.args.guest.now c.answer.new.guest c.answer.new.side (heard_step (asked_outward x state) other))) (sym is)
     (c.answer.ensures.told state other both stands)
-
-pub returns-in-Err-Refused-clause-stands : goal.returns-in-Err-Refused-clause-stands
-returns-in-Err-Refused-clause-stands c = λ r state reads both.
-    let is : r ≡ Err c.in-Err-Refused.refused = subst (λ (a : Result Asked ReadErr). ReadsAsked a r)
-    (c.in-Err-Refused.is ∙ ap (λ e. Err e) c.in-Err-Refused.field-0-is) reads in
-    in_any c.write_refused.result _
-    (subst (λ (x : Result Asked Refused). BothStandFor c.args.self.now c.args.history.now c.args.side.now (asked_step x state).state)
-    (sym is) both)
-
-pub returns-in-Err-Refused-clause-sent : goal.returns-in-Err-Refused-clause-sent
-returns-in-Err-Refused-clause-sent c = λ r state reads both.
-    let is : r ≡ Err c.in-Err-Refused.refused = subst (λ (a : Result Asked ReadErr). ReadsAsked a r)
-    (c.in-Err-Refused.is ∙ ap (λ e. Err e) c.in-Err-Refused.field-0-is) reads in
-    on_ok c.write_refused.result _ _ c.write_refused.ensures.ok
-    (λ sent. sent ∙ ap (λ bs. c.args.out.now.items ++ bs) (sym (append-nil (framed (refused_text c.in-Err-Refused.refused))))
-    ∙ ap (λ (x : Result Asked Refused). c.args.out.now.items ++ frames_of_moves (asked_step x state).moves) (sym is))
-
-pub returns-in-Err-Refused-clause-told : goal.returns-in-Err-Refused-clause-told
-returns-in-Err-Refused-clause-told c = λ r state other reads both stands.
-    let is : r ≡ Err c.in-Err-Refused.refused = subst (λ (a : Result Asked ReadErr). ReadsAsked a r)
-    (c.in-Err-Refused.is ∙ ap (λ e. Err e) c.in-Err-Refused.field-0-is) reads in
-    in_any c.write_refused.result _
-    (unchanged-hears c.args.guest.now c.args.self.now c.args.side.now state other (asked_outward r state) both.stands stands
-    (ap (λ (x : Result Asked Refused). asked_outward x state) is))
