@@ -143,8 +143,10 @@ impl Desk {
     {
         match asked {
             Ok(asked) => self.answer(history, side, guest, asked.id, asked.command, out),
-            Err(ReadErr::Refused(refused)) => write_refused(self.alloc, &refused, out),
-            Err(ReadErr::Memory) => Err(AllocError),
+            Err(fault) => match fault {
+                ReadErr::Refused(refused) => write_refused(self.alloc, &refused, out),
+                ReadErr::Memory => Err(AllocError),
+            },
         }
     }
 

@@ -49,26 +49,26 @@ returns-in-Ok-clause-told c = λ r state other reads both stands.
     (Hears c.args.guest.now c.answer.new.guest c.answer.new.side (heard_step (asked_outward x state) other))) (sym is)
     (c.answer.ensures.told state other both stands)
 
-pub returns-in-Err-Refused-clause-stands : goal.returns-in-Err-Refused-clause-stands
-returns-in-Err-Refused-clause-stands c = λ r state reads both.
-    let is : r ≡ Err c.in-Err-Refused.refused = subst (λ (a : Result Asked ReadErr). ReadsAsked a r)
-    (c.in-Err-Refused.is ∙ ap (λ e. Err e) c.in-Err-Refused.field-0-is) reads in
+pub returns-in-Refused-clause-stands : goal.returns-in-Refused-clause-stands
+returns-in-Refused-clause-stands c = λ r state reads both.
+    let is : r ≡ Err c.in-Refused.refused = subst (λ (a : Result Asked ReadErr). ReadsAsked a r)
+    (c.in-Err.is ∙ ap (λ e. Err e) c.in-Refused.is) reads in
     in_any c.write_refused.result _
     (subst (λ (x : Result Asked Refused). BothStandFor c.args.self.now c.args.history.now c.args.side.now (asked_step x state).state)
     (sym is) both)
 
-pub returns-in-Err-Refused-clause-sent : goal.returns-in-Err-Refused-clause-sent
-returns-in-Err-Refused-clause-sent c = λ r state reads both.
-    let is : r ≡ Err c.in-Err-Refused.refused = subst (λ (a : Result Asked ReadErr). ReadsAsked a r)
-    (c.in-Err-Refused.is ∙ ap (λ e. Err e) c.in-Err-Refused.field-0-is) reads in
+pub returns-in-Refused-clause-sent : goal.returns-in-Refused-clause-sent
+returns-in-Refused-clause-sent c = λ r state reads both.
+    let is : r ≡ Err c.in-Refused.refused = subst (λ (a : Result Asked ReadErr). ReadsAsked a r)
+    (c.in-Err.is ∙ ap (λ e. Err e) c.in-Refused.is) reads in
     on_ok c.write_refused.result _ _ c.write_refused.ensures.ok
-    (λ sent. sent ∙ ap (λ bs. c.args.out.now.items ++ bs) (sym (append-nil (framed (refused_text c.in-Err-Refused.refused))))
+    (λ sent. sent ∙ ap (λ bs. c.args.out.now.items ++ bs) (sym (append-nil (framed (refused_text c.in-Refused.refused))))
     ∙ ap (λ (x : Result Asked Refused). c.args.out.now.items ++ frames_of_moves (asked_step x state).moves) (sym is))
 
-pub returns-in-Err-Refused-clause-told : goal.returns-in-Err-Refused-clause-told
-returns-in-Err-Refused-clause-told c = λ r state other reads both stands.
-    let is : r ≡ Err c.in-Err-Refused.refused = subst (λ (a : Result Asked ReadErr). ReadsAsked a r)
-    (c.in-Err-Refused.is ∙ ap (λ e. Err e) c.in-Err-Refused.field-0-is) reads in
+pub returns-in-Refused-clause-told : goal.returns-in-Refused-clause-told
+returns-in-Refused-clause-told c = λ r state other reads both stands.
+    let is : r ≡ Err c.in-Refused.refused = subst (λ (a : Result Asked ReadErr). ReadsAsked a r)
+    (c.in-Err.is ∙ ap (λ e. Err e) c.in-Refused.is) reads in
     in_any c.write_refused.result _
     (unchanged-hears c.args.guest.now c.args.self.now c.args.side.now state other (asked_outward r state) both.stands stands
     (ap (λ (x : Result Asked Refused). asked_outward x state) is))
