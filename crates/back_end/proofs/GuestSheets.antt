@@ -1,12 +1,11 @@
 -- What a guest hears of changes of the page's sheets, by a script or another client.
-use Rattle.std.proofs.Common.{◌≡◌, ℕ, ◌+◌, ◌^◌, ◌<◌, Bool, true, false, cond, List, [], ◌∷◌, ◌++◌, map, Option, Some, None, Result, Ok, Err}
+use Rattle.std.proofs.Common.{◌≡◌, ℕ, ◌+◌, ◌^◌, ◌<◌, Bool, true, false, cond, List, [], ◌∷◌, ◌++◌, map, Option, Some, None, Ok, Err}
 use Rattle.std.proofs.Common.{refl, sym, ap, subst, ◌∙◌, append-nil, append_assoc, drop, length, get_or, zero, suc, arith}
 use Rattle.std.specs.Str.{IsUtf8}
 use Rattle.std.specs.Prelude.{IsSome, slice_get}
 use Rattle.std.proofs.lemmas.List.Concat.{flat_map-append}
 use Rattle.pipe_frames.specs.Frames.{framed}
 use Rattle.page_forms.specs.declared.acts.Act.{Act}
-use Rattle.page_forms.specs.declared.acts.Act.TheVariants as act
 use Rattle.sheet_reader.specs.declared.book.Origin.{Origin}
 use Rattle.sheet_reader.specs.declared.book.SheetEntry.{SheetEntry}
 use Rattle.sheet_reader.specs.Books.{entry_of, removed}
@@ -18,33 +17,30 @@ use Rattle.cdp_messages.specs.Events.{News, sheet_added, sheet_changed, sheet_re
 use Rattle.cdp_messages.specs.Replies.{message_frames}
 use Rattle.cdp_messages.specs.declared.css_edit.CssEdit.{CssEdit}
 use Rattle.cdp_messages.specs.declared.command.Command.TheVariants.{EditCss}
-use Rattle.css_agent.specs.Asks.{sheet_named}
-use Rattle.css_agent.specs.Edits.{CssDone, CssEdited, css_edited, css_splices, edit_splices, text_under}
+use Rattle.css_agent.specs.Edits.{CssEdited, css_edited, css_splices, edit_splices, text_under}
 use Rattle.css_agent.specs.EditLaws.{HasEditTexts, back_splices}
 use Rattle.css_agent.specs.Told.{told_header, event_messages}
 use Rattle.client_views.specs.Moves.{Move, move_text, rewritten, frames_of_moves}
-use Rattle.undo_marks.specs.Marks.{crossed_over}
-use Rattle.undo_marks.specs.declared.inverse_lists.Inverse.{Inverse}
 use Rattle.undo_marks.specs.declared.inverse_lists.Inverse.TheVariants.{Sheet}
 use Rattle.style_edits.specs.declared.faults.SheetFault.TheVariants.{TooBig}
 use Rattle.back_end.specs.declared.faults.ActFault.TheVariants.{Sheet as ActSheet}
 use Rattle.back_end.specs.declared.desk.Desk.{Desk}
 use Rattle.back_end.specs.declared.guest.Guest.{Guest}
 use Rattle.back_end.specs.declared.side.PageSide.{PageSide}
-use Rattle.back_end.specs.Sheets.{NumberedBook, SheetChange, leaves, comes}
+use Rattle.back_end.specs.Sheets.{SheetChange, leaves, comes}
 use Rattle.back_end.specs.States.{State, book_in}
-use Rattle.back_end.specs.Plans.{act_fault, act_plan, restyles, size_fault, drop_fault, dropping, replace_fault, replacing}
+use Rattle.back_end.specs.Plans.{act_fault, act_plan, restyles, size_fault}
 use Rattle.back_end.specs.Steps.{Step, idle, with_marks, with_crossed, crossing, sheet_step, splice_step, splice_steps, act_step}
-use Rattle.back_end.specs.Outside.{Outward, outside_all, crossing_by, made, unchanged, sheet_outward, command_outward}
+use Rattle.back_end.specs.Outside.{outside_all, sheet_outward, command_outward}
 use Rattle.back_end.specs.Seats.{DeskStandsFor, StandsFor}
-use Rattle.back_end.specs.Guests.{heard_one, heard_all, heard_step, GuestStands, Hears, IsTold, HearsSplices, sheet_news, splice_news}
+use Rattle.back_end.specs.Guests.{heard_all, heard_step, GuestStands, Hears, IsTold, HearsSplices, sheet_news, splice_news}
 use Rattle.back_end.specs.Guests.{changed_frames}
 use Rattle.back_end.proofs.SheetSeats.{dom-on, css-taken, told-frames, came-stands, came-sent, left-stands, left-sent}
 use Rattle.cascade_match.proofs.MatchLemmas.{drop-at}
-use Rattle.back_end.proofs.SpliceSeats.{Restyles, restyled-desk}
+use Rattle.back_end.proofs.SpliceSeats.{restyled-desk}
 use Rattle.back_end.proofs.HeardLemmas.{crossed-twice, heard-is}
-use Rattle.back_end.proofs.GuestSeats.{hears-nothing, hears-stands, hears-then, told-hears}
-use Rattle.back_end.proofs.GuestSteps.{hears-as, deed-hears, outward-is, made-hears, unchanged-hears}
+use Rattle.back_end.proofs.GuestSeats.{hears-then, told-hears}
+use Rattle.back_end.proofs.GuestSteps.{deed-hears, outward-is, made-hears, unchanged-hears}
 
 -- ---- one change
 

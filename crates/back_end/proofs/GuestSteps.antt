@@ -1,7 +1,7 @@
 -- What a guest hears of whole plans, acts and loads, and of a frame that leaves the page alone.
 use Rattle.std.proofs.Common.{◌≡◌, ℕ, ◌+◌, ◌^◌, ◌<◌, ◌&&◌, Bool, true, false, not, cond, List, [], ◌∷◌, ◌++◌, length, map as mapped, Option}
 use Rattle.std.proofs.Common.{Some, None}
-use Rattle.std.proofs.Common.{refl, sym, ap, subst, ◌∙◌, append-nil, append_assoc, arith, Result, Ok, Err}
+use Rattle.std.proofs.Common.{refl, sym, ap, subst, ◌∙◌, append_assoc, arith, Result, Ok, Err}
 use Rattle.std.specs.Result.{OnOk}
 use Rattle.std.specs.Prelude.{option_map}
 use Rattle.std.specs.FinMap as map
@@ -38,14 +38,14 @@ use Rattle.undo_marks.specs.declared.inverse_lists.Inverse.{Inverse}
 use Rattle.undo_marks.specs.declared.inverse_lists.Inverse.TheVariants.{Tree}
 use Rattle.back_end.specs.declared.faults.ActFault.{ActFault}
 use Rattle.back_end.specs.declared.node_edits.TreeWish.{TreeWish}
-use Rattle.back_end.specs.declared.node_edits.TreeWish.TheVariants.{MoveNode, CopyNode}
+use Rattle.back_end.specs.declared.node_edits.TreeWish.TheVariants.{MoveNode}
 use Rattle.back_end.specs.declared.desk.Desk.{Desk}
 use Rattle.back_end.specs.declared.guest.Guest.{Guest}
 use Rattle.back_end.specs.declared.side.PageSide.{PageSide}
 use Rattle.back_end.specs.States.{State, book_in}
-use Rattle.back_end.specs.Plans.{Plan, Deed, edits, one_edit, edit_fault, act_fault, act_plan, node_edit_fault, node_edit_plan}
+use Rattle.back_end.specs.Plans.{Deed, edits, one_edit, edit_fault, act_fault, act_plan, node_edit_fault, node_edit_plan}
 use Rattle.back_end.specs.Sheets.{as_book, numbered_sheets}
-use Rattle.back_end.specs.Steps.{Step, idle, followed_by, telling_first, with_page, crossing, deed_step, planned_step, act_step, lone_step}
+use Rattle.back_end.specs.Steps.{Step, idle, with_page, crossing, deed_step, planned_step, act_step, lone_step}
 use Rattle.back_end.specs.Steps.{on_medium, acts, loads, load_step, needs_on, needs_css, lowered, edit_named}
 use Rattle.back_end.specs.OwnMethods.{act_why, unless_why, load_asked, act_read, act_judged}
 use Rattle.back_end.specs.Outside.{Outward, made, unchanged, plan_outward, tree_outward, own_outward, served_outward, command_outward}

@@ -1,15 +1,13 @@
 -- What a guest hears of edits out of another client's history, one after the other.
-use Rattle.std.proofs.Common.{true, ◌≡◌, ℕ, ◌+◌, ◌*◌, ◌^◌, ◌<◌, ◌≤◌, List, [], ◌∷◌, ◌++◌, length, Option, Some, None, refl, sym, ap, subst}
+use Rattle.std.proofs.Common.{true, ◌≡◌, ℕ, ◌+◌, ◌*◌, ◌^◌, ◌<◌, List, [], ◌∷◌, ◌++◌, length, Option, Some, None, refl, sym, ap, subst}
 use Rattle.std.proofs.Common.{◌∙◌}
 use Rattle.std.proofs.Common.{append-nil, append_assoc, arith}
 use Rattle.std.proofs.Math.Logic.{∥∥₁_elim, ∥∥₁_map}
 use Rattle.std.proofs.Props.{props}
 use Rattle.node_tree.specs.Nodes.{none}
 use Rattle.page_forms.specs.Mediums.{usual_medium}
-use Rattle.node_binding.specs.Sessions.{Session}
 use Rattle.client_views.specs.Moves.{Move}
 use Rattle.style_edits.specs.declared.splice.Splice.{Splice}
-use Rattle.cdp_messages.specs.declared.command.Command.{Command}
 use Rattle.cdp_messages.specs.declared.command.Command.TheVariants.{Undo, Redo}
 use Rattle.undo_marks.specs.Marks.{Marks, handed_out}
 use Rattle.undo_marks.specs.Changes.{AllTaken}
@@ -22,7 +20,7 @@ use Rattle.back_end.specs.declared.side.PageSide.{PageSide}
 use Rattle.back_end.specs.States.{State, TakesWell, loaded_state}
 use Rattle.back_end.specs.Steps.{Step, telling_first}
 use Rattle.back_end.specs.Outside.{made, unchanged, taken_outward, command_outward}
-use Rattle.back_end.specs.Seats.{DeskStandsFor, BothStandFor, StandsFor}
+use Rattle.back_end.specs.Seats.{BothStandFor, StandsFor}
 use Rattle.back_end.specs.Guests.{heard_one, heard_all, GuestStands, Hears, CanHear}
 use Rattle.back_end.proofs.SheetSeats.{dom-on}
 use Rattle.back_end.proofs.HistoryLemmas.{undo-hands, redo-hands, undo-hands-none, redo-hands-none}

@@ -3,17 +3,16 @@ use Rattle.std.proofs.Common.{◌≡◌, ℕ, List, [], ◌∷◌, ◌++◌, map
 use Rattle.dom_breakpoints.specs.declared.pauses.Pause.{Pause}
 use Rattle.dom_breakpoints.specs.Pauses.{pause_of}
 use Rattle.page_tree.specs.declared.edits.TreeEdit.{TreeEdit}
-use Rattle.client_views.specs.Moves.{Move}
 use Rattle.undo_marks.specs.Marks.{Marks, crossed_over}
 use Rattle.undo_marks.specs.Changes.{HistoryEntry as Entry}
 use Rattle.undo_marks.specs.Saved.{Saved}
 use Rattle.undo_marks.specs.declared.inverse_lists.Inverse.{Inverse}
 use Rattle.undo_marks.specs.declared.inverse_lists.Inverse.TheVariants.{Tree, Sheet}
 use Rattle.back_end.specs.States.{State}
-use Rattle.back_end.specs.Steps.{Step, with_page, with_marks, push_step, push_steps, met_step, pause_step, edit_step, followed_by, idle}
-use Rattle.back_end.specs.Steps.{script_step, script_steps, crossing, with_crossed, turn_step}
-use Rattle.back_end.specs.Outside.{Outward, made, turned, outside_one, outside_all, crossing_by, outside_step}
-use Rattle.back_end.specs.Guests.{heard_one, heard_all, heard_step, OutsideIsHeard}
+use Rattle.back_end.specs.Steps.{Step, with_page, with_marks, push_step, push_steps, met_step, pause_step, edit_step, followed_by}
+use Rattle.back_end.specs.Steps.{script_step, script_steps, with_crossed}
+use Rattle.back_end.specs.Outside.{made, turned, outside_one, outside_all, crossing_by}
+use Rattle.back_end.specs.Guests.{heard_all, OutsideIsHeard}
 
 -- a history of saved pages
 abbrev History : Type 0

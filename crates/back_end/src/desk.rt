@@ -143,7 +143,7 @@ impl Desk {
     {
         match asked {
             Ok(asked) => self.answer(history, side, guest, asked.id, asked.command, out),
-            Err(error) => match error {
+            Err(fault) => match fault {
                 ReadErr::Refused(refused) => write_refused(self.alloc, &refused, out),
                 ReadErr::Memory => Err(AllocError),
             },

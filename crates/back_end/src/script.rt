@@ -282,18 +282,12 @@ impl Desk {
             Act::SetAttr { node, name, value } => {
                 self.edit(side, guest, TreeEdit::SetAttr { node, name, value }, out)
             }
-            Act::DropAttr { node, name } => self.edit(
-                side,
-                guest,
-                TreeEdit::DropAttr { node, name },
-                out,
-            ),
-            Act::SetText { node, value } => self.edit(
-                side,
-                guest,
-                TreeEdit::SetText { node, value },
-                out,
-            ),
+            Act::DropAttr { node, name } => {
+                self.edit(side, guest, TreeEdit::DropAttr { node, name }, out)
+            }
+            Act::SetText { node, value } => {
+                self.edit(side, guest, TreeEdit::SetText { node, value }, out)
+            }
             Act::Insert {
                 parent,
                 before,
@@ -305,13 +299,9 @@ impl Desk {
                 parent,
                 before,
             } => self.move_node(side, guest, node, parent, before, out),
-            Act::AddSheet { origin, text } => self.add_sheet(
-                side,
-                guest,
-                origin,
-                text.as_str(),
-                out,
-            ),
+            Act::AddSheet { origin, text } => {
+                self.add_sheet(side, guest, origin, text.as_str(), out)
+            }
             Act::DropSheet { sheet } => self.drop_sheet(side, guest, sheet.as_str(), out),
             Act::ReplaceSheet { sheet, text } => {
                 self.replace_sheet(side, guest, sheet.as_str(), text.as_str(), out)

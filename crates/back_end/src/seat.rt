@@ -32,7 +32,7 @@ use undo_marks::History;
 const LIMIT: u64 = 1 << 50;
 
 /// The least number of edits of a history that has no place for another step.
-const MOST_EDITS: u64 = 1 << 30;
+const MOST_EDITS: u128 = 1 << 30;
 
 /// A client's seat at the page's side. After want of memory it is dead: each later call that can answer want of memory does.
 #[derive(Drop)]

@@ -2,18 +2,11 @@
 //! `sheet` one of a sheet, and `mark`, `undo`, `redo`, `cross`, `clear` and `kept` are as the calls. Of a group that is undone
 //! or redone the names are told, as if each of its edits gave an edit of the same name.
 
-ghost use Rattle.std.specs.Prelude.{◌≡◌, ◌+◌, ◌<◌, length, true};
-ghost use Rattle.node_tree.specs.Numbers.{memory_limit};
-ghost use Rattle.undo_marks.specs.Marks.{entry_count};
-
 use crate::row_parts::Answer;
 use page_tree::{Text, TreeEdit};
 use std::alloc::{AllocError, Global};
 use style_edits::Splice;
 use undo_marks::{History, Inverse, Popped};
-
-/// A row keeps fewer edits than this; more are left out.
-const MOST_KEPT: u64 = 1 << 20;
 
 /// What comes of a row.
 pub(crate) fn told(alloc: Global, row: &str, answer: &mut Answer) -> Result<(), AllocError> {
@@ -40,7 +33,7 @@ fn take_step(
         "undo" => undo(history, answer)?,
         "redo" => redo(history, answer)?,
         "kept" => {
-            answer.push_number(history.kept());
+            answer.push_shown(&history.kept());
             answer.push(" ");
         }
         other => note_attribute(alloc, history, other)?,
@@ -48,32 +41,21 @@ fn take_step(
     Ok(())
 }
 
-/// Notes an edit.
-fn note(history: &mut History, edit: Inverse) -> Result<(), AllocError> {
-    if history.kept() >= MOST_KEPT {
-        return Ok(());
-    }
-    history.note(edit)
-}
-
 /// Notes an edit of the tree.
 fn note_attribute(alloc: Global, history: &mut History, step: &str) -> Result<(), AllocError> {
     let name = step.strip_prefix("note:").unwrap_or(step);
     let name = Text::copied(alloc, name)?;
-    note(history, Inverse::Tree(TreeEdit::DropAttr { node: 2, name }))
+    history.note(Inverse::Tree(TreeEdit::DropAttr { node: 2, name }))
 }
 
 /// Notes an edit of a sheet.
 fn note_sheet(alloc: Global, history: &mut History) -> Result<(), AllocError> {
-    note(
-        history,
-        Inverse::Sheet(Splice {
-            sheet: 1,
-            start: 0,
-            end: 0,
-            text: Text::empty(alloc),
-        }),
-    )
+    history.note(Inverse::Sheet(Splice {
+        sheet: 1,
+        start: 0,
+        end: 0,
+        text: Text::empty(alloc),
+    }))
 }
 
 /// What the edits change, in their order.
@@ -88,30 +70,23 @@ fn push_names(edits: &[Inverse], answer: &mut Answer) {
     answer.push(" ");
 }
 
-/// Whether a row may keep this group beside what it keeps.
-fn has_room(history: &History, edits: &[Inverse]) -> bool
-    ensures { result ≡ true → entry_count history.now.past + entry_count history.now.future + length edits.now < memory_limit }
-{
-    if history.kept() >= MOST_KEPT {
-        return false;
-    }
-    edits.len() < 1 << 20
-}
-
 /// Undoes, as if each edit of the group gave an edit of the same name.
 fn undo(history: &mut History, answer: &mut Answer) -> Result<(), AllocError> {
     match history.pop_undo() {
         Popped::Group(edits) => {
             let edits = edits.into_vec();
             push_names(&edits, answer);
-            if has_room(history, &edits) {
-                return history.push_undone(edits);
-            }
+            history.push_undone(edits)
         }
-        Popped::Nothing => answer.push("nothing "),
-        Popped::Crossed => answer.push("crossed "),
+        Popped::Nothing => {
+            answer.push("nothing ");
+            Ok(())
+        }
+        Popped::Crossed => {
+            answer.push("crossed ");
+            Ok(())
+        }
     }
-    Ok(())
 }
 
 /// Redoes in the same way.
@@ -120,12 +95,15 @@ fn redo(history: &mut History, answer: &mut Answer) -> Result<(), AllocError> {
         Popped::Group(edits) => {
             let edits = edits.into_vec();
             push_names(&edits, answer);
-            if has_room(history, &edits) {
-                return history.push_redone(edits);
-            }
+            history.push_redone(edits)
         }
-        Popped::Nothing => answer.push("nothing "),
-        Popped::Crossed => answer.push("crossed "),
+        Popped::Nothing => {
+            answer.push("nothing ");
+            Ok(())
+        }
+        Popped::Crossed => {
+            answer.push("crossed ");
+            Ok(())
+        }
     }
-    Ok(())
 }

@@ -17,6 +17,7 @@ use Rattle.cdp_messages.specs.Events.{attribute_modified, attribute_removed, tex
 use Rattle.cdp_messages.specs.Events.{document_updated, sheet_added, sheet_changed, sheet_removed, paused}
 use Rattle.cdp_messages.specs.declared.down.PauseData.TheVariants as pause
 use Rattle.cdp_messages.specs.Laws.{RepliesAreShallow, EventsAreShallow}
+use Rattle.node_tree.specs.Levels.{most_told, most_told_root}
 use Rattle.dom_objects.proofs.NodeDepths.{texts_depth, trees_depth, tree_depth}
 
 numbers_depth : (ns : List ℕ) → items_depth (items_of (map whole.spell ns)) ≤ 0
@@ -30,10 +31,10 @@ result_above d n p q = omega arith
 pub replies_are_shallow : RepliesAreShallow
 replies_are_shallow id Nothing h = omega arith
 replies_are_shallow id (Root b) h = shallow (depth (tree_data b)) (height (alone b)) (tree_depth b) h where
-  shallow : (d g : ℕ) → d ≤ 2 * g → g ≤ 61 → suc (max 0 (max (suc (max d 0)) 0)) ≤ 127
+  shallow : (d g : ℕ) → d ≤ 2 * g → g ≤ most_told_root → suc (max 0 (max (suc (max d 0)) 0)) ≤ 127
   shallow d g p q = omega arith
 replies_are_shallow id (Node b) h = shallow (depth (tree_data b)) (height (alone b)) (tree_depth b) h where
-  shallow : (d g : ℕ) → d ≤ 2 * g → g ≤ 61 → suc (max 0 (max (suc (max d 0)) 0)) ≤ 127
+  shallow : (d g : ℕ) → d ≤ 2 * g → g ≤ most_told_root → suc (max 0 (max (suc (max d 0)) 0)) ≤ 127
   shallow d g p q = omega arith
 replies_are_shallow id (NodeId n) h = omega arith
 replies_are_shallow id (NodeIds ns) h = shallow (items_depth (items_of (map whole.spell ns))) (numbers_depth ns) where
@@ -61,11 +62,11 @@ events_are_shallow (attribute_removed id m) h = omega arith
 events_are_shallow (text_modified id value) h = omega arith
 events_are_shallow (count_updated id count) h = omega arith
 events_are_shallow (inserted parent previous b) h = shallow (depth (tree_data b)) (height (alone b)) (tree_depth b) h where
-  shallow : (d g : ℕ) → d ≤ 2 * g → g ≤ 60 → suc (max 0 (max (suc (max d (max 0 (max 0 0)))) 0)) ≤ 127
+  shallow : (d g : ℕ) → d ≤ 2 * g → g ≤ most_told → suc (max 0 (max (suc (max d (max 0 (max 0 0)))) 0)) ≤ 127
   shallow d g p q = omega arith
 events_are_shallow (removed parent id) h = omega arith
 events_are_shallow (set_children parent nodes) h = shallow (items_depth (tree_items nodes)) (height nodes) (trees_depth nodes) h where
-  shallow : (d g : ℕ) → d ≤ 2 * g → g ≤ 60 → suc (max 0 (max (suc (max (suc d) (max 0 0))) 0)) ≤ 127
+  shallow : (d g : ℕ) → d ≤ 2 * g → g ≤ most_told → suc (max 0 (max (suc (max (suc d) (max 0 0))) 0)) ≤ 127
   shallow d g p q = omega arith
 events_are_shallow document_updated h = omega arith
 events_are_shallow (sheet_added header) h = shallow (depth (header_kind.spell header)) (header_sound.shallow header) where

@@ -11,14 +11,14 @@ use Rattle.cdp_messages.specs.Laws.{answers}
 use Rattle.client_views.specs.Moves.{IsPlainReply}
 use Rattle.sheet_reader.specs.declared.book.SheetEntry.{SheetEntry}
 use Rattle.sheet_reader.specs.Books.{IsStored}
-use Rattle.sheet_reader.specs.Preludes.{ends_return}
 use Rattle.style_edits.specs.declared.rule_places.RulePlace.{RulePlace}
 use Rattle.style_edits.specs.declared.splice.Splice.{Splice}
 use Rattle.style_edits.specs.Splices.{after_splice, back_splice, after_splices, TakesSplice}
 use Rattle.style_edits.specs.EditedRules.{edited_rule, edited_rules}
+use Rattle.style_edits.specs.MediaEdits.{edited_media}
 use Rattle.cdp_messages.specs.declared.css_edit.CssEdit.{CssEdit}
 use Rattle.cdp_messages.specs.declared.css_edit.CssEdit.TheVariants as edit
-use Rattle.css_agent.specs.Edits.{style_edit, found_at, told_at, CssDone, css_edited, css_splices}
+use Rattle.css_agent.specs.Edits.{style_edit, found_at, told_at, found_media, media_told, CssDone, css_edited, css_splices}
 
 -- ---- of the command
 
@@ -81,20 +81,30 @@ TellsStyles n (body.Matched matched) = ⊤
 abbrev pub IsRuleTold : List SheetEntry → RulePlace → Type 0
 IsRuleTold book p = found_at book p ≡ Some (told_at book p)
 
+-- what is told of the media rule that an edit made, of which this book is what it left and the splice the way back, is a media rule that
+-- stands in the book
+abbrev pub IsMediaTold : List SheetEntry → Splice → Type 0
+IsMediaTold book back = found_media book back.sheet (edited_media book back) ≡ Some (media_told book back)
+
 -- the style rule that a splice made is told as it stands in the book that the splice left
 abbrev pub TellsMade : List SheetEntry → Splice → Type 0
 TellsMade book s = IsRuleTold (after_splice s book) (edited_rule (after_splice s book) (back_splice s book))
 
--- What is told of style rules is so: of those whose bodies are edited, each as it stands after all of these edits; of one that is added;
--- and of one whose prelude is edited, where the new one does not end in a CR
+-- what is told of the media rule whose prelude a splice made is a media rule that stands in the book that the splice left
+abbrev pub TellsMedia : List SheetEntry → Splice → Type 0
+TellsMedia book s = IsMediaTold (after_splice s book) (back_splice s book)
+
+-- What is told of rules is so: of those whose bodies are edited, each as it stands after all of these edits; of one that is added; and of
+-- a style rule or a media rule whose prelude is edited
 abbrev pub TellsRules : List SheetEntry → CssEdit → CssDone → Type 0
 TellsRules book (edit.SetStyleTexts edits) d = All (IsRuleTold d.book) (edited_rules (map style_edit edits) book)
 TellsRules book (edit.SetRuleSelector sheet range selector) d =
-    ends_return selector ≡ false → All (TellsMade book) (css_splices book (edit.SetRuleSelector sheet range selector))
+    All (TellsMade book) (css_splices book (edit.SetRuleSelector sheet range selector))
 TellsRules book (edit.SetStyleSheetText sheet text) d = ⊤
 TellsRules book (edit.AddRule sheet rule_text location) d =
     All (TellsMade book) (css_splices book (edit.AddRule sheet rule_text location))
-TellsRules book (edit.SetMediaText sheet range text) d = ⊤
+TellsRules book (edit.SetMediaText sheet range text) d =
+    All (TellsMedia book) (css_splices book (edit.SetMediaText sheet range text))
 
 -- ---- of an edit
 

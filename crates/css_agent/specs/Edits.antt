@@ -76,7 +76,7 @@ found_media book sheet place = option_and_then (λ e. option_map (told_media e.i
 abbrev pub empty_media : ℕ → Media
 empty_media sheet = record { range = record { start_line = 0; start_column = 0; end_line = 0; end_column = 0 }; sheet = sheet; text = [] }
 
--- the media rule whose prelude an edit made, as it is told
+-- the media rule whose prelude an edit made, as it is told. That it is there is in `IsDone`.
 abbrev pub media_told : List SheetEntry → Splice → Media
 media_told book back = unwrap_or (found_media book back.sheet (edited_media book back)) (empty_media back.sheet)
 

@@ -6,8 +6,8 @@ ghost use Rattle.css_agent.specs.MediaAround.{EachIsAround};
 ghost use Rattle.css_agent.specs.EditLaws.{EditsAreDone};
 
 /// What a client's edit of sheets that has no fault comes to: splices that can be made one after the other, those that lead back,
-/// and a result of the edit's method, which tells of style rules that stand in the book: after edits of bodies, of a prelude (but for
-/// one that ends in a CR), and where a rule is added.
+/// and a result of the edit's method, which tells of style rules and media rules that stand in the book: after edits of bodies, of a
+/// prelude, and where a rule is added.
 pub fn edit_law()
     ensures done { EditsAreDone }
 {}

@@ -1,10 +1,11 @@
 -- The usual form of a page: `{"document":[NODE,..],"sheets":[{"origin":ORIGIN,"text":TEXT},..]}`, or the same with `"flat":[ROW,..]` in
 -- place of `document`, where `sheets` may be absent and no medium is told.
-use Rattle.std.specs.Prelude.{◌≡◌, List, [], ◌∷◌, true, codes}
+use Rattle.std.specs.Prelude.{◌≡◌, ◌+◌, List, [], ◌∷◌, true, codes}
 use Rattle.json.specs.Token.{Token, begin_array, key}
 use Rattle.cdp_json.specs.Kinds.{read_items}
 use Rattle.node_tree.specs.Nodes.{Nodes}
 use Rattle.node_tree.specs.Labels.{Label}
+use Rattle.node_tree.specs.Levels.{most_told}
 use Rattle.page_forms.specs.declared.sheets.SheetForm.{SheetForm}
 use Rattle.page_forms.specs.Sheets.{sheet_form}
 use Rattle.page_forms.specs.Pages.{LoadedPage, page_in}
@@ -26,7 +27,7 @@ sheets_field_form = record { name = codes "sheets"; list = sheets_form; absent =
 
 -- the nodes of a page, nested in one another
 abbrev pub document_form : ListForm (Nodes Label)
-document_form = nodes_form 60 true
+document_form = nodes_form most_told true
 
 -- the tokens up to some place are those of the first field of a page: its nodes at `document`, or their rows at `flat`
 pub data SpellsNodes (old : List Token) (n : Nodes Label) (new : List Token) : Type 0 where
@@ -35,6 +36,6 @@ pub data SpellsNodes (old : List Token) (n : Nodes Label) (new : List Token) : T
   in_rows : (from : List Token) → old ≡ key (codes "flat") ∷ (begin_array ∷ from) → SpellsItems flat_form from n new
       → SpellsNodes old n new
 
--- a page, which nests two levels more than its 60 levels of nodes
+-- a page, which nests two levels more than its levels of nodes, each of which nests two
 abbrev pub page_form : ValueForm LoadedPage
-page_form = record { levels = 122; reads = page_in }
+page_form = record { levels = most_told + most_told + 2; reads = page_in }

@@ -25,7 +25,7 @@ pub fn flat_law()
 /// The nodes of these rows, in document order, or their first fault: rows that are those of no nodes, or of more levels than a page may
 /// have. How many nodes they are, and how these are named, is left to `limit_fault`. The time is that of the rows, and nothing goes down
 /// the tree where a page may not be so deep.
-pub fn nest_rows(alloc: Global, rows: Vec<Row>) -> Result<Vec<NodeForm>, LoadErr>
+fn nest_rows(alloc: Global, rows: Vec<Row>) -> Result<Vec<NodeForm>, LoadErr>
     ensures { Nests result (flat_formed (map row_of rows.items)) }
 {
     let Some(levels) = flat_levels(alloc, &rows)? else {

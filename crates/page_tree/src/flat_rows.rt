@@ -15,9 +15,9 @@ use std::alloc::{AllocError, Global};
 
 /// A row of a flat page: the number of its parent's row, counted from 1, or 0 for the document; and the node without children.
 #[derive(Drop)]
-pub struct Row {
-    pub up: u64,
-    pub label: NodeLabel,
+pub(crate) struct Row {
+    pub(crate) up: u64,
+    pub(crate) label: NodeLabel,
 }
 
 fn up_at(v: &Value) -> Option<u64>

@@ -12,11 +12,11 @@ use std::marker::Model;
 
 /// A node of a load but for its children.
 #[derive(Drop)]
-pub struct NodeLabel {
-    pub kind: Kind,
-    pub name: Text,
-    pub value: Text,
-    pub attributes: Attributes,
+pub(crate) struct NodeLabel {
+    pub(crate) kind: Kind,
+    pub(crate) name: Text,
+    pub(crate) value: Text,
+    pub(crate) attributes: Attributes,
 }
 
 impl Model for NodeLabel {
@@ -81,7 +81,7 @@ pub(crate) fn attributes_at(alloc: Global, v: &Value) -> Result<Option<Attribute
 }
 
 /// The label of an element.
-pub fn element_of(
+pub(crate) fn element_of(
     alloc: Global,
     name: &str,
     attributes: Attributes,
@@ -109,7 +109,7 @@ fn element_label(alloc: Global, v: &Value) -> Result<Option<NodeLabel>, AllocErr
 }
 
 /// The label of a text or a comment.
-pub fn value_label(alloc: Global, kind: Kind, value: &str) -> Result<NodeLabel, AllocError>
+pub(crate) fn value_label(alloc: Global, kind: Kind, value: &str) -> Result<NodeLabel, AllocError>
     ensures { IfOk result (λ label. label ≡ labelled kind [] value.now []) }
 {
     Ok(NodeLabel {
@@ -121,7 +121,7 @@ pub fn value_label(alloc: Global, kind: Kind, value: &str) -> Result<NodeLabel, 
 }
 
 /// The label of a doctype.
-pub fn doctype_label(alloc: Global, name: &str) -> Result<NodeLabel, AllocError>
+pub(crate) fn doctype_label(alloc: Global, name: &str) -> Result<NodeLabel, AllocError>
     ensures { IfOk result (λ label. label ≡ labelled Doctype name.now [] []) }
 {
     Ok(NodeLabel {
@@ -133,7 +133,11 @@ pub fn doctype_label(alloc: Global, name: &str) -> Result<NodeLabel, AllocError>
 }
 
 /// The label of the node that a value spells, in any of the four forms; a doctype's only right below the document.
-pub fn read_label(alloc: Global, top: bool, v: &Value) -> Result<Option<NodeLabel>, AllocError>
+pub(crate) fn read_label(
+    alloc: Global,
+    top: bool,
+    v: &Value,
+) -> Result<Option<NodeLabel>, AllocError>
     ensures { IfOk result (λ label. label ≡ label_spelled top (view v.now)) }
 {
     if let Some(label) = element_label(alloc, v)? {

@@ -3,7 +3,7 @@
 //! Promise: a load is read exactly, or refused with its first fault by number; an edit gives the plain tree after it and answers
 //! the edit that leads back, or names its first fault and leaves the page as it was.
 //!
-//! Way in: `read_nodes`, `read_flat` (nodes as a flat list of rows, or `nest_rows` for rows at hand) and `Page::load`; the readers of
+//! Way in: `read_nodes`, `read_flat` (nodes as a flat list of rows) and `Page::load`; the readers of
 //! `Page` by serial; `Page::apply` with a `TreeEdit`; the cursors `Node` and `Children` for walks down, `NodeRef` for walks every way.
 //! `insert_fault`, `move_fault`, `copy_fault`, `grow` and `copy` for acts of several edits.
 //!
@@ -45,10 +45,8 @@ pub use edit_faults::{EditErr, EditFault};
 pub use edit_laws::{after_law, back_law, copy_law, insert_law, move_law};
 pub use edits::TreeEdit;
 pub use faults::{LoadErr, LoadFault};
-pub use flat::{flat_law, nest_rows, read_flat};
-pub use flat_rows::Row;
+pub use flat::{flat_law, read_flat};
 pub use forms::NodeForm;
-pub use labels::{NodeLabel, doctype_label, element_of, value_label};
 pub use limits::limit_fault;
 pub use loads::{read_node, read_nodes};
 pub use node_refs::NodeRef;

@@ -236,7 +236,7 @@ gap_of level after some place text _ (piece_and {ts = more} p front rest is len 
 -- ---- what is known of such a text before a `{`
 
 -- the codes of white space
-white_codes : (P : ℕ → Type 0) → P 32 → P 9 → P 10 → P 12 → P 13 → (c : ℕ) → is_white c ≡ true → P c
+pub white_codes : (P : ℕ → Type 0) → P 32 → P 9 → P 10 → P 12 → P 13 → (c : ℕ) → is_white c ≡ true → P c
 white_codes P space tab line feed back c e =
     by (c == 32) (c == 9) (c == 10) (c == 12) (c == 13) refl refl refl refl refl
   where
@@ -267,8 +267,9 @@ unquoted all rest (gap_mark first inner z _ k is top over solid own g) = absurd 
 pub facts_gap : (z rest : List ℕ) → Gap Inner z → Facts (z ++ 123 ∷ rest)
 facts_gap _ rest no_gap = facts_behind (123 ∷ rest) (at_stop 123 rest refl)
 facts_gap _ rest (gap_white c z w g) =
+    let f = facts_gap z rest g in
     white_codes (λ (d : ℕ). begins is_quote (drop (white_run (d ∷ (z ++ 123 ∷ rest))) (d ∷ (z ++ 123 ∷ rest))) ≡ false
-    → Facts (d ∷ (z ++ 123 ∷ rest))) (facts_space (z ++ 123 ∷ rest)) (facts_tab (z ++ 123 ∷ rest)) (facts_line (z ++ 123 ∷ rest))
+    → Facts (d ∷ (z ++ 123 ∷ rest))) (facts_space (z ++ 123 ∷ rest)) (facts_tab (z ++ 123 ∷ rest)) (facts_line (z ++ 123 ∷ rest) f.name f.round)
     (facts_feed (z ++ 123 ∷ rest)) (facts_return (z ++ 123 ∷ rest)) c w (unquoted (c ∷ z) rest (gap_white c z w g))
 facts_gap all rest (gap_comment inner z _ is own g) =
     subst (λ (t : List ℕ). Facts (t ++ 123 ∷ rest)) (sym is) (facts_comment ((inner ++ z) ++ 123 ∷ rest))

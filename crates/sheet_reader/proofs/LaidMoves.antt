@@ -5,7 +5,6 @@ use Rattle.std.proofs.Common.{Option, Some, None, refl, sym, ap, subst, ◌∙�
 use Rattle.std.specs.Prelude.{option_map, option_to_list}
 use Rattle.std.proofs.lemmas.Bool.Decides.{nat_tests}
 use Rattle.css_tokens.specs.declared.token.Token.{Token}
-use Rattle.css_tokens.specs.declared.token.TokenKind.TheVariants as tokens
 use Rattle.selectors.specs.Moves.{Cut, moved_place}
 use Rattle.sheet_reader.specs.declared.parts.Level.{Level}
 use Rattle.sheet_reader.specs.declared.parts.Level.TheVariants.{Inner}

@@ -59,3 +59,10 @@ pub mod PutPieces
 pub mod OldPreludes
 pub mod MadePreludes
 pub mod SpotStarts
+pub mod MediaSpots
+pub mod KeyNames
+pub mod OldMedia
+pub mod NewMedia
+pub mod LineEnds
+pub mod SealedSeams
+pub mod MediaStarts

@@ -32,14 +32,14 @@ use Rattle.sheet_reader.specs.declared.parts.Level.TheVariants.{Top, Inner}
 use Rattle.sheet_reader.specs.Brackets.{is_none_open, stops_at, until_in, until, nesting}
 use Rattle.sheet_reader.specs.Forms.{range, RuleForm}
 use Rattle.sheet_reader.specs.Moves.{replaced}
-use Rattle.sheet_reader.specs.Preludes.{ends_return, BeginsIn, HasPreludeIn}
+use Rattle.sheet_reader.specs.Preludes.{BeginsIn, HasPreludeIn}
 use Rattle.sheet_reader.specs.Grammar.{is_at_keyword, AreNested}
 use Rattle.sheet_reader.specs.Parts.{is_passed, parts}
 use Rattle.sheet_reader.specs.Layout.{level_of, laid_out}
 use Rattle.sheet_reader.specs.Sealing.{is_sealed}
 use Rattle.sheet_reader.specs.Sheets.{rules_in, sheet_of}
 use Rattle.sheet_reader.proofs.BracketLemmas.{go_on, stop_here}
-use Rattle.sheet_reader.proofs.Gaps.{AllPassed, Gap, gap_append, gap_anywhere, gap_whites, gap_of, skips, facts_gap, passed_top}
+use Rattle.sheet_reader.proofs.Gaps.{AllPassed, Gap, gap_append, gap_anywhere, gap_whites, gap_of, skips, passed_top}
 use Rattle.sheet_reader.proofs.MarkTexts.{Marked, mark_part, semi_piece, semi_first}
 use Rattle.sheet_reader.proofs.NestingForms.{closed_nested}
 use Rattle.sheet_reader.proofs.OldPreludes.{OldPrelude, old_prelude, same_front}
@@ -48,57 +48,64 @@ use Rattle.sheet_reader.proofs.PreludeWords.{first_word, range_some, trail_words
 use Rattle.sheet_reader.proofs.PutPieces.{WholeParts, whole_split, whole_on, ends_there, inner_solid, PutPieces, put_pieces}
 use Rattle.sheet_reader.proofs.Raised.{raised, raised_word}
 use Rattle.sheet_reader.proofs.ReadMoves.{AllTokens, words_same, words_in, nesting_raised}
-use Rattle.sheet_reader.proofs.SealedCuts.{open_first, open_piece, close_first, close_piece, equal_halves}
-use Rattle.sheet_reader.proofs.SpaceUnits.{Apart, apart_none}
+use Rattle.sheet_reader.proofs.SealedCuts.{open_first, open_piece, close_first, close_piece, equal_halves, split_at}
 use Rattle.sheet_reader.proofs.SpotEnds.{is_mark_kind, EndsMarked, Strip, bare, marked, strip}
 use Rattle.sheet_reader.proofs.SpotPaths.{spot_of}
 use Rattle.sheet_reader.proofs.Spots.{Spot, at_spot, Led, reads, nested_stays, led_lead}
 use Rattle.sheet_reader.proofs.SpotStarts.{StartsBy, all_by, whole_seam, spot_starts}
-use Rattle.sheet_reader.proofs.TextMoves.{pieces_moved, same_part, whole_tokens}
+use Rattle.sheet_reader.proofs.TextMoves.{pieces_moved, same_part, whole_tokens, widen}
 use Rattle.sheet_reader.proofs.WordMoves.{SamePart, list_same, range_same}
 
 -- ---- the place between parts, where the prelude begins
-record Placed (text : List ℕ) (front : List Token) : Type 0 where
-  a : Option ℕ
-  j : ℕ
-  rs : List RuleForm
-  own : List Token
-  lead : List Token
-  is : front ≡ own ++ lead
-  spot : Spot text None 0 a j rs own
-  passed : AllPassed (level_of a) lead
-  ends : (own ≡ []) ⊎ EndsMarked own
+pub record Placed (text : List ℕ) (front : List Token) : Type 0 where
+  pub a : Option ℕ
+  pub j : ℕ
+  pub rs : List RuleForm
+  pub own : List Token
+  pub lead : List Token
+  pub is : front ≡ own ++ lead
+  pub spot : Spot text None 0 a j rs own
+  pub passed : AllPassed (level_of a) lead
+  pub ends : (own ≡ []) ⊎ EndsMarked own
 
-placed_at : (text : List ℕ) (a : Option ℕ) (j : ℕ) (front : List Token) → Strip text None 0 a j front → Placed text front
-placed_at text a j front s = by s refl refl
+pub placed_with : (text : List ℕ) (a : Option ℕ) (j : ℕ) (front : List Token) → Strip text None 0 a j front
+    → (l : Placed text front) × (l.j ≡ j)
+placed_with text a j front s = by s refl refl
   where
-    by : {around b : Option ℕ} {k g : ℕ} → Strip text around k b g front → around ≡ None → k ≡ 0 → Placed text front
-    by {around = around} {k = k} (bare _ all) e f =
-        record {
-          a = around;
-          j = k;
-          rs = [];
-          own = [];
-          lead = front;
-          is = refl;
-          spot = subst (λ (x : Option ℕ). Spot text x 0 around k [] []) e
-              (subst (λ (n : ℕ). Spot text around n around k [] []) f at_spot);
-          passed = all;
-          ends = inl refl;
-        }
-    by {around = around} {b = b} {g = g} (marked _ own lead rs is ends spot all) e f =
-        record {
-          a = b;
-          j = g;
-          rs = rs;
-          own = own;
-          lead = lead;
-          is = is;
-          spot = subst (λ (x : Option ℕ). Spot text x 0 b g rs own) e
-              (subst (λ (n : ℕ). Spot text around n b g rs own) f spot);
-          passed = all;
-          ends = inr ends;
-        }
+    by : {around b : Option ℕ} {k g : ℕ} → Strip text around k b g front → around ≡ None → k ≡ 0 → (l : Placed text front) × (l.j ≡ g)
+    by {around = around} {k = k} (bare _ all) e f = (
+      record {
+        a = around;
+        j = k;
+        rs = [];
+        own = [];
+        lead = front;
+        is = refl;
+        spot = subst (λ (x : Option ℕ). Spot text x 0 around k [] []) e
+            (subst (λ (n : ℕ). Spot text around n around k [] []) f at_spot);
+        passed = all;
+        ends = inl refl;
+      },
+      refl,
+    )
+    by {around = around} {b = b} {g = g} (marked _ own lead rs is ends spot all) e f = (
+      record {
+        a = b;
+        j = g;
+        rs = rs;
+        own = own;
+        lead = lead;
+        is = is;
+        spot = subst (λ (x : Option ℕ). Spot text x 0 b g rs own) e
+            (subst (λ (n : ℕ). Spot text around n b g rs own) f spot);
+        passed = all;
+        ends = inr ends;
+      },
+      refl,
+    )
+
+pub placed_at : (text : List ℕ) (a : Option ℕ) (j : ℕ) (front : List Token) → Strip text None 0 a j front → Placed text front
+placed_at text a j front s = (placed_with text a j front s).0
 
 -- pieces up to a mark, or none, are whole before anything
 none_whole : (after other front : List ℕ) (own : List Token) → own ≡ [] → IsWholeBefore after 0 front own → IsWholeBefore other 0 front own
@@ -124,7 +131,7 @@ mark_whole text front after own is whole m other =
     by ts cuts tokens.Semicolon e h = mark_part 59 tokens.Semicolon refl semi_piece semi_first text m.before m.last ts cuts e
     by ts cuts _ e h = absurd (cc)
 
-ends_whole : (text front after : List ℕ) (own : List Token) → text ≡ front ++ after → IsWholeBefore after 0 front own
+pub ends_whole : (text front after : List ℕ) (own : List Token) → text ≡ front ++ after → IsWholeBefore after 0 front own
     → (own ≡ []) ⊎ EndsMarked own → (other : List ℕ) → IsWholeBefore other 0 front own
 ends_whole text front after own is whole (inl none) other = none_whole after other front own none whole
 ends_whole text front after own is whole (inr m) other = mark_whole text front after own is whole m other
@@ -167,13 +174,13 @@ new_ends : (f : ℕ → ℕ) (ts trail : List Token) (brace : Token) → brace.k
     → until stops.Block ((map (raised f) ts ++ trail) ++ brace ∷ rest) ≡ length (map (raised f) ts ++ trail)
 new_ends f ts trail brace curly passed ends rest =
     let whole = ap (until stops.Block) (append_assoc (map (raised f) ts) trail (brace ∷ rest)) in
-    let front = until_front f [] ts (trail ++ brace ∷ rest) in
+    let front = until_front stops.Block f [] ts (trail ++ brace ∷ rest) in
     let own = ends (trail ++ brace ∷ rest) in
     let on = passed_until Inner trail passed [] (brace ∷ rest) in
     let here = stop_here stops.Block [] brace rest (ap (stops_at stops.Block) curly) in
     omega (arith, whole, front, own, on, here, length-append (map (raised f) ts) trail, map_length (raised f) ts)
 
-curly_on : (bs : List Bracket) (brace : Token) (rest : List Token) → brace.kind ≡ tokens.OpenCurly
+pub curly_on : (bs : List Bracket) (brace : Token) (rest : List Token) → brace.kind ≡ tokens.OpenCurly
     → 1 ≤ until_in stops.BlockEnd bs (brace ∷ rest)
 curly_on bs brace rest curly =
     let on =
@@ -270,16 +277,24 @@ brace_pieces : (place : ℕ) (rest : List ℕ) → pieces_after place 0 (123 ∷
 brace_pieces place rest = piece_first (123 ∷ rest) place (piece tokens.OpenCurly 1) (open_piece rest) (omega arith) (omega arith)
 
 -- what stands behind the text put in
-record TailPieces (place : ℕ) (tail : List ℕ) : Type 0 where
-  trail : List Token
-  brace : Token
-  zs : List Token
-  is : pieces_after place 0 tail ≡ trail ++ brace ∷ zs
-  blank : AllPassed Inner trail
-  curly : brace.kind ≡ tokens.OpenCurly
-  far : place ≤ brace.end
+pub record TailPieces (place : ℕ) (gap rest : List ℕ) : Type 0 where
+  pub trail : List Token
+  pub brace : Token
+  pub zs : List Token
+  pub is : pieces_after place 0 (gap ++ 123 ∷ rest) ≡ trail ++ brace ∷ zs
+  pub blank : AllPassed Inner trail
+  pub curly : brace.kind ≡ tokens.OpenCurly
+  pub far : place + length gap < brace.end
+  pub left : AllTokens brace.end (brace.end + length rest) zs
 
-tail_pieces : (place : ℕ) (gap rest : List ℕ) → Gap Inner gap → TailPieces place (gap ++ 123 ∷ rest)
+-- the pieces of a text that stands at a place
+pieces_left : (place : ℕ) (text : List ℕ) → AllTokens place (place + length text) (pieces_after place 0 text)
+pieces_left place text =
+    let s = split_at (pieces_after place 0 text) [] place text (sym (append-nil (pieces_after place 0 text))) in
+    widen place (place + length s.front) place (place + length text) (pieces_after place 0 text) (omega arith)
+    (omega (arith, ap length s.is, length-append s.front s.after)) (whole_tokens s.after place s.front (pieces_after place 0 text) s.whole)
+
+pub tail_pieces : (place : ℕ) (gap rest : List ℕ) → Gap Inner gap → TailPieces place gap rest
 tail_pieces place gap rest g =
     let k = (skips Inner (123 ∷ rest) refl gap g place).start in
     record {
@@ -290,10 +305,11 @@ tail_pieces place gap rest g =
       blank = k.passed;
       curly = refl;
       far = omega arith;
+      left = pieces_left (place + length gap + 1) rest;
     }
 
 -- the text put in, and what stands behind it
-put_on : (put : List ℕ) (n : ℕ) (main behind : List ℕ) (m : ℕ) (ts : List Token) → IsWholeBefore behind m main ts
+pub put_on : (put : List ℕ) (n : ℕ) (main behind : List ℕ) (m : ℕ) (ts : List Token) → IsWholeBefore behind m main ts
     → pieces_after (n + m) 0 (main ++ behind) ≡ map (raised (λ x. n + x)) ts ++ pieces_after (n + (m + length main)) 0 behind
 put_on put n main behind m ts whole =
     pieces_moved n m 0 (main ++ behind)
@@ -301,10 +317,11 @@ put_on put n main behind m ts whole =
     ∙ map_append (raised (λ x. n + x)) ts (pieces_after (m + length main) 0 behind)
     ∙ ap (λ (l : List Token). map (raised (λ x. n + x)) ts ++ l) (sym (pieces_moved n (m + length main) 0 behind))
 
-new_pieces : (put gap rest : List ℕ) (ss : List SelectorForm) → Gap Inner gap → (p : PutPieces put (gap ++ 123 ∷ rest) ss) → (level : Level)
+new_pieces : (put gap rest : List ℕ) (ss : List SelectorForm) (size : ℕ) → Gap Inner gap → (p : PutPieces put (gap ++ 123 ∷ rest) ss size)
+    → (level : Level)
     → (front before : List ℕ) (own : List Token) → IsWholeBefore (before ++ (put ++ (gap ++ 123 ∷ rest))) 0 front own → Gap level before
     → NewPieces (front ++ (before ++ (put ++ (gap ++ 123 ∷ rest)))) level (length (front ++ before)) own p.first p.rest
-new_pieces put gap rest ss blank p level front before own whole g =
+new_pieces put gap rest ss size blank p level front before own whole g =
     let v = gap ++ 123 ∷ rest in
     let Y = p.main ++ (p.trail ++ v) in
     let n = length (front ++ before) in
@@ -350,7 +367,7 @@ pub record MadePrelude (text put : List ℕ) (old : Range) : Type 0 where
   pub body : old.start ≤ rule.body.start
   pub before : AllByRecursion (StartsBy old.start) rs
 
-front_same : (front x y : List ℕ) → SamePart (front ++ x) (front ++ y) (λ n. n) 0 (length front)
+pub front_same : (front x y : List ℕ) → SamePart (front ++ x) (front ++ y) (λ n. n) 0 (length front)
 front_same front x y =
     let both : SamePart ([] ++ (front ++ x)) ([] ++ (front ++ y)) (λ n. n) 0 (0 + length front) =
     same_part [] front x [] y (λ n. n) (λ n fits. refl) in
@@ -377,14 +394,14 @@ record MadeIn (text : List ℕ) (n size : ℕ) : Type 0 where
   before : AllByRecursion (StartsBy n) rs
 
 -- in the text taken apart
-made_in : (text : List ℕ) (r : RuleForm) (o : OldPrelude text r) (put : List ℕ) (ss : List SelectorForm)
-    → PutPieces put (o.gap ++ 123 ∷ o.rest) ss → IsUtf8 (o.front ++ (put ++ (o.gap ++ 123 ∷ o.rest)))
-    → MadeIn (o.front ++ (put ++ (o.gap ++ 123 ∷ o.rest))) (length o.front) (length put)
-made_in text r o put ss p utf8 =
+made_in : (text : List ℕ) (r : RuleForm) (o : OldPrelude text r) (put gap : List ℕ) (ss : List SelectorForm) (size : ℕ) → Gap Inner gap
+    → PutPieces put (gap ++ 123 ∷ o.rest) ss size → IsUtf8 (o.front ++ (put ++ (gap ++ 123 ∷ o.rest)))
+    → MadeIn (o.front ++ (put ++ (gap ++ 123 ∷ o.rest))) (length o.front) size
+made_in text r o put gap ss size blank p utf8 =
     let v = o.gap ++ 123 ∷ o.rest in
-    let new = o.front ++ (put ++ v) in
+    let new = o.front ++ (put ++ (gap ++ 123 ∷ o.rest)) in
     let n = length o.front in
-    let same = subst (λ (t : List ℕ). SamePart t new (λ x. x) 0 n) (sym o.is) (front_same o.front (o.prelude ++ v) (put ++ v)) in
+    let same = subst (λ (t : List ℕ). SamePart t new (λ x. x) 0 n) (sym o.is) (front_same o.front (o.prelude ++ v) (put ++ (gap ++ 123 ∷ o.rest))) in
     let all = subst (λ (m : ℕ). AllTokens 0 m o.before) (omega arith) (whole_tokens (o.prelude ++ v) 0 o.front o.before o.whole) in
     let s =
     spot_of text new n same r o.q None 0 (parts Top (pieces text)) (laid_out text None 0 (pieces text)) o.rs o.xs o.more o.path o.flat
@@ -398,21 +415,24 @@ made_in text r o put ss p utf8 =
     v : List ℕ
     v = o.gap ++ 123 ∷ o.rest
 
+    left : List ℕ
+    left = gap ++ 123 ∷ o.rest
+
     new : List ℕ
-    new = o.front ++ (put ++ v)
+    new = o.front ++ (put ++ left)
 
     by : {ts : List Token} → (l : Placed new ts) → WholeParts (o.prelude ++ v) 0 o.front l.own l.lead
-        → MadeIn new (length o.front) (length put)
+        → MadeIn new (length o.front) size
     by l w =
         let after = w.behind ++ (o.prelude ++ v) in
         let text_is : text ≡ w.front ++ after =
         o.is ∙ ap (λ (t : List ℕ). t ++ (o.prelude ++ v)) w.is ∙ append_assoc w.front w.behind (o.prelude ++ v) in
         let some : 0 < length (o.prelude ++ v) = omega (arith, length-append o.prelude v, length-append o.gap (123 ∷ o.rest)) in
-        let gap = gap_of (level_of l.a) (o.prelude ++ v) some (0 + length w.front) w.behind l.lead w.second l.passed in
-        let cut = new_pieces put o.gap o.rest ss o.blank p (level_of l.a) w.front w.behind l.own
-        (ends_whole text w.front after l.own text_is w.first l.ends (w.behind ++ (put ++ v))) gap in
-        let new_is : w.front ++ (w.behind ++ (put ++ v)) ≡ new =
-        sym (append_assoc w.front w.behind (put ++ v)) ∙ ap (λ (t : List ℕ). t ++ (put ++ v)) (sym w.is) in
+        let open_lead = gap_of (level_of l.a) (o.prelude ++ v) some (0 + length w.front) w.behind l.lead w.second l.passed in
+        let cut = new_pieces put gap o.rest ss size blank p (level_of l.a) w.front w.behind l.own
+        (ends_whole text w.front after l.own text_is w.first l.ends (w.behind ++ (put ++ left))) open_lead in
+        let new_is : w.front ++ (w.behind ++ (put ++ left)) ≡ new =
+        sym (append_assoc w.front w.behind (put ++ left)) ∙ ap (λ (t : List ℕ). t ++ (put ++ left)) (sym w.is) in
         let pieces_are = sym (ap pieces new_is) ∙ cut.is in
         put_in l w (w.first) (length (w.front ++ w.behind)) (sym (ap length w.is))
         (omega (arith, length-append w.front w.behind)) cut.lead cut.trail cut.brace cut.zs pieces_are cut.passed cut.blank
@@ -423,9 +443,9 @@ made_in text r o put ss p utf8 =
             → (lead trail : List Token) (brace : Token) (zs : List Token)
             → pieces new ≡ l.own ++ (lead ++ ((map (raised (λ x. n + x)) (p.first ∷ p.rest) ++ trail) ++ brace ∷ zs))
             → AllPassed (level_of l.a) lead → AllPassed Inner trail → brace.kind ≡ tokens.OpenCurly → n ≤ brace.end
-            → MadeIn new (length o.front) (length put)
+            → MadeIn new (length o.front) size
         put_in l w whole n at less lead trail brace zs pieces_are passed blank curly far =
-            let same = subst (λ (m : ℕ). SamePart put new (λ x. m + x) 0 (length put)) (sym at) (put_same o.front put v) in
+            let same = subst (λ (m : ℕ). SamePart put new (λ x. m + x) 0 (length put)) (sym at) (put_same o.front put left) in
             let q =
             new_prelude new put n p.first p.rest trail ss same p.inside (inner_solid Top p.first.kind p.solid.solid) blank p.words in
             let led = made_there new put n p.first p.rest lead trail brace l.a l.j l.rs l.own l.spot passed blank curly p.solid.solid
@@ -440,16 +460,16 @@ made_in text r o put ss p utf8 =
               more = led.more;
               is = ap (λ (ts : List Token). rules_in new (laid_out new None 0 ts)) pieces_are ∙ led.is;
               starts = omega (arith, start, at);
-              ends = omega (arith, start, at, p.inside.0.1, p.inside.0.2);
+              ends = omega (arith, start, at, p.starts);
               body = omega (arith, led.own.1, far, at);
               before = all_by tiles.seam (length o.front) (omega (arith, seam, less, at)) l.rs
                   (spot_starts new l.rs l.own l.spot 0 tiles.seam (IsCharBoundary-start new utf8) tiles.left);
             }
 
 pub made_prelude : (text put : List ℕ) (k : ℕ) (r : RuleForm) (ss : List SelectorForm) → slice_get (sheet_of text).rules k ≡ Some r
-    → is_sealed put ≡ true → selectors_of put ≡ Some ss → Apart put (drop r.prelude.end text)
+    → is_sealed put ≡ true → selectors_of put ≡ Some ss
     → IsUtf8 (take r.prelude.start text ++ (put ++ drop r.prelude.end text)) → MadePrelude text put r.prelude
-made_prelude text put k r ss e sealed found apart utf8 =
+made_prelude text put k r ss e sealed found utf8 =
     let o = old_prelude text k r e in
     let v = o.gap ++ 123 ∷ o.rest in
     let behind : drop r.prelude.end text ≡ v =
@@ -458,10 +478,10 @@ made_prelude text put k r ss e sealed found apart utf8 =
     ∙ drop-append_seam (o.front ++ o.prelude) v in
     let before : take r.prelude.start text ≡ o.front =
     ap (λ (n : ℕ). take n text) o.start ∙ ap (take (length o.front)) o.is ∙ take-append_seam o.front (o.prelude ++ v) in
-    let p = put_pieces put v ss sealed found (facts_gap o.gap o.rest o.blank) (subst (Apart put) behind apart) in
-    let new_is : take r.prelude.start text ++ (put ++ drop r.prelude.end text) ≡ o.front ++ (put ++ v) =
-    λ i. before i ++ (put ++ behind i) in
-    let m = made_in text r o put ss p (subst IsUtf8 new_is utf8) in
+    let p = put_pieces put o.gap o.rest ss sealed found o.blank in
+    let new_is : take r.prelude.start text ++ (put ++ drop r.prelude.end text) ≡ o.front ++ (p.text ++ (p.behind ++ 123 ∷ o.rest)) =
+    (λ i. before i ++ (put ++ behind i)) ∙ ap (λ (t : List ℕ). o.front ++ t) (sym p.same) in
+    let m = made_in text r o p.text p.behind p.ss (length put) p.blank p.cut (subst IsUtf8 new_is utf8) in
     record {
       rs = m.rs;
       rule = m.rule;
@@ -491,10 +511,10 @@ get_behind [] y ys = refl
 get_behind (x ∷ xs) y ys = get_behind xs y ys
 
 pub prelude_there : (text put : List ℕ) (k : ℕ) (r : RuleForm) (ss : List SelectorForm) → slice_get (sheet_of text).rules k ≡ Some r
-    → is_sealed put ≡ true → selectors_of put ≡ Some ss → ends_return put ≡ false → IsUtf8 (replaced text r.prelude put)
+    → is_sealed put ≡ true → selectors_of put ≡ Some ss → IsUtf8 (replaced text r.prelude put)
     → HasPreludeIn (range r.prelude.start (r.prelude.start + length put)) (sheet_of (replaced text r.prelude put)).rules
-prelude_there text put k r ss e sealed found plain utf8 =
-    let m = made_prelude text put k r ss e sealed found (apart_none (drop r.prelude.end text) put plain) utf8 in
+prelude_there text put k r ss e sealed found utf8 =
+    let m = made_prelude text put k r ss e sealed found utf8 in
     let count = ap (λ (rs : List RuleForm). prefix_len (λ (x : RuleForm). nat_lt x.body.start r.prelude.start) rs) m.is
     ∙ count_all r.prelude.start m.rs m.rule m.more m.before m.body in
     let there : slice_get (sheet_of (replaced text r.prelude put)).rules

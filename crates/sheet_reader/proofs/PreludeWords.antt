@@ -19,6 +19,7 @@ use Rattle.selectors.specs.Reading.{segments}
 use Rattle.selectors.specs.Reading.{selector_before, selectors_in, selector_list_of}
 use Rattle.sheet_reader.specs.declared.brackets.Bracket.{Bracket}
 use Rattle.sheet_reader.specs.declared.brackets.Nesting.TheVariants.{Stray}
+use Rattle.sheet_reader.specs.declared.brackets.Stop.{Stop}
 use Rattle.sheet_reader.specs.declared.brackets.Stop.TheVariants as stops
 use Rattle.sheet_reader.specs.declared.parts.Level.{Level}
 use Rattle.sheet_reader.specs.declared.parts.Level.TheVariants.{Top, Inner}
@@ -276,9 +277,9 @@ passed_nesting level (t ∷ lead) all bs ts =
     ∙ ap (λ (x : List Bracket). nesting_in x (lead ++ ts)) (open_same bs t.kind p.0 p.1)
     ∙ passed_nesting level lead all.1 bs ts
 
-pub until_front : (f : ℕ → ℕ) (bs : List Bracket) (xs ys : List Token)
-    → until_in stops.Block bs (map (raised f) xs ++ ys) ≡ until_in stops.Block bs (xs ++ ys)
+pub until_front : (stop : Stop) (f : ℕ → ℕ) (bs : List Bracket) (xs ys : List Token)
+    → until_in stop bs (map (raised f) xs ++ ys) ≡ until_in stop bs (xs ++ ys)
 unfolding until_in
-until_front f bs [] ys = refl
-until_front f bs (x ∷ xs) ys =
-    ap (λ (n : ℕ). cond (is_none_open bs && stops_at stops.Block x.kind) 0 (suc n)) (until_front f (open_after bs x.kind) xs ys)
+until_front stop f bs [] ys = refl
+until_front stop f bs (x ∷ xs) ys =
+    ap (λ (n : ℕ). cond (is_none_open bs && stops_at stop x.kind) 0 (suc n)) (until_front stop f (open_after bs x.kind) xs ys)

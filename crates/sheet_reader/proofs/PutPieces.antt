@@ -1,7 +1,8 @@
 -- The pieces of a sealed text that is a list of selectors, before white space, comments and a `{`.
-use Rattle.std.proofs.Common.{◌≡◌, ◌⊎◌, inl, inr, ℕ, ◌+◌, ◌-◌, ◌<◌, ◌≤◌, Bool, true, false, List, [], ◌∷◌, ◌++◌, length, drop, Option}
+use Rattle.std.proofs.Common.{◌≡◌, ◌⊎◌, inl, inr, ℕ, ◌+◌, ◌-◌, ◌<◌, ◌≤◌, Bool, true, false, List, [], ◌∷◌, ◌++◌, map, length, drop, Option}
 use Rattle.std.proofs.Common.{Some, None, refl, sym, ap, subst, ◌∙◌, append_assoc, append-nil, length-append, arith}
 use Rattle.std.specs.Prelude.{slice_get}
+use Rattle.std.specs.List.{AllByRecursion}
 use Rattle.css_tokens.specs.declared.token.Range.{Range}
 use Rattle.css_tokens.specs.declared.token.Token.{Token}
 use Rattle.css_tokens.specs.declared.token.TokenKind.{TokenKind}
@@ -31,10 +32,12 @@ use Rattle.sheet_reader.proofs.Gaps.{AllPassed, Gap, gap_of, passed_anywhere, wh
 use Rattle.sheet_reader.proofs.MovedLaw.{sealed_nesting, white_last, closed_is}
 use Rattle.sheet_reader.proofs.OpenForms.{passes}
 use Rattle.sheet_reader.proofs.PreludeWords.{lead_words, trail_words, first_word, list_flag, range_some, BeginsPrelude, begins_prelude}
-use Rattle.sheet_reader.proofs.PreludeWords.{passed_until, passed_nesting}
-use Rattle.sheet_reader.proofs.ReadMoves.{AllTokens}
+use Rattle.sheet_reader.proofs.PreludeWords.{passed_until, passed_nesting, until_front}
+use Rattle.sheet_reader.proofs.PartMoves.{map_length}
+use Rattle.sheet_reader.proofs.Raised.{raised}
+use Rattle.sheet_reader.proofs.ReadMoves.{AllTokens, nesting_raised}
 use Rattle.sheet_reader.proofs.SealedCuts.{SealedPieces, sealed_pieces, sealed_own, white_is, AllWhite}
-use Rattle.sheet_reader.proofs.SpaceUnits.{Facts, Apart}
+use Rattle.sheet_reader.proofs.SealedSeams.{CutBefore, IsListOf, cut_before}
 use Rattle.sheet_reader.proofs.TextMoves.{whole_tokens, widen}
 
 -- ---- whole pieces taken apart
@@ -218,6 +221,12 @@ words_end text main last r solid e =
     let l = last_word text false main last solid in
     range_last l.before (word_of text l.spaced last) r (sym (ap range_of l.is) ∙ e)
 
+pub words_end_by : (text : List ℕ) (spaced : Bool) (main : List Token) (last : Token) (r : Range) → is_passed Inner last.kind ≡ false
+    → range_of (words_after text spaced (main ++ last ∷ [])) ≡ Some r → r.end ≡ last.end
+words_end_by text spaced main last r solid e =
+    let l = last_word text spaced main last solid in
+    range_last l.before (word_of text l.spaced last) r (sym (ap range_of l.is) ∙ e)
+
 -- where the words of pieces start whose first one is a word
 pub words_start : (text : List ℕ) (first : Token) (ts : List Token) (r : Range) → is_passed Inner first.kind ≡ false
     → range_of (words_after text false (first ∷ ts)) ≡ Some r → r.start ≡ first.start
@@ -241,7 +250,7 @@ no_range text ts r all e = by (sym (ap range_of (passed_words text ts all)) ∙ 
     by h = cc
 
 -- ---- a sealed list of selectors before what stands behind it
-pub record PutPieces (put v : List ℕ) (ss : List SelectorForm) : Type 0 where
+pub record PutPieces (put v : List ℕ) (ss : List SelectorForm) (size : ℕ) : Type 0 where
   pub lead : List ℕ
   pub main : List ℕ
   pub trail : List ℕ
@@ -257,6 +266,7 @@ pub record PutPieces (put v : List ℕ) (ss : List SelectorForm) : Type 0 where
   pub ends : (ys : List Token) → until stops.Block ((first ∷ rest) ++ ys) ≡ length (first ∷ rest) + until stops.Block ys
   pub words : selector_list_of (word_reading put (words_after put false (first ∷ rest))) ≡ Some ss
   pub inside : AllTokens 0 (length put) (first ∷ rest)
+  pub starts : first.start < size
 
 -- the search for a block passes its pieces, but for white space at its end
 us_pass : (put : List ℕ) (ss : List SelectorForm) → selectors_of put ≡ Some ss → is_sealed put ≡ true → (s : SealedPieces put)
@@ -303,57 +313,96 @@ no_words_list put ss ts all e =
     by : ◌≡◌ {A = Option (List SelectorForm)} None (Some ss) → ⊥
     by h = cc
 
-pub put_pieces : (put v : List ℕ) (ss : List SelectorForm) → is_sealed put ≡ true → selectors_of put ≡ Some ss → Facts v → Apart put v
-    → PutPieces put v ss
-put_pieces put v ss sealed found facts apart = by (split_lead s.us)
+-- cut before what stands behind it, which may lose the LF that it begins with
+pub record PutSeam (put gap rest : List ℕ) : Type 0 where
+  pub text : List ℕ
+  pub behind : List ℕ
+  pub blank : Gap Inner behind
+  pub same : text ++ (behind ++ 123 ∷ rest) ≡ put ++ (gap ++ 123 ∷ rest)
+  pub ss : List SelectorForm
+  pub cut : PutPieces text (behind ++ 123 ∷ rest) ss (length put)
+
+pub at_place : (n : ℕ) (xs : List Token) (y : Token) (ys : List Token) → AllByRecursion (λ t. t.start < n) (xs ++ y ∷ ys) → y.start < n
+at_place n [] y ys all = all.0
+at_place n (x ∷ xs) y ys all = at_place n xs y ys all.1
+
+pub put_pieces : (put gap rest : List ℕ) (ss : List SelectorForm) → is_sealed put ≡ true → selectors_of put ≡ Some ss → Gap Inner gap
+    → PutSeam put gap rest
+put_pieces put gap rest ss sealed found blank = by (split_lead us)
   where
     s : SealedPieces put
     s = sealed_pieces put sealed
 
-    closed : nesting s.us ≡ Closed
-    closed = sym (white_last [] s.us s.white (white_is s.white.kind s.is_white)) ∙ closed_is (nesting (s.us ++ s.white ∷ [])) s.nested
+    c : CutBefore put gap rest s
+    c = cut_before put gap rest s blank
 
-    by : AllPassed Inner s.us ⊎ LeadSolid s.us → PutPieces put v ss
-    by (inl all) = absurd (no_words_list put ss s.us all (us_words put ss found s))
+    us : List Token
+    us = map (raised c.moved) s.us
+
+    own : IsListOf c.text us
+    own = c.list ss (us_words put ss found s)
+
+    all_closed : nesting s.us ≡ Closed
+    all_closed = sym (white_last [] s.us s.white (white_is s.white.kind s.is_white)) ∙ closed_is (nesting (s.us ++ s.white ∷ [])) s.nested
+
+    closed : nesting us ≡ Closed
+    closed = nesting_raised c.moved [] s.us ∙ all_closed
+
+    pass : (ys : List Token) → until stops.Block (us ++ ys) ≡ length us + until stops.Block ys
+    pass ys =
+        let same = until_front stops.Block c.moved [] s.us ys in
+        let on = us_pass put ss found sealed s all_closed ys in
+        omega (arith, same, on, map_length (raised c.moved) s.us)
+
+    by : AllPassed Inner us ⊎ LeadSolid us → PutSeam put gap rest
+    by (inl all) = absurd (no_words_list c.text own.ss us all own.is)
     by (inr l) =
+        let v = c.behind ++ 123 ∷ rest in
         let ts = l.first ∷ l.rest in
-        let w = whole_split (s.trail ++ v) 0 s.front l.lead ts
-        (subst (IsWholeBefore (s.trail ++ v) 0 s.front) l.is (s.before v facts apart)) in
-        let second : IsWholeBefore (s.trail ++ v) (length w.front) w.behind ts =
-        subst (λ (n : ℕ). IsWholeBefore (s.trail ++ v) n w.behind ts) (omega arith) w.second in
-        let b = solid_begin (s.trail ++ v) (length w.front) w.behind l.first l.rest second l.solid in
-        let parted : put ≡ w.front ++ (w.behind ++ s.trail) =
-        s.parted ∙ ap (λ (t : List ℕ). t ++ s.trail) w.is ∙ append_assoc w.front w.behind s.trail in
-        let moved = lead_words put false l.lead ts l.passed in
-        let list : selector_list_of (word_reading put (word_of put false l.first ∷ words_after put false l.rest)) ≡ Some ss =
-        list_flag put false moved.0 l.first (words_after put false l.rest)
-        ∙ sym (ap (λ (ws : List Word). selector_list_of (word_reading put ws))
-        (ap (words_after put false) l.is ∙ moved.1 ∙ first_word put moved.0 l.first l.rest l.solid)) ∙ us_words put ss found s in
+        let w = whole_split (c.trail ++ v) 0 c.front l.lead ts (subst (IsWholeBefore (c.trail ++ v) 0 c.front) l.is c.whole) in
+        let second : IsWholeBefore (c.trail ++ v) (length w.front) w.behind ts =
+        subst (λ (n : ℕ). IsWholeBefore (c.trail ++ v) n w.behind ts) (omega arith) w.second in
+        let b = solid_begin (c.trail ++ v) (length w.front) w.behind l.first l.rest second l.solid in
+        let parted : c.text ≡ w.front ++ (w.behind ++ c.trail) =
+        c.parted ∙ ap (λ (t : List ℕ). t ++ c.trail) w.is ∙ append_assoc w.front w.behind c.trail in
+        let moved = lead_words c.text false l.lead ts l.passed in
+        let list : selector_list_of (word_reading c.text (word_of c.text false l.first ∷ words_after c.text false l.rest)) ≡ Some own.ss =
+        list_flag c.text false moved.0 l.first (words_after c.text false l.rest)
+        ∙ sym (ap (λ (ws : List Word). selector_list_of (word_reading c.text ws))
+        (ap (words_after c.text false) l.is ∙ moved.1 ∙ first_word c.text moved.0 l.first l.rest l.solid)) ∙ own.is in
         let closed_rest : nesting ts ≡ Closed =
         sym (passed_nesting Inner l.lead l.passed [] ts) ∙ sym (ap nesting l.is) ∙ closed in
         record {
-          lead = w.front;
-          main = w.behind;
-          trail = s.trail;
-          parted = parted;
-          gap = gap_of Inner (w.behind ++ (s.trail ++ v)) (omega (arith, b.1, length-append w.behind (s.trail ++ v))) 0 w.front l.lead
-              w.first l.passed;
-          blank = s.blank;
-          first = l.first;
-          rest = l.rest;
-          solid = begins_prelude put l.first (words_after put false l.rest) ss l.solid list;
-          whole = second;
-          begin = b.0;
-          closed = closed_rest;
-          ends = λ ys.
-              let on = passed_until Inner l.lead l.passed [] (ts ++ ys) in
-              let all = us_pass put ss found sealed s closed ys in
-              let cut : until stops.Block (s.us ++ ys) ≡ until stops.Block (l.lead ++ (ts ++ ys)) =
-              ap (λ (xs : List Token). until stops.Block (xs ++ ys)) l.is ∙ ap (until stops.Block) (append_assoc l.lead ts ys) in
-              let size : length s.us ≡ length l.lead + length ts = ap (λ (xs : List Token). length xs) l.is ∙ length-append l.lead ts in
-              omega (arith, on, all, cut, size);
-          words = ap (λ (ws : List Word). selector_list_of (word_reading put ws)) (first_word put false l.first l.rest l.solid) ∙ list;
-          inside = widen (length w.front) (length w.front + length w.behind) 0 (length put) ts (omega arith)
-              (omega (arith, ap length parted, length-append w.front (w.behind ++ s.trail), length-append w.behind s.trail))
-              (whole_tokens (s.trail ++ v) (length w.front) w.behind ts second);
+          text = c.text;
+          behind = c.behind;
+          blank = c.blank;
+          same = c.same;
+          ss = own.ss;
+          cut = record {
+            lead = w.front;
+            main = w.behind;
+            trail = c.trail;
+            parted = parted;
+            gap = gap_of Inner (w.behind ++ (c.trail ++ v)) (omega (arith, b.1, length-append w.behind (c.trail ++ v))) 0 w.front l.lead
+                w.first l.passed;
+            blank = c.white;
+            first = l.first;
+            rest = l.rest;
+            solid = begins_prelude c.text l.first (words_after c.text false l.rest) own.ss l.solid list;
+            whole = second;
+            begin = b.0;
+            closed = closed_rest;
+            ends = λ ys.
+                let on = passed_until Inner l.lead l.passed [] (ts ++ ys) in
+                let all = pass ys in
+                let cut : until stops.Block (us ++ ys) ≡ until stops.Block (l.lead ++ (ts ++ ys)) =
+                ap (λ (xs : List Token). until stops.Block (xs ++ ys)) l.is ∙ ap (until stops.Block) (append_assoc l.lead ts ys) in
+                let size : length us ≡ length l.lead + length ts = ap (λ (xs : List Token). length xs) l.is ∙ length-append l.lead ts in
+                omega (arith, on, all, cut, size);
+            words = ap (λ (ws : List Word). selector_list_of (word_reading c.text ws)) (first_word c.text false l.first l.rest l.solid) ∙ list;
+            inside = widen (length w.front) (length w.front + length w.behind) 0 (length c.text) ts (omega arith)
+                (omega (arith, ap length parted, length-append w.front (w.behind ++ c.trail), length-append w.behind c.trail))
+                (whole_tokens (c.trail ++ v) (length w.front) w.behind ts second);
+            starts = at_place (length put) l.lead l.first l.rest (subst (AllByRecursion (λ t. t.start < length put)) l.is c.early);
+          };
         }

@@ -1,5 +1,5 @@
 -- Pieces, parts and items whose places are moved.
-use Rattle.std.specs.Prelude.{ℕ, ◌+◌, List, [], ◌∷◌, ◌++◌, map, option_map}
+use Rattle.std.specs.Prelude.{ℕ, List, [], ◌∷◌, ◌++◌, map, option_map}
 use Rattle.css_tokens.specs.declared.token.Token.{Token}
 use Rattle.selectors.specs.declared.words.Word.{Word}
 use Rattle.sheet_reader.specs.Parts.{EndingForm, text_end, semicolon, block, PartForm, passed, at_rule, qualified, part_pieces}

@@ -110,11 +110,11 @@ found_past text r around k p ps ls j n i none size sum f = record {
 }
 
 -- an element of two lists, one behind the other, is in the first or in the second
-data Side {X : Type 0} (xs ys : List X) (j : ℕ) (x : X) : Type 0 where
+pub data Side {X : Type 0} (xs ys : List X) (j : ℕ) (x : X) : Type 0 where
   on_left : slice_get xs j ≡ Some x → Side xs ys j x
   on_right : (i : ℕ) → length xs + i ≡ j → slice_get ys i ≡ Some x → Side xs ys j x
 
-side : {X : Type 0} (xs ys : List X) (j : ℕ) (x : X) → slice_get (xs ++ ys) j ≡ Some x → Side xs ys j x
+pub side : {X : Type 0} (xs ys : List X) (j : ℕ) (x : X) → slice_get (xs ++ ys) j ≡ Some x → Side xs ys j x
 side [] ys j x e = on_right j (omega arith) e
 side (a ∷ xs) ys zero x e = on_left e
 side (a ∷ xs) ys (suc j) x e = further (side xs ys j x e)

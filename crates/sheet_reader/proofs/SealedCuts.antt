@@ -34,8 +34,7 @@ use Rattle.sheet_reader.specs.Sealing.{is_white_kind, is_close_kind, is_closed_n
 use Rattle.sheet_reader.specs.Sealing.{is_sealed}
 use Rattle.sheet_reader.specs.Brackets.{nesting}
 use Rattle.sheet_reader.proofs.Behind.{spaced, IsBehind, at_end, at_stop, Piece}
-use Rattle.sheet_reader.specs.Preludes.{ends_return}
-use Rattle.sheet_reader.proofs.SpaceUnits.{Facts, facts_behind, Apart, apart_behind, apart_behind_front}
+use Rattle.sheet_reader.proofs.SpaceUnits.{ends_return, both, Facts, facts_behind, Apart, apart_behind, apart_behind_front}
 use Rattle.sheet_reader.proofs.SpaceNames.{piece_kept}
 
 -- ---- the first piece of a text with pieces
@@ -146,10 +145,6 @@ last_split p ts e = by (snoc_of ts) e
           passes = sym (ap (kind_passes p) last) ∙ e;
           but_last = ap (λ (n : ℕ). take n (front ++ t ∷ [])) size ∙ take-append_seam front (t ∷ []);
         }
-
-both : (a b : Bool) → (a && b) ≡ true → (a ≡ true) × (b ≡ true)
-both true b e = (refl, e)
-both false b e = cc
 
 -- the pieces of a sealed text with the space and `}` behind it
 record SealedEnd (ts : List Token) : Type 0 where
@@ -345,7 +340,7 @@ pub record SealedPieces (t : List ℕ) : Type 0 where
   pub trail : List ℕ
   pub parted : t ≡ front ++ trail
   pub blank : AllWhite trail
-  pub before : (v : List ℕ) → Facts v → Apart t v → IsWholeBefore (trail ++ v) 0 front us
+  pub spaces : IsWholeBefore (trail ++ spaced) 0 front us
 
 pub one_more : (after g : List ℕ) (p : Piece) (place : ℕ) (f : List ℕ) (us : List Token)
     → IsWholeBefore (g ++ after) place f us → p.len ≡ length g → first_piece (g ++ after) ≡ Some p
@@ -390,7 +385,7 @@ sealed_pieces t e =
       trail = [];
       parted = is;
       blank = refl;
-      before = λ v k m. whole_kept v k [] 0 f us (subst (λ (x : List ℕ). Apart x v) is m) whole;
+      spaces = whole;
     }
     by (a ∷ g) us f p is w white nested kind whole found len = record {
       us = us;
@@ -407,7 +402,7 @@ sealed_pieces t e =
       trail = a ∷ g;
       parted = is;
       blank = trail_white a g p kind len found;
-      before = λ v k m. whole_kept v k (a ∷ g) 0 f us (subst (λ (x : List ℕ). Apart x v) is m) whole;
+      spaces = whole;
     }
 
 -- alone it has just these pieces

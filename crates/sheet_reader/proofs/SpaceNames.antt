@@ -1,7 +1,8 @@
 -- Names and urls before a space and `}`; with them, the first piece whose row takes.
 use Rattle.std.proofs.Common.{◌≡◌, ◌⊎◌, inl, inr, ℕ, zero, suc, ◌+◌, ◌-◌, ◌<◌, ◌≤◌, ◌==◌, Bool, true, false, cond, ◌&&◌, not}
 use Rattle.std.proofs.Common.{List, [], ◌∷◌, ◌++◌, length, drop, take, min, Option, Some, None, refl, ap, sym, ◌∙◌, subst}
-use Rattle.std.proofs.Common.{arith}
+use Rattle.std.proofs.Common.{length-append, arith}
+use Rattle.std.proofs.Math.Seq.{drop-append_seam}
 use Rattle.std.proofs.lemmas.List.{drop-append-le, take-append-le, length-drop, drop-drop}
 use Rattle.css_tokens.specs.declared.token.TokenKind.TheVariants.{Ident, Function, Url, BadUrl}
 use Rattle.css_tokens.specs.Codes.{begins, is_white, is_quote}
@@ -10,13 +11,14 @@ use Rattle.css_tokens.specs.Rows.{◌or◌, when, piece, open_url_len, is_url, o
 use Rattle.css_tokens.specs.Rows.{closes_url, first_piece, comment, white_space, string, bad_string, hash, numeric, cdc, url, bad_url}
 use Rattle.css_tokens.specs.Rows.{ident, cdo, at_keyword, mark}
 use Rattle.css_tokens.proofs.Ends.{run_stops}
-use Rattle.sheet_reader.proofs.Behind.{spaced, Piece, IsBehind}
-use Rattle.sheet_reader.proofs.SpaceUnits.{Facts, facts_behind, Short, short_add, short_cond, short_else, begins_at}
-use Rattle.sheet_reader.proofs.SpaceUnits.{StartsSame, starts_at, escape_at, bad_url_at, run_at, Apart, apart_tail, apart_drop}
-use Rattle.sheet_reader.proofs.SpaceUnits.{apart_behind}
-use Rattle.sheet_reader.proofs.SpaceRows.{Keeps, keeps_none, keeps_same, keeps_long, or_keeps, same_keeps, short_keeps, less, closed_short}
+use Rattle.sheet_reader.proofs.Behind.{spaced, Piece}
+use Rattle.sheet_reader.proofs.SpaceUnits.{Facts, Short, Near, near_same, near_past, near_more, near_wide, near_add}
+use Rattle.sheet_reader.proofs.SpaceUnits.{near_cond, near_else, begins_at, StartsSame, starts_at, escape_at, bad_url_at, run_at, run_least}
+use Rattle.sheet_reader.proofs.SpaceUnits.{over_seam, seam_line, seam_drop, Apart}
+use Rattle.sheet_reader.proofs.SpaceRows.{Keeps, keeps_none, keeps_same, keeps_long, keeps_more, or_keeps, same_keeps, short_keeps, less}
+use Rattle.sheet_reader.proofs.SpaceRows.{closed_near}
 use Rattle.sheet_reader.proofs.SpaceRows.{longer, as_long}
-use Rattle.sheet_reader.proofs.SpaceRows.{comment_keeps, white_short, white_keeps, strings_keeps, name_short, hash_keeps, at_keeps}
+use Rattle.sheet_reader.proofs.SpaceRows.{comment_keeps, white_short, white_keeps, strings_keeps, name_near, ends_in_name, hash_keeps, at_keeps}
 use Rattle.sheet_reader.proofs.SpaceRows.{numeric_keeps, cdc_keeps, cdo_keeps, mark_keeps}
 
 -- what begins with a name: urls, bad urls, functions and idents, together
@@ -33,8 +35,8 @@ names_far size n o r all true false round a b d = (piece BadUrl (min (o + r + 1)
 names_far size n o r all false close true a b d = (piece Function (n + 1), refl, omega arith)
 names_far size n o r all false close false a b d = (piece Ident n, refl, a)
 
-long_keeps : (size : ℕ) (a b : Option Piece) → ((p : Piece) × (a ≡ Some p) × (size < p.len)) → Keeps size a b
-long_keeps size a b h = subst (λ (x : Option Piece). Keeps size x b) (sym h.1) (keeps_long h.0 b h.2)
+long_keeps : {s : Bool} (size : ℕ) (a b : Option Piece) → ((p : Piece) × (a ≡ Some p) × (size < p.len)) → Keeps s size a b
+long_keeps {s = s} size a b h = subst (λ (x : Option Piece). Keeps s size x b) (sym h.1) (keeps_long h.0 b h.2)
 
 -- past the open url everything is long
 urls_far : (size n o r all : ℕ) (close starts round : Bool) → size < o → size < all
@@ -43,27 +45,23 @@ unfolding names
 urls_far size n o r all true starts round a d = (piece Url (min (o + 1) all), refl, omega arith)
 urls_far size n o r all false starts round a d = (piece BadUrl (min (o + r + 1) all), refl, omega arith)
 
-urls_near : (size n o r r' all all' : ℕ) (close starts round : Bool) → size < all → size ≤ all' → (close ≡ true → o + 1 ≤ size)
-    → Short size (o + r) (o + r') → (close ≡ false → o + r ≤ size → o + r + 1 ≤ size) →
-    Keeps size (names true close starts round n o r all) (names true close starts round n o r' all')
+urls_near : {s : Bool} (size n o r r' all all' : ℕ) (close starts round : Bool) → size < all → size ≤ all' → (close ≡ true → o + 1 ≤ size)
+    → Near s size (o + r) (o + r') → (close ≡ false → o + r ≤ size → o + r + 1 ≤ size) →
+    Keeps s size (names true close starts round n o r all) (names true close starts round n o r' all')
 unfolding names
 urls_near size n o r r' all all' true starts round a b fits near more = let here = fits refl in same_keeps size _ _
     (ap (λ (k : ℕ). Some (piece Url k)) (omega (arith, here)))
 urls_near size n o r r' all all' false starts round a b fits near more = short_keeps size true BadUrl _ _
-    (closed_short size 1 (o + r) (o + r') all all' a b near (more refl))
+    (closed_near size (o + r) (o + r') all all' a b near (more refl))
 
 -- a url's characters end before the space, where white space follows: the same, or up to n at least
 abbrev Brief : ℕ → ℕ → ℕ → Type 0
 Brief n a b = (a ≡ b) ⊎ (n ≤ a)
 
-brief : (n a b : ℕ) → Short n a b → Brief n a b
-brief n a b (inl same) = inl same
-brief n a b (inr far) = inr (omega (arith, far))
-
 -- the length of the url unit before the space is that before what stands behind, unless it is past the text
-url_more : (v : List ℕ) → Facts v → (a : ℕ) (x : List ℕ) → Apart (a ∷ x) v
-    → Short (length (a ∷ x)) (url_unit (a ∷ (x ++ spaced))) (url_unit (a ∷ (x ++ v)))
-url_more v f a x m = short_else (ends_url a) (length (a ∷ x)) _ _ 0 (short_cond (a == 92) (length (a ∷ x)) _ _ 1 (escape_at v f (a ∷ x) m))
+url_more : (v : List ℕ) → Facts v → (a : ℕ) (x : List ℕ)
+    → Near (over_seam (a ∷ x) v) (length (a ∷ x)) (url_unit (a ∷ (x ++ spaced))) (url_unit (a ∷ (x ++ v)))
+url_more v f a x = near_else (ends_url a) (length (a ∷ x)) _ _ 0 (near_cond (a == 92) (length (a ∷ x)) _ _ 1 (escape_at v f (a ∷ x)))
 
 run_far : (unit : List ℕ → ℕ) (x : List ℕ) (k : ℕ) → length x < k → length x < run_after unit k (x ++ spaced)
 unfolding run_after
@@ -84,28 +82,33 @@ far_then : (n u : ℕ) (f : ℕ → ℕ) → suc n < u → ((k : ℕ) → n < k 
 far_then n zero f far h = absurd (omega (arith, far))
 far_then n (suc k) f far h = let more = h k (omega (arith, far)) in omega (arith, more)
 
-brief_at : (n u u' : ℕ) (f g : ℕ → ℕ) → Short (suc n) u u' → ((k : ℕ) → Brief n (f k) (g k)) → ((k : ℕ) → n < k → n < f k)
-    → Brief (suc n) (unit_then u f) (unit_then u' g)
-brief_at n u u' f g (inl same) h far = subst (λ (w : ℕ). Brief (suc n) (unit_then u f) (unit_then w g)) same (brief_then n u f g h)
-brief_at n u u' f g (inr long) h far = inr (far_then n u f long far)
+full_then : (n u : ℕ) (f : ℕ → ℕ) → u ≡ suc n → n ≤ f n → suc n ≤ unit_then u f
+full_then n u f e fits = subst (λ (w : ℕ). suc n ≤ unit_then w f) (sym e) (omega (arith, fits))
 
-url_run : (v : List ℕ) → Facts v → (skip : ℕ) (x : List ℕ) → Apart x v
+brief_at : {s : Bool} (n u u' : ℕ) (f g : ℕ → ℕ) → Near s (suc n) u u' → ((k : ℕ) → Brief n (f k) (g k)) → ((k : ℕ) → n < k → n < f k)
+    → n ≤ f n → Brief (suc n) (unit_then u f) (unit_then u' g)
+brief_at n u u' f g (near_same same) h far full =
+    subst (λ (w : ℕ). Brief (suc n) (unit_then u f) (unit_then w g)) same (brief_then n u f g h)
+brief_at n u u' f g (near_past long) h far full = inr (far_then n u f long far)
+brief_at n u u' f g (near_more m e k) h far full = inr (full_then n u f e full)
+
+url_run : (v : List ℕ) → Facts v → (skip : ℕ) (x : List ℕ)
     → Brief (length x) (run_after url_unit skip (x ++ spaced)) (run_after url_unit skip (x ++ v))
 unfolding run_after
-url_run v f skip [] m = inr (omega arith)
-url_run v f (suc skip) (a ∷ x) m = brief_suc (length x) _ _ (url_run v f skip x (apart_tail v a x m))
-url_run v f zero (a ∷ x) m = brief_at (length x) (url_unit (a ∷ (x ++ spaced))) (url_unit (a ∷ (x ++ v)))
-    (λ k. run_after url_unit k (x ++ spaced)) (λ k. run_after url_unit k (x ++ v)) (url_more v f a x m)
-    (λ k. url_run v f k x (apart_tail v a x m))
-    (λ k e. run_far url_unit x k e)
+url_run v f skip [] = inr (omega arith)
+url_run v f (suc skip) (a ∷ x) = brief_suc (length x) _ _ (url_run v f skip x)
+url_run v f zero (a ∷ x) = brief_at (length x) (url_unit (a ∷ (x ++ spaced))) (url_unit (a ∷ (x ++ v)))
+    (λ k. run_after url_unit k (x ++ spaced)) (λ k. run_after url_unit k (x ++ v)) (url_more v f a x)
+    (λ k. url_run v f k x) (λ k e. run_far url_unit x k e)
+    (run_least url_unit (length x) (x ++ spaced) (omega (arith, length-append x spaced)))
 
 white_first : (t : List ℕ) → begins is_white t ≡ true → 0 < white_run t
 white_first [] e = cc
 white_first (c ∷ t) e = rw e (omega arith)
 
-pub body_short : (v : List ℕ) → Facts v → (z : List ℕ) → Apart z v → Short (length z) (url_body_len (z ++ spaced)) (url_body_len (z ++ v))
+pub body_short : (v : List ℕ) → Facts v → (z : List ℕ) → Short (length z) (url_body_len (z ++ spaced)) (url_body_len (z ++ v))
 unfolding url_body_len
-body_short v f z m =
+body_short v f z =
     let s = white_run (z ++ spaced) in
     let t = white_run (z ++ v) in
     let u = run url_unit (drop s (z ++ spaced)) in
@@ -126,7 +129,7 @@ body_short v f z m =
                   let three : drop (s + u) (z ++ spaced) ≡ drop (s + u) z ++ spaced = drop-append-le (s + u) z spaced within in
                   let left : length (drop (s + u) z) ≡ length z - (s + u) = length-drop (s + u) z in
                   let white : white_run (drop (s + u) (z ++ spaced)) ≡ white_run (drop (s + u) z ++ spaced) = ap white_run three in
-                  elim (url_run v f 0 (drop s z) (apart_drop v s z m)) [
+                  elim (url_run v f 0 (drop s z)) [
                     | inr far ↦
                         let at : s + u ≡ length z = omega (arith, far, u_is, size, s_fits, within) in
                         let none : drop (s + u) z ≡ [] = no_codes (drop (s + u) z) (omega (arith, left, at)) in
@@ -311,11 +314,11 @@ some_left [] e = cc
 some_left (a ∷ w) e = omega arith
 
 -- where a url opens in both
-opened_keeps : (v : List ℕ) → Facts v → (x : List ℕ) → Apart x v → (n : ℕ) → name_len (x ++ spaced) ≡ n → name_len (x ++ v) ≡ n
+opened_keeps : (v : List ℕ) → Facts v → (x : List ℕ) → (n : ℕ) → name_len (x ++ spaced) ≡ n → name_len (x ++ v) ≡ n
     → n + 1 ≤ length x → opens_url (x ++ spaced) ≡ true → opens_url (x ++ v) ≡ true
-    → Keeps (length x) (names_of (x ++ spaced)) (names_of (x ++ v))
+    → Keeps (over_seam x v) (length x) (names_of (x ++ spaced)) (names_of (x ++ v))
 unfolding names_of
-opened_keeps v f x m n first second fits opens opens' =
+opened_keeps v f x n first second fits opens opens' =
     let t = x ++ spaced in
     let t' = x ++ v in
     let z = drop (n + 1) x in
@@ -330,9 +333,9 @@ opened_keeps v f x m n first second fits opens opens' =
     let more = longer x in
     let further = as_long x v in
     let s = starts_ident t in
-    let far : length x < o → Keeps (length x) (names_of t) (names_of t') = λ a.
+    let far : length x < o → Keeps (over_seam x v) (length x) (names_of t) (names_of t') = λ a.
     long_keeps (length x) (names_of t) (names_of t') (url_far_at t (length x) opens a more) in
-    elim (body_short v f z (apart_drop v (n + 1) x m)) [
+    elim (body_short v f z) [
       | inr past ↦ far (omega (arith, o_is, past, size))
       | inl same ↦
           let o_same : o ≡ o' = omega (arith, o_is, o_is', same) in
@@ -347,9 +350,10 @@ opened_keeps v f x m n first second fits opens opens' =
                 ap (drop (url_body_len (z ++ spaced))) (sym inner) ∙ drop-drop (url_body_len (z ++ spaced)) (name_len t + 1) t
                 ∙ ap (λ (k : ℕ). drop k t) (omega (arith, o_is, first)) ∙ one in
                 let some = some_left w (sym (ap (begins is_white) behind) ∙ body_then (z ++ spaced)) in
-                let near = subst (λ (k : ℕ). Short k (o + run bad_url_unit (w ++ spaced)) (o + run bad_url_unit (w ++ v)))
+                let near = subst (λ (k : ℕ). Near (over_seam x v) k (o + run bad_url_unit (w ++ spaced)) (o + run bad_url_unit (w ++ v)))
                 (size_of o (length w) (length x) w_size within)
-                (short_add o (length w) _ _ (run_at bad_url_unit v (bad_url_at v f) w (apart_drop v o x m))) in
+                (near_wide (o + length w) _ _ (seam_drop v o x)
+                (near_add o (length w) _ _ (run_at bad_url_unit v (bad_url_at v f) (inl (omega arith)) w))) in
                 let close_fits : closes_url (w ++ spaced) ≡ true → o + 1 ≤ length x = λ e. omega (arith, some, w_size) in
                 let bad_fits : closes_url (w ++ spaced) ≡ false → o + run bad_url_unit (w ++ spaced) ≤ length x
                 → o + run bad_url_unit (w ++ spaced) + 1 ≤ length x = λ _ short.
@@ -379,17 +383,17 @@ opened_keeps v f x m n first second fits opens opens' =
                 (run bad_url_unit (w ++ v)) (length t')) (sym (closes_at v w some))
                 ∙ ap (λ (k : ℕ). names true (closes_url (w ++ spaced)) s (begins (λ c. c == 40) (drop (name_len t) t)) (name_len t) k
                 (run bad_url_unit (w ++ v)) (length t')) (sym o_same) in
-                subst (λ (a : Option Piece). Keeps (length x) a (names_of t')) (sym left)
-                (subst (Keeps (length x) (names true (closes_url (w ++ spaced)) s (begins (λ c. c == 40) (drop (name_len t) t))
+                subst (λ (a : Option Piece). Keeps (over_seam x v) (length x) a (names_of t')) (sym left)
+                (subst (Keeps (over_seam x v) (length x) (names true (closes_url (w ++ spaced)) s (begins (λ c. c == 40) (drop (name_len t) t))
                 (name_len t) o (run bad_url_unit (w ++ spaced)) (length t))) (sym right) here)
           ]
     ]
 
-by_name : (v : List ℕ) → Facts v → (x : List ℕ) → Apart x v → starts_ident (x ++ spaced) ≡ true → starts_ident (x ++ v) ≡ true
-    → Short (length x) (name_len (x ++ spaced)) (name_len (x ++ v))
-    → Keeps (length x) (names_of (x ++ spaced)) (names_of (x ++ v))
-by_name v f x m s s' (inr far) = long_keeps (length x) _ _ (name_far_at (x ++ spaced) (length x) s far (longer x))
-by_name v f x m s s' (inl same) =
+by_name : (v : List ℕ) → Facts v → (x : List ℕ) → starts_ident (x ++ spaced) ≡ true → starts_ident (x ++ v) ≡ true
+    → Near (over_seam x v) (length x) (name_len (x ++ spaced)) (name_len (x ++ v))
+    → Keeps (over_seam x v) (length x) (names_of (x ++ spaced)) (names_of (x ++ v))
+by_name v f x s s' (near_past far) = long_keeps (length x) _ _ (name_far_at (x ++ spaced) (length x) s far (longer x))
+by_name v f x s s' (near_same same) =
     let t = x ++ spaced in
     let t' = x ++ v in
     let n = name_len t in
@@ -402,30 +406,45 @@ by_name v f x m s s' (inl same) =
           let round_same : begins (λ d. d == 40) (drop n t) ≡ begins (λ d. d == 40) (drop (name_len t') t') =
           ap (begins (λ d. d == 40)) one ∙ begins_at (λ d. d == 40) v (drop n x) refl f.round ∙ sym (ap (begins (λ d. d == 40)) two) in
           elim (begins (λ d. d == 40) (drop n t)) as
-          (λ b. begins (λ d. d == 40) (drop n t) ≡ b → Keeps (length x) (names_of t) (names_of t')) [
+          (λ b. begins (λ d. d == 40) (drop n t) ≡ b → Keeps (over_seam x v) (length x) (names_of t) (names_of t')) [
             | false ↦ λ bare. same_keeps _ _ _ (bare_name t n refl s bare ∙ sym (bare_name t' n (sym same) s' (sym round_same ∙ bare)))
             | true ↦ λ round.
                 let some = round_some (drop n x) (sym (ap (begins (λ d. d == 40)) one) ∙ round) in
                 let fits : n + 1 ≤ length x = omega (arith, some, length-drop n x) in
                 let opens_is : opens_url t ≡ opens_url t' = opens_same v f x same fits in
-                elim (opens_url t) as (λ b. opens_url t ≡ b → Keeps (length x) (names_of t) (names_of t')) [
+                elim (opens_url t) as (λ b. opens_url t ≡ b → Keeps (over_seam x v) (length x) (names_of t) (names_of t')) [
                   | false ↦ λ closed. same_keeps _ _ _
                       (plain_function t n refl s round closed ∙ sym
                       (plain_function t' n (sym same) s' (sym round_same ∙ round) (sym opens_is ∙ closed)))
-                  | true ↦ λ opens. opened_keeps v f x m n refl (sym same) fits opens (sym opens_is ∙ opens)
+                  | true ↦ λ opens. opened_keeps v f x n refl (sym same) fits opens (sym opens_is ∙ opens)
                 ] refl
           ] refl
     ]
-
-named_keeps : (v : List ℕ) → Facts v → (x : List ℕ) → Apart x v → Keeps (length x) (names_of (x ++ spaced)) (names_of (x ++ v))
-named_keeps v f x m = by (starts_at v f x)
+by_name v f x s s' (near_more m e g) =
+    let t = x ++ spaced in
+    let t' = x ++ v in
+    let first : drop (name_len t) t ≡ spaced = ap (λ (k : ℕ). drop k t) e ∙ drop-append_seam x spaced in
+    let line = seam_line v x m in
+    let second : drop (name_len t') t' ≡ drop 1 v = ap (λ (k : ℕ). drop k t') g ∙ drop_over x v in
+    let one = bare_name t (length x) e s (ap (begins (λ d. d == 40)) first) in
+    let two = bare_name t' (suc (length x)) g s' (ap (begins (λ d. d == 40)) second ∙ f.next_round line) in
+    subst (λ (o : Option Piece). Keeps (over_seam x v) (length x) o (names_of t')) (sym one)
+    (subst (Keeps (over_seam x v) (length x) (Some (piece Ident (length x)))) (sym two) (keeps_more Ident refl m))
   where
-    by : StartsSame v x → Keeps (length x) (names_of (x ++ spaced)) (names_of (x ++ v))
+    drop_over : (x v : List ℕ) → drop (suc (length x)) (x ++ v) ≡ drop 1 v
+    drop_over [] [] = refl
+    drop_over [] (c ∷ v) = refl
+    drop_over (a ∷ x) v = drop_over x v
+
+named_keeps : (v : List ℕ) → Facts v → (x : List ℕ) → Keeps (over_seam x v) (length x) (names_of (x ++ spaced)) (names_of (x ++ v))
+named_keeps v f x = by (starts_at v f x)
+  where
+    by : StartsSame v x → Keeps (over_seam x v) (length x) (names_of (x ++ spaced)) (names_of (x ++ v))
     by (inl starts) =
         elim (starts_ident (x ++ spaced)) as
-        (λ b. starts_ident (x ++ spaced) ≡ b → Keeps (length x) (names_of (x ++ spaced)) (names_of (x ++ v))) [
+        (λ b. starts_ident (x ++ spaced) ≡ b → Keeps (over_seam x v) (length x) (names_of (x ++ spaced)) (names_of (x ++ v))) [
           | false ↦ λ none. same_keeps _ _ _ (no_start (x ++ spaced) none ∙ sym (no_start (x ++ v) (sym starts ∙ none)))
-          | true ↦ λ s. by_name v f x m s (sym starts ∙ s) (name_short v f x m)
+          | true ↦ λ s. by_name v f x s (sym starts ∙ s) (name_near v f x)
         ] refl
     by (inr far) = long_keeps (length x) _ _ (name_far_at (x ++ spaced) (length x) far.0 far.1 (longer x))
 
@@ -450,31 +469,65 @@ rows_together text =
     three None (Some p) d e = refl
     three None None d e = refl
 
-pub space_first : (v : List ℕ) → Facts v → (a : ℕ) (x : List ℕ) → Apart (a ∷ x) v
-    → Keeps (length (a ∷ x)) (first_piece (a ∷ (x ++ spaced))) (first_piece (a ∷ (x ++ v)))
-space_first v f a x m =
+pub space_first : (v : List ℕ) → Facts v → (a : ℕ) (x : List ℕ)
+    → Keeps (over_seam (a ∷ x) v) (length (a ∷ x)) (first_piece (a ∷ (x ++ spaced))) (first_piece (a ∷ (x ++ v)))
+space_first v f a x =
     let n = length (a ∷ x) in
-    let all = or_keeps n _ _ _ _ (comment_keeps v f a x)
-    (or_keeps n _ _ _ _ (white_keeps v f a x) (or_keeps n _ _ _ _ (strings_keeps v f a x m)
-    (or_keeps n _ _ _ _ (hash_keeps v f a x m)
-    (or_keeps n _ _ _ _ (numeric_keeps v f (a ∷ x) m) (or_keeps n _ _ _ _ (cdc_keeps v f a x)
-    (or_keeps n _ _ _ _ (named_keeps v f (a ∷ x) m)
+    let seam = over_seam (a ∷ x) v in
+    let all = or_keeps {s = seam} n _ _ _ _ (comment_keeps v f a x)
+    (or_keeps n _ _ _ _ (white_keeps v f a x) (or_keeps n _ _ _ _ (strings_keeps v f a x)
+    (or_keeps n _ _ _ _ (hash_keeps v f a x)
+    (or_keeps n _ _ _ _ (numeric_keeps v f (a ∷ x)) (or_keeps n _ _ _ _ (cdc_keeps v f a x)
+    (or_keeps n _ _ _ _ (named_keeps v f (a ∷ x))
     (or_keeps n _ _ _ _ (cdo_keeps v f a x)
-    (or_keeps n _ _ _ _ (at_keeps v f a x m) (mark_keeps n a (x ++ spaced) (x ++ v)))))))))) in
-    subst (λ (o : Option Piece). Keeps n o (first_piece (a ∷ (x ++ v)))) (sym (rows_together (a ∷ (x ++ spaced))))
-    (subst (Keeps n _) (sym (rows_together (a ∷ (x ++ v)))) all)
+    (or_keeps n _ _ _ _ (at_keeps v f a x) (mark_keeps n a (x ++ spaced) (x ++ v)))))))))) in
+    subst (λ (o : Option Piece). Keeps seam n o (first_piece (a ∷ (x ++ v)))) (sym (rows_together (a ∷ (x ++ spaced))))
+    (subst (Keeps seam n _) (sym (rows_together (a ∷ (x ++ v)))) all)
 
--- a piece that ends before the space is the same whatever stands behind the sealed text
-short_same : (n : ℕ) (a b : Option Piece) (p : Piece) → Keeps n a b → a ≡ Some p → p.len ≤ n → b ≡ Some p
+-- a piece that ends at a CR with an LF behind it takes the LF
+pub record TakesLine (v text : List ℕ) (p : Piece) : Type 0 where
+  pub over : over_seam text v ≡ true
+  pub len : p.len ≡ length text
+  pub found : first_piece (text ++ v) ≡ Some (piece p.kind (suc (length text)))
+  pub name : ends_in_name p.kind ≡ true
+
+record TakesMore (s : Bool) (n : ℕ) (b : Option Piece) (p : Piece) : Type 0 where
+  over : s ≡ true
+  len : p.len ≡ n
+  found : b ≡ Some (piece p.kind (suc n))
+  name : ends_in_name p.kind ≡ true
+
+-- a piece that ends before the space is the same whatever stands behind the sealed text, or takes the LF
+short_same : {s : Bool} (n : ℕ) (a b : Option Piece) (p : Piece) → Keeps s n a b → a ≡ Some p → p.len ≤ n → (b ≡ Some p) ⊎ TakesMore s n b p
 short_same n a b p keeps_none e fits = cc
-short_same n a b p (keeps_same q) e fits = e
+short_same n a b p (keeps_same q) e fits = inl e
 short_same n a b p (keeps_long q r far) e fits = let same : q ≡ p = cc in absurd (omega (arith, ap (λ (x : Piece). x.len) same, far))
+short_same n a b p (keeps_more k name m) e fits =
+    let same : piece k n ≡ p = cc in
+    inr (record {
+      over = m;
+      len = sym (ap (λ (x : Piece). x.len) same);
+      found = ap (λ (x : Piece). Some (piece x.kind (suc n))) same;
+      name = subst (λ (x : Piece). ends_in_name x.kind ≡ true) same name;
+    })
+
+pub piece_more : (v : List ℕ) → Facts v → (text : List ℕ) (p : Piece) → 0 < p.len → p.len ≤ length text
+    → first_piece (text ++ spaced) ≡ Some p → (first_piece (text ++ v) ≡ Some p) ⊎ TakesLine v text p
+piece_more v f [] p some fits e = absurd (omega arith)
+piece_more v f (a ∷ x) p some fits e = by (short_same (length (a ∷ x)) _ _ p (space_first v f a x) e fits)
+  where
+    by : (first_piece (a ∷ (x ++ v)) ≡ Some p) ⊎ TakesMore (over_seam (a ∷ x) v) (length (a ∷ x)) (first_piece (a ∷ (x ++ v))) p
+        → (first_piece (a ∷ (x ++ v)) ≡ Some p) ⊎ TakesLine v (a ∷ x) p
+    by (inl same) = inl same
+    by (inr t) = inr (record { over = t.over; len = t.len; found = t.found; name = t.name })
 
 pub piece_kept : (v : List ℕ) → Facts v → (text : List ℕ) (p : Piece) → Apart text v → 0 < p.len → p.len ≤ length text
     → first_piece (text ++ spaced) ≡ Some p → first_piece (text ++ v) ≡ Some p
-piece_kept v f [] p m some fits e = absurd (omega arith)
-piece_kept v f (a ∷ x) p m some fits e = short_same (length (a ∷ x)) _ _ p (space_first v f a x m) e fits
-
-pub piece_keeps : (v : List ℕ) → IsBehind v → (text : List ℕ) (p : Piece) → 0 < p.len → p.len ≤ length text
-    → first_piece (text ++ spaced) ≡ Some p → first_piece (text ++ v) ≡ Some p
-piece_keeps v b text p some fits e = piece_kept v (facts_behind v b) text p (apart_behind v b text) some fits e
+piece_kept v f text p m some fits e = elim (piece_more v f text p some fits e) [
+  | inl same ↦ same
+  | inr more ↦ absurd (clash (over_seam text v) m more.over)
+]
+  where
+    clash : (b : Bool) → b ≡ false → b ≡ true → ⊥
+    clash false e g = cc
+    clash true e g = cc

@@ -7,7 +7,7 @@ use Rattle.std.proofs.lemmas.List.{drop-append-le, length-drop}
 use Rattle.std.proofs.lemmas.Bool.Decides.{nat_tests}
 use Rattle.css_tokens.specs.declared.token.TokenKind.{TokenKind}
 use Rattle.css_tokens.specs.declared.token.TokenKind.TheVariants.{Comment, WhiteSpace, Str, BadString, Hash, Number, Percentage, Dimension}
-use Rattle.css_tokens.specs.declared.token.TokenKind.TheVariants.{AtKeyword}
+use Rattle.css_tokens.specs.declared.token.TokenKind.TheVariants.{AtKeyword, Ident}
 use Rattle.sheet_reader.proofs.Behind.{Piece}
 use Rattle.css_tokens.specs.Codes.{begins, is_newline, is_white, is_quote, is_sign}
 use Rattle.css_tokens.specs.Runs.{run, comment_unit, string_unit, name_unit, name_len, starts_ident, white_run}
@@ -18,26 +18,51 @@ use Rattle.css_tokens.specs.Rows.{cdo, at_keyword, mark}
 use Rattle.css_tokens.proofs.Ends.{run_stops}
 use Rattle.sheet_reader.proofs.Behind.{spaced}
 use Rattle.sheet_reader.proofs.SpaceUnits.{Facts, Short, short_add, short_one, begins_at, prefix_at, prefix_in, StartsSame, starts_at}
+use Rattle.sheet_reader.proofs.SpaceUnits.{Near, near_same, near_past, near_more, near_wide, near_add, near_one}
 use Rattle.sheet_reader.proofs.SpaceUnits.{comment_run}
-use Rattle.sheet_reader.proofs.SpaceUnits.{name_at, string_at, run_at, Apart, apart_tail, apart_drop}
+use Rattle.sheet_reader.proofs.SpaceUnits.{name_at, string_at, run_at, over_seam, seam_tail, seam_drop, seam_some}
+use Rattle.css_tokens.specs.Escapes.{escape_len}
 
--- an answer of a row before the space, and one before what stands behind: both none, the same, or the first is past n codes
-pub data Keeps (n : ℕ) : Option Piece → Option Piece → Type 0 where
-  keeps_none : Keeps n None None
-  keeps_same : (p : Piece) → Keeps n (Some p) (Some p)
-  keeps_long : (p : Piece) (b : Option Piece) → n < p.len → Keeps n (Some p) b
+-- pieces of this kind may end in a name
+abbrev pub ends_in_name : TokenKind → Bool
+ends_in_name Ident = true
+ends_in_name (Hash flag) = true
+ends_in_name Dimension = true
+ends_in_name AtKeyword = true
+ends_in_name _ = false
 
-pub or_keeps : (n : ℕ) (a a' b b' : Option Piece) → Keeps n a a' → Keeps n b b' → Keeps n (a or b) (a' or b')
+-- An answer of a row before the space, and one before what stands behind: both none, the same, or the first is past n codes; or, where
+-- a CR LF stands over the seam, of n codes and of one more
+pub data Keeps (seam : Bool) (n : ℕ) : Option Piece → Option Piece → Type 0 where
+  keeps_none : Keeps seam n None None
+  keeps_same : (p : Piece) → Keeps seam n (Some p) (Some p)
+  keeps_long : (p : Piece) (b : Option Piece) → n < p.len → Keeps seam n (Some p) b
+  keeps_more : (k : TokenKind) → ends_in_name k ≡ true → seam ≡ true → Keeps seam n (Some (piece k n)) (Some (piece k (suc n)))
+
+pub or_keeps : {s : Bool} (n : ℕ) (a a' b b' : Option Piece) → Keeps s n a a' → Keeps s n b b' → Keeps s n (a or b) (a' or b')
 or_keeps n a a' b b' keeps_none more = more
 or_keeps n a a' b b' (keeps_same p) more = keeps_same p
 or_keeps n a a' b b' (keeps_long p q far) more = keeps_long p (q or b') far
+or_keeps n a a' b b' (keeps_more k name m) more = keeps_more k name m
 
-pub same_keeps : (n : ℕ) (a b : Option Piece) → a ≡ b → Keeps n a b
-same_keeps n None b e = subst (Keeps n None) e keeps_none
-same_keeps n (Some p) b e = subst (Keeps n (Some p)) e (keeps_same p)
+pub same_keeps : {s : Bool} (n : ℕ) (a b : Option Piece) → a ≡ b → Keeps s n a b
+same_keeps {s = s} n None b e = subst (Keeps s n None) e keeps_none
+same_keeps {s = s} n (Some p) b e = subst (Keeps s n (Some p)) e (keeps_same p)
 
-pub short_keeps : (n : ℕ) (test : Bool) (kind : TokenKind) (a b : ℕ) → Short n a b
-    → Keeps n (when test (piece kind a)) (when test (piece kind b))
+pub more_keeps : {s : Bool} (n : ℕ) (k : TokenKind) (a b : ℕ) → ends_in_name k ≡ true → s ≡ true → a ≡ n → b ≡ suc n → Keeps s n (Some (piece k a)) (Some (piece k b))
+more_keeps {s = s} n k a b name m e g =
+    subst (λ (x : ℕ). Keeps s n (Some (piece k x)) (Some (piece k b))) (sym e)
+    (subst (λ (x : ℕ). Keeps s n (Some (piece k n)) (Some (piece k x))) (sym g) (keeps_more k name m))
+
+pub near_keeps : {s : Bool} (n : ℕ) (test : Bool) (kind : TokenKind) (a b : ℕ) → ends_in_name kind ≡ true → Near s n a b
+    → Keeps s n (when test (piece kind a)) (when test (piece kind b))
+near_keeps n true kind a b name (near_same same) = same_keeps n _ _ (ap (λ (k : ℕ). Some (piece kind k)) same)
+near_keeps n true kind a b name (near_past far) = keeps_long (piece kind a) (Some (piece kind b)) far
+near_keeps n true kind a b name (near_more m e g) = more_keeps n kind a b name m e g
+near_keeps n false kind a b name h = keeps_none
+
+pub short_keeps : {s : Bool} (n : ℕ) (test : Bool) (kind : TokenKind) (a b : ℕ) → Short n a b
+    → Keeps s n (when test (piece kind a)) (when test (piece kind b))
 short_keeps n true kind a b (inl same) = same_keeps n _ _ (ap (λ (k : ℕ). Some (piece kind k)) same)
 short_keeps n true kind a b (inr far) = keeps_long (piece kind a) (Some (piece kind b)) far
 short_keeps n false kind a b h = keeps_none
@@ -54,6 +79,13 @@ closed_short n k a b all others more further (inl same) fits =
       | inr within ↦ let here = fits within in inl (omega (arith, same, here))
     ]
 closed_short n k a b all others more further (inr far) fits = inr (omega (arith, far))
+
+-- the same where a code closes it: the open one ends before n then
+pub closed_near : {s : Bool} (n a b all others : ℕ) → n < all → n ≤ others → Near s n a b → (a ≤ n → a + 1 ≤ n)
+    → Short n (min (a + 1) all) (min (b + 1) others)
+closed_near n a b all others more further (near_same same) fits = closed_short n 1 a b all others more further (inl same) fits
+closed_near n a b all others more further (near_past far) fits = closed_short n 1 a b all others more further (inr far) fits
+closed_near n a b all others more further (near_more m e g) fits = let here = fits (omega (arith, e)) in absurd (omega (arith, e, here))
 
 pub longer : (x : List ℕ) → length x < length (x ++ spaced)
 longer x = omega (arith, length-append x spaced)
@@ -79,22 +111,22 @@ comment_fits x within =
     let two = two_left (drop r x) (sym (ap comment_unit at) ∙ run_stops comment_unit refl (x ++ spaced)) in
     omega (arith, two, length-drop r x)
 
-pub comment_keeps : (v : List ℕ) → Facts v → (a : ℕ) (x : List ℕ)
-    → Keeps (length (a ∷ x)) (comment (a ∷ (x ++ spaced))) (comment (a ∷ (x ++ v)))
+pub comment_keeps : {s : Bool} (v : List ℕ) → Facts v → (a : ℕ) (x : List ℕ)
+    → Keeps s (length (a ∷ x)) (comment (a ∷ (x ++ spaced))) (comment (a ∷ (x ++ v)))
 unfolding comment
-comment_keeps [] f a [] = by_first (nat_eq 47 a) _ _
+comment_keeps {s = s} [] f a [] = by_first (nat_eq 47 a) _ _
   where
-    by_first : (b : Bool) (p q : Piece) → Keeps 1 (when (b && (false && true)) p) (when (b && false) q)
+    by_first : (b : Bool) (p q : Piece) → Keeps s 1 (when (b && (false && true)) p) (when (b && false) q)
     by_first true p q = keeps_none
     by_first false p q = keeps_none
-comment_keeps (c ∷ v) f a [] =
+comment_keeps {s = s} (c ∷ v) f a [] =
     let star : nat_eq 42 c ≡ false = flip c f.star in
     rw star (by_first (nat_eq 47 a) _ _)
   where
     flip : (c : ℕ) → (c == 42) ≡ false → nat_eq 42 c ≡ false
     flip c e = grind (arith, nat_tests)
 
-    by_first : (b : Bool) (p q : Piece) → Keeps 1 (when (b && (false && true)) p) (when (b && (false && true)) q)
+    by_first : (b : Bool) (p q : Piece) → Keeps s 1 (when (b && (false && true)) p) (when (b && (false && true)) q)
     by_first true p q = keeps_none
     by_first false p q = keeps_none
 comment_keeps v f a (b ∷ x) =
@@ -116,14 +148,22 @@ white_short v (a ∷ x) = by (is_white a) (white_short v x)
     by true h = short_one (length x) _ _ h
     by false h = inl refl
 
-pub white_keeps : (v : List ℕ) → Facts v → (a : ℕ) (x : List ℕ)
-    → Keeps (length (a ∷ x)) (white_space (a ∷ (x ++ spaced))) (white_space (a ∷ (x ++ v)))
+pub white_keeps : {s : Bool} (v : List ℕ) → Facts v → (a : ℕ) (x : List ℕ)
+    → Keeps s (length (a ∷ x)) (white_space (a ∷ (x ++ spaced))) (white_space (a ∷ (x ++ v)))
 unfolding white_space
 white_keeps v f a x = short_keeps (length (a ∷ x)) (is_white a) WhiteSpace _ _ (white_short v (a ∷ x))
 
 -- strings and bad strings, together
 no_space : (quote : ℕ) → is_quote quote ≡ true → (32 == quote) ≡ false
 no_space quote e = grind (arith, nat_tests)
+
+goes_on : (quote : ℕ) → is_quote quote ≡ true → 0 < string_unit quote spaced
+unfolding escape_len
+goes_on quote e = by (32 == quote) (no_space quote e)
+  where
+    by : (b : Bool) → b ≡ false → 0 < cond (b || false) 0 1
+    by true e = cc
+    by false e = omega arith
 
 string_fits : (quote : ℕ) (x : List ℕ) → is_quote quote ≡ true → run (string_unit quote) (x ++ spaced) ≤ length x
     → run (string_unit quote) (x ++ spaced) + 1 ≤ length x
@@ -145,15 +185,15 @@ string_fits quote x is_a within =
 strings : Bool → Bool → ℕ → ℕ → Option Piece
 strings quote line m all = when (quote && not line) (piece Str (min (m + 1) all)) or when (quote && line) (piece BadString m)
 
-strings_long : (n m m' all all' : ℕ) (quote line line' : Bool) → n < m → n < all
-    → Keeps n (strings quote line m all) (strings quote line' m' all')
+strings_long : {s : Bool} (n m m' all all' : ℕ) (quote line line' : Bool) → n < m → n < all
+    → Keeps s n (strings quote line m all) (strings quote line' m' all')
 unfolding strings
 strings_long n m m' all all' false line line' a d = keeps_none
 strings_long n m m' all all' true true line' a d = keeps_long _ _ a
 strings_long n m m' all all' true false line' a d = keeps_long _ _ (omega arith)
 
-strings_short : (n m all all' : ℕ) (quote line : Bool) → n < all → n ≤ all' → (quote ≡ true → m + 1 ≤ n)
-    → Keeps n (strings quote line m all) (strings quote line m all')
+strings_short : {s : Bool} (n m all all' : ℕ) (quote line : Bool) → n < all → n ≤ all' → (quote ≡ true → m + 1 ≤ n)
+    → Keeps s n (strings quote line m all) (strings quote line m all')
 unfolding strings
 strings_short n m all all' false line d e fits = keeps_none
 strings_short n m all all' true true d e fits = keeps_same (piece BadString m)
@@ -164,23 +204,24 @@ begins_some : (p : ℕ → Bool) (v w : List ℕ) → 0 < length w → begins p 
 begins_some p v [] some = absurd (omega (arith, some))
 begins_some p v (c ∷ w) some = refl
 
-strings_by : (v : List ℕ) → Facts v → (a : ℕ) (x : List ℕ) → Apart (a ∷ x) v → is_quote a ≡ true
-    → Keeps (length (a ∷ x)) (string (a ∷ (x ++ spaced)) or bad_string (a ∷ (x ++ spaced)))
+strings_by : (v : List ℕ) → Facts v → (a : ℕ) (x : List ℕ) → is_quote a ≡ true
+    → Keeps (over_seam (a ∷ x) v) (length (a ∷ x)) (string (a ∷ (x ++ spaced)) or bad_string (a ∷ (x ++ spaced)))
     (string (a ∷ (x ++ v)) or bad_string (a ∷ (x ++ v)))
 unfolding string bad_string strings
-strings_by v f a x m is_a =
+strings_by v f a x is_a =
     let r = run (string_unit a) (x ++ spaced) in
     let s = run (string_unit a) (x ++ v) in
-    let near : Short (length x) r s = run_at (string_unit a) v (string_at a v is_a f) x (apart_tail v a x m) in
+    let near : Near (over_seam x v) (length x) r s = run_at (string_unit a) v (string_at a v is_a f) (inl (goes_on a is_a)) x in
     let n = length (a ∷ x) in
     let more = longer (a ∷ x) in
     let further = as_long (a ∷ x) v in
     let l1 : Bool = begins is_newline (drop (1 + r) (a ∷ (x ++ spaced))) in
     let l2 : Bool = begins is_newline (drop (1 + s) (a ∷ (x ++ v))) in
     elim near [
-      | inr far ↦ strings_long n (1 + r) (1 + s) (length (a ∷ (x ++ spaced))) (length (a ∷ (x ++ v))) (is_quote a) l1 l2
+      | near_more m e g ↦ let fits = string_fits a x is_a (omega (arith, e)) in absurd (omega (arith, e, fits))
+      | near_past far ↦ strings_long n (1 + r) (1 + s) (length (a ∷ (x ++ spaced))) (length (a ∷ (x ++ v))) (is_quote a) l1 l2
           (omega (arith, far)) more
-      | inl same ↦ elim (less (length x) r) [
+      | near_same same ↦ elim (less (length x) r) [
         | inl past ↦ strings_long n (1 + r) (1 + s) (length (a ∷ (x ++ spaced))) (length (a ∷ (x ++ v))) (is_quote a) l1 l2
             (omega arith) more
         | inr within ↦
@@ -196,72 +237,90 @@ strings_by v f a x m is_a =
             let here = strings_short n (1 + r) (length (a ∷ (x ++ spaced))) (length (a ∷ (x ++ v))) (is_quote a)
             (begins is_newline (drop (1 + r) (a ∷ (x ++ spaced)))) more further
             (λ is_a. let fits = string_fits a x is_a within in omega arith) in
-            subst (λ (k : ℕ). Keeps n (strings (is_quote a) (begins is_newline (drop (1 + r) (a ∷ (x ++ spaced)))) (1 + r)
+            subst (λ (k : ℕ). Keeps (over_seam (a ∷ x) v) n (strings (is_quote a) (begins is_newline (drop (1 + r) (a ∷ (x ++ spaced)))) (1 + r)
             (length (a ∷ (x ++ spaced))))
             (strings (is_quote a) (begins is_newline (drop (1 + s) (a ∷ (x ++ v)))) k
             (length (a ∷ (x ++ v))))) length_same
-            (subst (λ (b : Bool). Keeps n (strings (is_quote a) (begins is_newline (drop (1 + r) (a ∷ (x ++ spaced)))) (1 + r)
+            (subst (λ (b : Bool). Keeps (over_seam (a ∷ x) v) n (strings (is_quote a) (begins is_newline (drop (1 + r) (a ∷ (x ++ spaced)))) (1 + r)
             (length (a ∷ (x ++ spaced)))) (strings (is_quote a) b (1 + r) (length (a ∷ (x ++ v))))) line here)
       ]
     ]
 
-pub strings_keeps : (v : List ℕ) → Facts v → (a : ℕ) (x : List ℕ) → Apart (a ∷ x) v
-    → Keeps (length (a ∷ x)) (string (a ∷ (x ++ spaced)) or bad_string (a ∷ (x ++ spaced)))
+pub strings_keeps : (v : List ℕ) → Facts v → (a : ℕ) (x : List ℕ)
+    → Keeps (over_seam (a ∷ x) v) (length (a ∷ x)) (string (a ∷ (x ++ spaced)) or bad_string (a ∷ (x ++ spaced)))
     (string (a ∷ (x ++ v)) or bad_string (a ∷ (x ++ v)))
 unfolding string bad_string
-strings_keeps v f a x m =
-    elim (is_quote a) as (λ b. is_quote a ≡ b → Keeps (length (a ∷ x)) (string (a ∷ (x ++ spaced)) or bad_string (a ∷ (x ++ spaced)))
+strings_keeps v f a x =
+    elim (is_quote a) as (λ b. is_quote a ≡ b → Keeps (over_seam (a ∷ x) v) (length (a ∷ x)) (string (a ∷ (x ++ spaced)) or bad_string (a ∷ (x ++ spaced)))
     (string (a ∷ (x ++ v)) or bad_string (a ∷ (x ++ v)))) [
-      | true ↦ λ e. strings_by v f a x m e
+      | true ↦ λ e. strings_by v f a x e
       | false ↦ λ e. rw e keeps_none
     ] refl
 
 -- hashes and at-keywords
-pub name_short : (v : List ℕ) → Facts v → (x : List ℕ) → Apart x v → Short (length x) (name_len (x ++ spaced)) (name_len (x ++ v))
-name_short v f x m = run_at name_unit v (name_at v f) x m
+no_unit : name_unit spaced ≡ 0
+unfolding escape_len
+no_unit = refl
+
+pub name_near : (v : List ℕ) → Facts v → (x : List ℕ) → Near (over_seam x v) (length x) (name_len (x ++ spaced)) (name_len (x ++ v))
+name_near v f x = run_at name_unit v (name_at v f) (inr (no_unit, f.next_name)) x
 
 positive : (k n : ℕ) → n < k → nat_lt 0 k ≡ true
 positive k n e = grind (arith, nat_tests)
 
-pub hash_keeps : (v : List ℕ) → Facts v → (a : ℕ) (x : List ℕ) → Apart (a ∷ x) v
-    → Keeps (length (a ∷ x)) (hash (a ∷ (x ++ spaced))) (hash (a ∷ (x ++ v)))
+pub hash_keeps : (v : List ℕ) → Facts v → (a : ℕ) (x : List ℕ)
+    → Keeps (over_seam (a ∷ x) v) (length (a ∷ x)) (hash (a ∷ (x ++ spaced))) (hash (a ∷ (x ++ v)))
 unfolding hash
-hash_keeps v f a x far_from = by (starts_at v f x)
+hash_keeps v f a x = by (starts_at v f x)
   where
+    seam : Bool
+    seam = over_seam (a ∷ x) v
+
     long : (m k : ℕ) (s t b : Bool) → length x < m
-        → Keeps (length (a ∷ x)) (when (b && nat_lt 0 m) (piece (Hash s) (1 + m))) (when (b && nat_lt 0 k) (piece (Hash t) (1 + k)))
+        → Keeps seam (length (a ∷ x)) (when (b && nat_lt 0 m) (piece (Hash s) (1 + m))) (when (b && nat_lt 0 k) (piece (Hash t) (1 + k)))
     long m k s t false far = keeps_none
     long m k s t true far = let some = positive m (length x) far in rw some
         (keeps_long (piece (Hash s) (1 + m)) (when (true && nat_lt 0 k) (piece (Hash t) (1 + k))) (omega (arith, far)))
 
-    same : (m k : ℕ) (s t b : Bool) → Short (length x) m k → s ≡ t
-        → Keeps (length (a ∷ x)) (when (b && nat_lt 0 m) (piece (Hash s) (1 + m))) (when (b && nat_lt 0 k) (piece (Hash t) (1 + k)))
-    same m k s t b (inl e) h = same_keeps _ _ _ (λ i. when (b && nat_lt 0 (e i)) (piece (Hash (h i)) (1 + e i)))
-    same m k s t b (inr far) h = long m k s t b far
+    more : (m k : ℕ) (s b : Bool) → over_seam x v ≡ true → m ≡ length x → k ≡ suc (length x)
+        → Keeps seam (length (a ∷ x)) (when (b && nat_lt 0 m) (piece (Hash s) (1 + m))) (when (b && nat_lt 0 k) (piece (Hash s) (1 + k)))
+    more m k s false over e g = keeps_none
+    more m k s true over e g =
+        let some = positive m 0 (omega (arith, e, seam_some v x over)) in
+        let some_too = positive k 0 (omega (arith, g)) in
+        rw (some, some_too) (more_keeps (length (a ∷ x)) (Hash s) (1 + m) (1 + k) refl (seam_tail v a x over) (omega (arith, e)) (omega (arith, g)))
 
-    by : StartsSame v x → Keeps (length (a ∷ x)) (hash (a ∷ (x ++ spaced))) (hash (a ∷ (x ++ v)))
+    same : (m k : ℕ) (s t b : Bool) → Near (over_seam x v) (length x) m k → s ≡ t
+        → Keeps seam (length (a ∷ x)) (when (b && nat_lt 0 m) (piece (Hash s) (1 + m))) (when (b && nat_lt 0 k) (piece (Hash t) (1 + k)))
+    same m k s t b (near_same e) h = same_keeps _ _ _ (λ i. when (b && nat_lt 0 (e i)) (piece (Hash (h i)) (1 + e i)))
+    same m k s t b (near_past far) h = long m k s t b far
+    same m k s t b (near_more over e g) h =
+        subst (λ (u : Bool). Keeps seam (length (a ∷ x)) (when (b && nat_lt 0 m) (piece (Hash s) (1 + m)))
+        (when (b && nat_lt 0 k) (piece (Hash u) (1 + k)))) h (more m k s b over e g)
+
+    by : StartsSame v x → Keeps seam (length (a ∷ x)) (hash (a ∷ (x ++ spaced))) (hash (a ∷ (x ++ v)))
     by (inl e) = same (name_len (x ++ spaced)) (name_len (x ++ v)) (starts_ident (x ++ spaced)) (starts_ident (x ++ v)) (a == 35)
-        (name_short v f x (apart_tail v a x far_from)) e
+        (name_near v f x) e
     by (inr far) = long (name_len (x ++ spaced)) (name_len (x ++ v)) (starts_ident (x ++ spaced)) (starts_ident (x ++ v)) (a == 35) far.1
 
 -- a piece that is past n codes, where the test of the first holds
-long_when : (n : ℕ) (b s t : Bool) (p q : Piece) → s ≡ true → n < p.len → Keeps n (when (b && s) p) (when (b && t) q)
+long_when : {seam : Bool} (n : ℕ) (b s t : Bool) (p q : Piece) → s ≡ true → n < p.len → Keeps seam n (when (b && s) p) (when (b && t) q)
 long_when n false s t p q e far = keeps_none
 long_when n true true t p q e far = keeps_long p (when t q) far
 long_when n true false t p q e far = cc
 
-pub at_keeps : (v : List ℕ) → Facts v → (a : ℕ) (x : List ℕ) → Apart (a ∷ x) v
-    → Keeps (length (a ∷ x)) (at_keyword (a ∷ (x ++ spaced))) (at_keyword (a ∷ (x ++ v)))
+pub at_keeps : (v : List ℕ) → Facts v → (a : ℕ) (x : List ℕ)
+    → Keeps (over_seam (a ∷ x) v) (length (a ∷ x)) (at_keyword (a ∷ (x ++ spaced))) (at_keyword (a ∷ (x ++ v)))
 unfolding at_keyword
-at_keeps v f a x m = by (starts_at v f x)
+at_keeps v f a x = by (starts_at v f x)
   where
-    by : StartsSame v x → Keeps (length (a ∷ x)) (at_keyword (a ∷ (x ++ spaced))) (at_keyword (a ∷ (x ++ v)))
+    by : StartsSame v x → Keeps (over_seam (a ∷ x) v) (length (a ∷ x)) (at_keyword (a ∷ (x ++ spaced))) (at_keyword (a ∷ (x ++ v)))
     by (inl starts) =
-        subst (λ (b : Bool). Keeps (length (a ∷ x))
+        subst (λ (b : Bool). Keeps (over_seam (a ∷ x) v) (length (a ∷ x))
         (when (a == 64 && starts_ident (x ++ spaced)) (piece AtKeyword (1 + name_len (x ++ spaced))))
         (when (a == 64 && b) (piece AtKeyword (1 + name_len (x ++ v))))) starts
-        (short_keeps (length (a ∷ x)) (a == 64 && starts_ident (x ++ spaced)) AtKeyword _ _
-        (short_one (length x) _ _ (name_short v f x (apart_tail v a x m))))
+        (near_keeps (length (a ∷ x)) (a == 64 && starts_ident (x ++ spaced)) AtKeyword _ _ refl
+        (near_wide (length (a ∷ x)) _ _ (seam_tail v a x) (near_one (length x) _ _ (name_near v f x))))
     by (inr far) = long_when (length (a ∷ x)) (a == 64) (starts_ident (x ++ spaced)) (starts_ident (x ++ v)) _ _ far.0
         (omega (arith, far.1))
 
@@ -386,27 +445,27 @@ numbers : ℕ → Bool → Bool → ℕ → Option Piece
 numbers n percent starts m = when (nat_lt 0 n)
     (cond percent (piece Percentage (n + 1)) (cond starts (piece Dimension (n + m)) (piece Number n)))
 
-numbers_keeps : (size n m m' : ℕ) (percent starts : Bool) → Short size (n + m) (n + m')
-    → Keeps size (numbers n percent starts m) (numbers n percent starts m')
+numbers_keeps : {s : Bool} (size n m m' : ℕ) (percent starts : Bool) → Near s size (n + m) (n + m')
+    → Keeps s size (numbers n percent starts m) (numbers n percent starts m')
 unfolding numbers
 numbers_keeps size n m m' true starts near = same_keeps size _ _ refl
-numbers_keeps size n m m' false true near = short_keeps size (nat_lt 0 n) Dimension _ _ near
+numbers_keeps size n m m' false true near = near_keeps size (nat_lt 0 n) Dimension _ _ refl near
 numbers_keeps size n m m' false false near = same_keeps size _ _ refl
 
-numbers_far : (size n m m' : ℕ) (percent starts other : Bool) → starts ≡ true → size < n + m
-    → Keeps size (numbers n percent starts m) (numbers n percent other m')
+numbers_far : {s : Bool} (size n m m' : ℕ) (percent starts other : Bool) → starts ≡ true → size < n + m
+    → Keeps s size (numbers n percent starts m) (numbers n percent other m')
 unfolding numbers
 numbers_far size n m m' true starts other e far = same_keeps size _ _ refl
-numbers_far size n m m' false true other e far = by (nat_lt 0 n)
+numbers_far {s = s} size n m m' false true other e far = by (nat_lt 0 n)
   where
-    by : (b : Bool) → Keeps size (when b (piece Dimension (n + m))) (when b (cond other (piece Dimension (n + m')) (piece Number n)))
+    by : (b : Bool) → Keeps s size (when b (piece Dimension (n + m))) (when b (cond other (piece Dimension (n + m')) (piece Number n)))
     by true = keeps_long (piece Dimension (n + m)) (Some (cond other (piece Dimension (n + m')) (piece Number n))) far
     by false = keeps_none
 numbers_far size n m m' false false other e far = cc
 
-pub numeric_keeps : (v : List ℕ) → Facts v → (x : List ℕ) → Apart x v → Keeps (length x) (numeric (x ++ spaced)) (numeric (x ++ v))
+pub numeric_keeps : (v : List ℕ) → Facts v → (x : List ℕ) → Keeps (over_seam x v) (length x) (numeric (x ++ spaced)) (numeric (x ++ v))
 unfolding numeric numbers
-numeric_keeps v f x m =
+numeric_keeps v f x =
     let b = number_both v f x in
     let n = number_len (x ++ spaced) in
     let k = number_len (x ++ v) in
@@ -414,8 +473,8 @@ numeric_keeps v f x m =
     let two : drop k (x ++ v)
     ≡ drop n x ++ v = ap (λ (j : ℕ). drop j (x ++ v)) (sym b.same) ∙ drop-append-le n x v b.within in
     let size : n + length (drop n x) ≡ length x = omega (arith, length-drop n x, b.within) in
-    let near = subst (λ (j : ℕ). Short j (n + name_len (drop n x ++ spaced)) (n + name_len (drop n x ++ v))) size
-    (short_add n (length (drop n x)) _ _ (name_short v f (drop n x) (apart_drop v n x m))) in
+    let near = subst (λ (j : ℕ). Near (over_seam x v) j (n + name_len (drop n x ++ spaced)) (n + name_len (drop n x ++ v))) size
+    (near_wide (n + length (drop n x)) _ _ (seam_drop v n x) (near_add n (length (drop n x)) _ _ (name_near v f (drop n x)))) in
     let left : numeric (x ++ spaced)
     ≡ numbers n (begins (λ c. c == 37) (drop n x ++ spaced)) (starts_ident (drop n x ++ spaced)) (name_len (drop n x ++ spaced)) =
     ap (λ (t : List ℕ). numbers n (begins (λ c. c == 37) t) (starts_ident t) (name_len t)) one in
@@ -427,11 +486,11 @@ numeric_keeps v f x m =
     (name_len (drop n x ++ v))) (sym b.same)
     ∙ ap (λ (t : Bool). numbers n t (starts_ident (drop n x ++ v)) (name_len (drop n x ++ v)))
     (sym (begins_at (λ c. c == 37) v (drop n x) refl f.percent)) in
-    let here : Keeps (length x)
+    let here : Keeps (over_seam x v) (length x)
     (numbers n (begins (λ c. c == 37) (drop n x ++ spaced)) (starts_ident (drop n x ++ spaced)) (name_len (drop n x ++ spaced)))
     (numbers n (begins (λ c. c == 37) (drop n x ++ spaced)) (starts_ident (drop n x ++ v)) (name_len (drop n x ++ v))) =
     elim (starts_at v f (drop n x)) [
-      | inl e ↦ subst (λ (t : Bool). Keeps (length x)
+      | inl e ↦ subst (λ (t : Bool). Keeps (over_seam x v) (length x)
           (numbers n (begins (λ c. c == 37) (drop n x ++ spaced)) (starts_ident (drop n x ++ spaced)) (name_len (drop n x ++ spaced)))
           (numbers n (begins (λ c. c == 37) (drop n x ++ spaced)) t (name_len (drop n x ++ v)))) e
           (numbers_keeps (length x) n (name_len (drop n x ++ spaced)) (name_len (drop n x ++ v))
@@ -440,8 +499,8 @@ numeric_keeps v f x m =
           (begins (λ c. c == 37) (drop n x ++ spaced)) (starts_ident (drop n x ++ spaced)) (starts_ident (drop n x ++ v)) far.0
           (omega (arith, far.1, size))
     ] in
-    subst (λ (o : Option Piece). Keeps (length x) o (numeric (x ++ v))) (sym left)
-    (subst (λ (o : Option Piece). Keeps (length x)
+    subst (λ (o : Option Piece). Keeps (over_seam x v) (length x) o (numeric (x ++ v))) (sym left)
+    (subst (λ (o : Option Piece). Keeps (over_seam x v) (length x)
     (numbers n (begins (λ c. c == 37) (drop n x ++ spaced)) (starts_ident (drop n x ++ spaced))
     (name_len (drop n x ++ spaced))) o) (sym right) here)
 
@@ -449,23 +508,23 @@ numeric_keeps v f x m =
 flipped : (m c : ℕ) → (c == m) ≡ false → nat_eq m c ≡ false
 flipped m c e = grind (arith, nat_tests)
 
-first_none : (n : ℕ) (b : Bool) (p : Piece) → Keeps n (when (b && false) p) (when (b && false) p)
+first_none : {s : Bool} (n : ℕ) (b : Bool) (p : Piece) → Keeps s n (when (b && false) p) (when (b && false) p)
 first_none n true p = keeps_none
 first_none n false p = keeps_none
 
-second_none : (n : ℕ) (a b : Bool) (p : Piece) → Keeps n (when (a && (b && false)) p) (when (a && (b && false)) p)
+second_none : {s : Bool} (n : ℕ) (a b : Bool) (p : Piece) → Keeps s n (when (a && (b && false)) p) (when (a && (b && false)) p)
 second_none n true true p = keeps_none
 second_none n true false p = keeps_none
 second_none n false b p = keeps_none
 
-third_none : (n : ℕ) (a b d : Bool) (p : Piece) → Keeps n (when (a && (b && (d && false))) p) (when (a && (b && (d && false))) p)
+third_none : {s : Bool} (n : ℕ) (a b d : Bool) (p : Piece) → Keeps s n (when (a && (b && (d && false))) p) (when (a && (b && (d && false))) p)
 third_none n true true true p = keeps_none
 third_none n true true false p = keeps_none
 third_none n true false d p = keeps_none
 third_none n false b d p = keeps_none
 
-pub cdc_keeps : (v : List ℕ) → Facts v → (a : ℕ) (x : List ℕ)
-    → Keeps (length (a ∷ x)) (cdc (a ∷ (x ++ spaced))) (cdc (a ∷ (x ++ v)))
+pub cdc_keeps : {s : Bool} (v : List ℕ) → Facts v → (a : ℕ) (x : List ℕ)
+    → Keeps s (length (a ∷ x)) (cdc (a ∷ (x ++ spaced))) (cdc (a ∷ (x ++ v)))
 unfolding cdc
 cdc_keeps [] f a [] = first_none 1 (nat_eq 45 a) _
 cdc_keeps (c ∷ v) f a [] = let dash = flipped 45 c f.dash in rw dash (first_none 1 (nat_eq 45 a) _)
@@ -473,8 +532,8 @@ cdc_keeps [] f a (b ∷ []) = second_none 2 (nat_eq 45 a) (nat_eq 45 b) _
 cdc_keeps (c ∷ v) f a (b ∷ []) = let sharp = flipped 62 c f.greater in rw sharp (second_none 2 (nat_eq 45 a) (nat_eq 45 b) _)
 cdc_keeps v f a (b ∷ d ∷ x) = same_keeps _ _ _ refl
 
-pub cdo_keeps : (v : List ℕ) → Facts v → (a : ℕ) (x : List ℕ)
-    → Keeps (length (a ∷ x)) (cdo (a ∷ (x ++ spaced))) (cdo (a ∷ (x ++ v)))
+pub cdo_keeps : {s : Bool} (v : List ℕ) → Facts v → (a : ℕ) (x : List ℕ)
+    → Keeps s (length (a ∷ x)) (cdo (a ∷ (x ++ spaced))) (cdo (a ∷ (x ++ v)))
 unfolding cdo
 cdo_keeps [] f a [] = first_none 1 (nat_eq 60 a) _
 cdo_keeps (c ∷ v) f a [] = let bang = flipped 33 c f.bang in rw bang (first_none 1 (nat_eq 60 a) _)
@@ -484,6 +543,6 @@ cdo_keeps [] f a (b ∷ d ∷ []) = third_none 3 (nat_eq 60 a) (nat_eq 33 b) (na
 cdo_keeps (c ∷ v) f a (b ∷ d ∷ []) = let dash = flipped 45 c f.dash in rw dash (third_none 3 (nat_eq 60 a) (nat_eq 33 b) (nat_eq 45 d) _)
 cdo_keeps v f a (b ∷ d ∷ e ∷ x) = same_keeps _ _ _ refl
 
-pub mark_keeps : (n a : ℕ) (x y : List ℕ) → Keeps n (mark (a ∷ x)) (mark (a ∷ y))
+pub mark_keeps : {s : Bool} (n a : ℕ) (x y : List ℕ) → Keeps s n (mark (a ∷ x)) (mark (a ∷ y))
 unfolding mark
 mark_keeps n a x y = same_keeps n _ _ refl

@@ -11,8 +11,13 @@ use Rattle.css_tokens.specs.Runs.{starts_ident}
 use Rattle.css_tokens.proofs.SeamUnits.{stop_facts, prefix_within}
 use Rattle.std.proofs.lemmas.Bool.{eqb-true}
 use Rattle.std.proofs.lemmas.Bool.Decides.{nat_tests}
-use Rattle.sheet_reader.specs.Preludes.{ends_return}
 use Rattle.sheet_reader.proofs.Behind.{spaced, IsBehind, at_end, at_stop}
+
+-- the last code is a CR: it may be one newline with an LF behind it
+abbrev pub ends_return : List ℕ → Bool
+ends_return [] = false
+ends_return (a ∷ []) = a == 13
+ends_return (a ∷ b ∷ rest) = ends_return (b ∷ rest)
 
 -- what is known of what stands behind
 pub record Facts (v : List ℕ) : Type 0 where
@@ -34,10 +39,17 @@ pub record Facts (v : List ℕ) : Type 0 where
   pub name : name_unit v ≡ 0
   pub ident : starts_ident v ≡ false
   pub quoted : begins is_quote (drop (white_run v) v) ≡ false
+  -- behind an LF
+  pub next_name : begins (λ d. d == 10) v ≡ true → name_unit (drop 1 v) ≡ 0
+  pub next_round : begins (λ d. d == 10) v ≡ true → begins (λ d. d == 40) (drop 1 v) ≡ false
 
--- no CR LF stands over the seam
+-- a CR LF stands over the seam
+abbrev pub over_seam : List ℕ → List ℕ → Bool
+over_seam x v = ends_return x && begins (λ d. d == 10) v
+
+-- none does
 abbrev pub Apart : List ℕ → List ℕ → Type 0
-Apart x v = (ends_return x && begins (λ d. d == 10) v) ≡ false
+Apart x v = over_seam x v ≡ false
 
 and_none : (b : Bool) → (b && false) ≡ false
 and_none true = refl
@@ -52,6 +64,27 @@ apart_drop v zero x m = m
 apart_drop v (suc n) [] m = refl
 apart_drop v (suc n) (a ∷ x) m = apart_drop v n x (apart_tail v a x m)
 
+pub seam_tail : (v : List ℕ) (a : ℕ) (x : List ℕ) → over_seam x v ≡ true → over_seam (a ∷ x) v ≡ true
+seam_tail v a [] e = absurd (cc)
+seam_tail v a (b ∷ x) e = e
+
+pub seam_drop : (v : List ℕ) (n : ℕ) (x : List ℕ) → over_seam (drop n x) v ≡ true → over_seam x v ≡ true
+seam_drop v zero x e = e
+seam_drop v (suc n) [] e = e
+seam_drop v (suc n) (a ∷ x) e = seam_tail v a x (seam_drop v n x e)
+
+pub seam_line : (v x : List ℕ) → over_seam x v ≡ true → begins (λ d. d == 10) v ≡ true
+seam_line v x e = by (ends_return x) (begins (λ d. d == 10) v) e
+  where
+    by : (a b : Bool) → (a && b) ≡ true → b ≡ true
+    by true b e = e
+    by false b e = absurd (cc)
+
+-- the text has a code then
+pub seam_some : (v x : List ℕ) → over_seam x v ≡ true → 0 < length x
+seam_some v [] e = absurd (cc)
+seam_some v (a ∷ x) e = omega arith
+
 pub apart_behind_front : (v x y : List ℕ) → Apart (x ++ y) v → Apart y v
 apart_behind_front v [] y m = m
 apart_behind_front v (a ∷ x) y m = apart_behind_front v x y (apart_tail v a (x ++ y) m)
@@ -62,9 +95,6 @@ apart_any v e x = ap (λ (b : Bool). ends_return x && b) e ∙ and_none (ends_re
 pub apart_behind : (v : List ℕ) → IsBehind v → (x : List ℕ) → Apart x v
 apart_behind v at_end x = and_none (ends_return x)
 apart_behind v (at_stop c rest stop) x = apart_any (c ∷ rest) (stop_facts c stop).ten x
-
-pub apart_none : (v x : List ℕ) → ends_return x ≡ false → Apart x v
-apart_none v x e = ap (λ (b : Bool). b && begins (λ d. d == 10) v) e
 
 or_false : (a b : Bool) → a ≡ false → b ≡ false → (a || b) ≡ false
 or_false false false e g = refl
@@ -95,6 +125,8 @@ facts_behind v at_end = record {
   name = refl;
   ident = refl;
   quoted = refl;
+  next_name = λ e. absurd (cc);
+  next_round = λ e. absurd (cc);
 }
 facts_behind v (at_stop c rest stop) =
     let f = stop_facts c stop in
@@ -122,7 +154,13 @@ facts_behind v (at_stop c rest stop) =
       name = rw (ident, back) refl;
       ident = rw (dash, start, back) refl;
       quoted = rw white f.quote;
+      next_name = λ e. absurd (clash (c == 10) f.ten e);
+      next_round = λ e. absurd (clash (c == 10) f.ten e);
     }
+  where
+    clash : (b : Bool) → b ≡ false → b ≡ true → ⊥
+    clash false e g = cc
+    clash true e g = cc
 
 -- ---- the same, or past n
 abbrev pub Short : ℕ → ℕ → ℕ → Type 0
@@ -140,13 +178,43 @@ pub short_one : (n a b : ℕ) → Short n a b → Short (suc n) (1 + a) (1 + b)
 short_one n a b (inl same) = inl (omega (arith, same))
 short_one n a b (inr far) = inr (omega (arith, far))
 
-pub short_cond : (b : Bool) (n x y d : ℕ) → Short n x y → Short n (cond b x d) (cond b y d)
-short_cond true n x y d h = h
-short_cond false n x y d h = inl refl
+-- The same, or past n; or, where a CR LF stands over the seam, one more than n where the first is n
+pub data Near (seam : Bool) (n a b : ℕ) : Type 0 where
+  near_same : ◌≡◌ {A = ℕ} a b → Near seam n a b
+  near_past : n < a → Near seam n a b
+  near_more : seam ≡ true → ◌≡◌ {A = ℕ} a n → ◌≡◌ {A = ℕ} b (suc n) → Near seam n a b
 
-pub short_else : (b : Bool) (n x y d : ℕ) → Short n x y → Short n (cond b d x) (cond b d y)
-short_else true n x y d h = inl refl
-short_else false n x y d h = h
+pub near_wide : {s t : Bool} (n a b : ℕ) → (s ≡ true → t ≡ true) → Near s n a b → Near t n a b
+near_wide n a b wide (near_same e) = near_same e
+near_wide n a b wide (near_past far) = near_past far
+near_wide n a b wide (near_more h e g) = near_more (wide h) e g
+
+pub near_add : {s : Bool} (k n a b : ℕ) → Near s n a b → Near s (k + n) (k + a) (k + b)
+near_add k n a b (near_same same) = near_same (ap (λ (x : ℕ). k + x) same)
+near_add k n a b (near_past far) = near_past (omega (arith, far))
+near_add k n a b (near_more h e g) = near_more h (omega (arith, e)) (omega (arith, g))
+
+near_suc : {s : Bool} (n a b : ℕ) → Near s n a b → Near s (suc n) (suc a) (suc b)
+near_suc n a b (near_same same) = near_same (ap suc same)
+near_suc n a b (near_past far) = near_past (omega (arith, far))
+near_suc n a b (near_more h e g) = near_more h (omega (arith, e)) (omega (arith, g))
+
+pub near_one : {s : Bool} (n a b : ℕ) → Near s n a b → Near s (suc n) (1 + a) (1 + b)
+near_one n a b (near_same same) = near_same (omega (arith, same))
+near_one n a b (near_past far) = near_past (omega (arith, far))
+near_one n a b (near_more h e g) = near_more h (omega (arith, e)) (omega (arith, g))
+
+pub near_cond : {s : Bool} (b : Bool) (n x y d : ℕ) → Near s n x y → Near s n (cond b x d) (cond b y d)
+near_cond true n x y d h = h
+near_cond false n x y d h = near_same refl
+
+pub near_else : {s : Bool} (b : Bool) (n x y d : ℕ) → Near s n x y → Near s n (cond b d x) (cond b d y)
+near_else true n x y d h = near_same refl
+near_else false n x y d h = h
+
+near_either : {s : Bool} (b : Bool) (n x y x' y' : ℕ) → Near s n x x' → Near s n y y' → Near s n (cond b x y) (cond b x' y')
+near_either true n x y x' y' h k = h
+near_either false n x y x' y' h k = k
 
 pub begins_at : (p : ℕ → Bool) (v x : List ℕ) → p 32 ≡ false → begins p v ≡ false → begins p (x ++ spaced) ≡ begins p (x ++ v)
 begins_at p v [] a b = a ∙ sym b
@@ -176,15 +244,25 @@ taken_in p (suc k) (d ∷ x) a =
     elim (p d) as (λ b. cond b (1 + prefix_len p (take k (x ++ spaced))) 0 ≤ length (d ∷ x)) [ true ↦ omega arith | false ↦ omega arith ]
 
 -- ---- escapes
-white_at : (v x : List ℕ) → Apart x v → Short (length x) (white_len (x ++ spaced)) (white_len (x ++ v))
-white_at v [] m = inr (omega arith)
-white_at v (a ∷ []) m = inl (ap (λ (b : Bool). cond b 2 (cond (is_white a) 1 0)) (and_none (a == 13) ∙ sym m))
-white_at v (a ∷ b ∷ x) m = inl refl
+pub both : (a b : Bool) → (a && b) ≡ true → (a ≡ true) × (b ≡ true)
+both true b e = (refl, e)
+both false b e = absurd (cc)
 
-coded_at : (v : List ℕ) → Facts v → (x : List ℕ) → Apart x v → Short (length x)
+white_at : (v x : List ℕ) → Near (over_seam x v) (length x) (white_len (x ++ spaced)) (white_len (x ++ v))
+white_at v [] = near_past (omega arith)
+white_at v (a ∷ []) = by (over_seam (a ∷ []) v) refl
+  where
+    by : (b : Bool) → over_seam (a ∷ []) v ≡ b → Near (over_seam (a ∷ []) v) 1 (white_len (a ∷ spaced)) (white_len (a ∷ v))
+    by false m = near_same (ap (λ (b : Bool). cond b 2 (cond (is_white a) 1 0)) (and_none (a == 13) ∙ sym m))
+    by true m =
+        let code : a ≡ 13 = eqb-true a 13 (both (a == 13) _ m).0 in
+        near_more m (ap (λ (c : ℕ). white_len (c ∷ spaced)) code) (ap (λ (b : Bool). cond b 2 (cond (is_white a) 1 0)) m)
+white_at v (a ∷ b ∷ x) = near_same refl
+
+coded_at : (v : List ℕ) → Facts v → (x : List ℕ) → Near (over_seam x v) (length x)
     (hex_len (x ++ spaced) + white_len (drop (hex_len (x ++ spaced)) (x ++ spaced)))
     (hex_len (x ++ v) + white_len (drop (hex_len (x ++ v)) (x ++ v)))
-coded_at v f x m =
+coded_at v f x =
     let h = hex_len (x ++ spaced) in
     let g = hex_len (x ++ v) in
     let same : h ≡ g = taken_at is_ascii_hexdigit 6 v x refl f.hex in
@@ -194,26 +272,28 @@ coded_at v f x m =
     let w = ap white_len one in
     let w2 = ap white_len two in
     let size : length (drop h x) ≡ length x - h = length-drop h x in
-    elim (white_at v (drop h x) (apart_drop v h x m)) [
-      | inl e ↦ inl (omega (arith, same, w, w2, e))
-      | inr far ↦ inr (omega (arith, far, w, size, within))
+    elim (white_at v (drop h x)) [
+      | near_same e ↦ near_same (omega (arith, same, w, w2, e))
+      | near_past far ↦ near_past (omega (arith, far, w, size, within))
+      | near_more m e n ↦ near_more (seam_drop v h x m) (omega (arith, w, e, size, within)) (omega (arith, same, w2, n, size, within))
     ]
 
-tail_at : (v : List ℕ) → Facts v → (x : List ℕ) → Apart x v → Short (length x) (escape_tail (x ++ spaced)) (escape_tail (x ++ v))
+tail_at : (v : List ℕ) → Facts v → (x : List ℕ) → Near (over_seam x v) (length x) (escape_tail (x ++ spaced)) (escape_tail (x ++ v))
 unfolding escape_tail
-tail_at v f [] m = inr (omega arith)
-tail_at v f (a ∷ x) m = short_cond (is_ascii_hexdigit a) (length (a ∷ x)) _ _ 1 (coded_at v f (a ∷ x) m)
+tail_at v f [] = near_past (omega arith)
+tail_at v f (a ∷ x) = near_cond (is_ascii_hexdigit a) (length (a ∷ x)) _ _ 1 (coded_at v f (a ∷ x))
 
-pub escape_at : (v : List ℕ) → Facts v → (x : List ℕ) → Apart x v → Short (length x) (escape_len (x ++ spaced)) (escape_len (x ++ v))
+pub escape_at : (v : List ℕ) → Facts v → (x : List ℕ) → Near (over_seam x v) (length x) (escape_len (x ++ spaced)) (escape_len (x ++ v))
 unfolding escape_len escape_tail
-escape_at v f [] m = inl (sym f.escape)
-escape_at v f (a ∷ []) m = by (a == 92)
+escape_at v f [] = near_same (sym f.escape)
+escape_at v f (a ∷ []) = by (a == 92)
   where
-    by : (b : Bool) → Short 1 (cond (b && true) (1 + escape_tail spaced) 0) (cond (b && not (begins is_newline v)) (1 + escape_tail v) 0)
-    by true = inr (omega arith)
-    by false = inl refl
-escape_at v f (a ∷ b ∷ x) m =
-    short_cond (a == 92 && not (is_newline b)) (length (a ∷ b ∷ x)) _ _ 0 (short_one (length (b ∷ x)) _ _ (tail_at v f (b ∷ x) m))
+    by : (b : Bool) → Near (over_seam (a ∷ []) v) 1 (cond (b && true) (1 + escape_tail spaced) 0)
+        (cond (b && not (begins is_newline v)) (1 + escape_tail v) 0)
+    by true = near_past (omega arith)
+    by false = near_same refl
+escape_at v f (a ∷ b ∷ x) =
+    near_cond (a == 92 && not (is_newline b)) (length (a ∷ b ∷ x)) _ _ 0 (near_one (length (b ∷ x)) _ _ (tail_at v f (b ∷ x)))
 
 -- the same, or a name that goes on past the text
 abbrev pub StartsSame : List ℕ → List ℕ → Type 0
@@ -250,20 +330,28 @@ starts_at v f (a ∷ b ∷ c ∷ x) = inl refl
 
 -- ---- units
 abbrev pub UnitAt : (List ℕ → ℕ) → List ℕ → Type 0
-UnitAt unit v = (x : List ℕ) → Apart x v → Short (length x) (unit (x ++ spaced)) (unit (x ++ v))
+UnitAt unit v = (x : List ℕ) → Near (over_seam x v) (length x) (unit (x ++ spaced)) (unit (x ++ v))
 
 pub name_at : (v : List ℕ) → Facts v → UnitAt name_unit v
 unfolding escape_len
-name_at v f [] m = inl (sym f.name)
-name_at v f (a ∷ x) m = short_else (is_ident a) (length (a ∷ x)) _ _ 1 (escape_at v f (a ∷ x) m)
+name_at v f [] = near_same (sym f.name)
+name_at v f (a ∷ x) = near_else (is_ident a) (length (a ∷ x)) _ _ 1 (escape_at v f (a ∷ x))
 
-newline_at : (v : List ℕ) (a : ℕ) (x : List ℕ) → Apart (a ∷ x) v → newline_len (a ∷ (x ++ spaced)) ≡ newline_len (a ∷ (x ++ v))
-newline_at v a [] m = ap (λ (b : Bool). cond (is_newline a) (cond b 2 1) 0) (and_none (a == 13) ∙ sym m)
-newline_at v a (b ∷ x) m = refl
+newline_at : (v : List ℕ) (a : ℕ) (x : List ℕ) → Near (over_seam (a ∷ x) v) (length (a ∷ x))
+    (newline_len (a ∷ (x ++ spaced))) (newline_len (a ∷ (x ++ v)))
+newline_at v a [] = by (over_seam (a ∷ []) v) refl
+  where
+    by : (b : Bool) → over_seam (a ∷ []) v ≡ b → Near (over_seam (a ∷ []) v) 1 (newline_len (a ∷ spaced)) (newline_len (a ∷ v))
+    by false m = near_same (ap (λ (b : Bool). cond (is_newline a) (cond b 2 1) 0) (and_none (a == 13) ∙ sym m))
+    by true m =
+        let code : a ≡ 13 = eqb-true a 13 (both (a == 13) _ m).0 in
+        near_more m (ap (λ (c : ℕ). newline_len (c ∷ spaced)) code)
+        (ap (λ (b : Bool). cond (is_newline a) (cond b 2 1) 0) m ∙ ap (λ (c : ℕ). cond (is_newline c) 2 0) code)
+newline_at v a (b ∷ x) = near_same refl
 
 pub string_at : (quote : ℕ) (v : List ℕ) → is_quote quote ≡ true → Facts v → UnitAt (string_unit quote) v
 unfolding escape_len escape_tail
-string_at quote v is_a f [] m = inr (goes_on (32 == quote) (no_space quote is_a))
+string_at quote v is_a f [] = near_past (goes_on (32 == quote) (no_space quote is_a))
   where
     no_space : (quote : ℕ) → is_quote quote ≡ true → (32 == quote) ≡ false
     no_space quote e = grind (arith, nat_tests)
@@ -271,36 +359,35 @@ string_at quote v is_a f [] m = inr (goes_on (32 == quote) (no_space quote is_a)
     goes_on : (b : Bool) → b ≡ false → 0 < cond (b || false) 0 1
     goes_on true e = cc
     goes_on false e = omega arith
-string_at quote v is_a f (a ∷ []) m = by (a == quote || is_newline a) (a == 92)
+string_at quote v is_a f (a ∷ []) = by (a == quote || is_newline a) (a == 92)
   where
-    by : (b d : Bool) → Short 1 (cond b 0 (cond d (cond (d && true) (1 + escape_tail spaced) 0) 1))
+    by : (b d : Bool) → Near (over_seam (a ∷ []) v) 1 (cond b 0 (cond d (cond (d && true) (1 + escape_tail spaced) 0) 1))
         (cond b 0 (cond d (cond (begins is_newline v) (1 + newline_len v) (cond (d && not (begins is_newline v)) (1 + escape_tail v) 0)) 1))
-    by true d = inl refl
-    by false true = inr (omega arith)
-    by false false = inl refl
-string_at quote v is_a f (a ∷ b ∷ x) m =
-    subst (λ (n : ℕ). Short (length (a ∷ b ∷ x)) (string_unit quote (a ∷ b ∷ (x ++ spaced))) (cond (a == quote || is_newline a) 0
-    (cond (a == 92) (cond (is_newline b) (1 + n) (escape_len (a ∷ b ∷ (x ++ v)))) 1))) (newline_at v b x m)
-    (short_else (a == quote || is_newline a) (length (a ∷ b ∷ x)) _ _ 0
-    (short_cond (a == 92) (length (a ∷ b ∷ x)) _ _ 1
-    (short_else (is_newline b) (length (a ∷ b ∷ x)) _ _ (1 + newline_len (b ∷ (x ++ spaced))) (escape_at v f (a ∷ b ∷ x) m))))
+    by true d = near_same refl
+    by false true = near_past (omega arith)
+    by false false = near_same refl
+string_at quote v is_a f (a ∷ b ∷ x) =
+    near_else (a == quote || is_newline a) (length (a ∷ b ∷ x)) _ _ 0
+    (near_cond (a == 92) (length (a ∷ b ∷ x)) _ _ 1
+    (near_either (is_newline b) (length (a ∷ b ∷ x)) _ _ _ _ (near_one (length (b ∷ x)) _ _ (newline_at v b x))
+    (escape_at v f (a ∷ b ∷ x))))
 
 pub bad_url_at : (v : List ℕ) → Facts v → UnitAt bad_url_unit v
 unfolding escape_len escape_tail
-bad_url_at v f [] m = inr (omega arith)
-bad_url_at v f (a ∷ []) m = by (a == 41) (a == 92)
+bad_url_at v f [] = near_past (omega arith)
+bad_url_at v f (a ∷ []) = by (a == 41) (a == 92)
   where
-    by : (b d : Bool) → Short 1 (cond b 0 (cond (d && true) (cond (d && true) (1 + escape_tail spaced) 0) 1))
+    by : (b d : Bool) → Near (over_seam (a ∷ []) v) 1 (cond b 0 (cond (d && true) (cond (d && true) (1 + escape_tail spaced) 0) 1))
         (cond b 0 (cond (d && not (begins is_newline v)) (cond (d && not (begins is_newline v)) (1 + escape_tail v) 0) 1))
-    by true d = inl refl
-    by false true = inr (omega arith)
-    by false false = inl refl
-bad_url_at v f (a ∷ b ∷ x) m =
-    short_else (a == 41) (length (a ∷ b ∷ x)) _ _ 0
-    (short_cond (a == 92 && not (is_newline b)) (length (a ∷ b ∷ x)) _ _ 1 (escape_at v f (a ∷ b ∷ x) m))
+    by true d = near_same refl
+    by false true = near_past (omega arith)
+    by false false = near_same refl
+bad_url_at v f (a ∷ b ∷ x) =
+    near_else (a == 41) (length (a ∷ b ∷ x)) _ _ 0
+    (near_cond (a == 92 && not (is_newline b)) (length (a ∷ b ∷ x)) _ _ 1 (escape_at v f (a ∷ b ∷ x)))
 
 -- ---- runs
-run_least : (unit : List ℕ → ℕ) (k : ℕ) (t : List ℕ) → k ≤ length t → k ≤ run_after unit k t
+pub run_least : (unit : List ℕ → ℕ) (k : ℕ) (t : List ℕ) → k ≤ length t → k ≤ run_after unit k t
 unfolding run_after
 run_least unit zero t fits = omega arith
 run_least unit (suc k) [] fits = absurd (omega (arith, fits))
@@ -311,24 +398,34 @@ unfolding run_after
 none_here unit [] e = refl
 none_here unit (c ∷ v) e = rw e refl
 
-start_at : (unit : List ℕ → ℕ) (v : List ℕ) (u : ℕ) (more : ℕ → ℕ) → Short 0 u (unit v)
-    → Short 0 (unit_then u more) (run_after unit 0 v)
-start_at unit v zero more (inl same) = inl (sym (none_here unit v (sym same)))
-start_at unit v zero more (inr far) = absurd (omega (arith, far))
-start_at unit v (suc k) more h = inr (omega arith)
+-- the run goes on over the space, or ends before it and behind an LF
+abbrev pub Ends : (List ℕ → ℕ) → List ℕ → Type 0
+Ends unit v = (0 < unit spaced) ⊎ ((unit spaced ≡ 0) × (begins (λ d. d == 10) v ≡ true → unit (drop 1 v) ≡ 0))
+
+start_at : {s : Bool} (unit : List ℕ → ℕ) (v : List ℕ) (u : ℕ) (more : ℕ → ℕ) → Near false 0 u (unit v)
+    → Near s 0 (unit_then u more) (run_after unit 0 v)
+start_at unit v zero more (near_same same) = near_same (sym (none_here unit v (sym same)))
+start_at unit v zero more (near_past far) = absurd (omega (arith, far))
+start_at unit v zero more (near_more m e n) = absurd (cc)
+start_at unit v (suc k) more h = near_past (omega arith)
 
 then_both : (n u : ℕ) (f g : ℕ → ℕ) → ((k : ℕ) → Short n (f k) (g k)) → Short (suc n) (unit_then u f) (unit_then u g)
 then_both n zero f g h = inl refl
 then_both n (suc k) f g h = short_suc n (f k) (g k) (h k)
 
+then_near : {s : Bool} (n u : ℕ) (f g : ℕ → ℕ) → ((k : ℕ) → Near s n (f k) (g k)) → Near s (suc n) (unit_then u f) (unit_then u g)
+then_near n zero f g h = near_same refl
+then_near n (suc k) f g h = near_suc n (f k) (g k) (h k)
+
 then_far : (n u : ℕ) (f : ℕ → ℕ) → suc n < u → ((k : ℕ) → n < k → n < f k) → suc n < unit_then u f
 then_far n zero f far h = absurd (omega (arith, far))
 then_far n (suc k) f far h = let more = h k (omega (arith, far)) in omega (arith, more)
 
-then_at : (n u u' : ℕ) (f g : ℕ → ℕ) → Short (suc n) u u' → ((k : ℕ) → Short n (f k) (g k)) → ((k : ℕ) → n < k → n < f k)
-    → Short (suc n) (unit_then u f) (unit_then u' g)
-then_at n u u' f g (inl same) h far = subst (λ (w : ℕ). Short (suc n) (unit_then u f) (unit_then w g)) same (then_both n u f g h)
-then_at n u u' f g (inr long) h far = inr (then_far n u f long far)
+then_more : {s : Bool} (n u u' : ℕ) (f g : ℕ → ℕ) → u ≡ suc n → u' ≡ suc (suc n) → Near s n (f n) (g (suc n))
+    → Near s (suc n) (unit_then u f) (unit_then u' g)
+then_more {s = s} n u u' f g e e' h =
+    subst (λ (w : ℕ). Near s (suc n) (unit_then w f) (unit_then u' g)) (sym e)
+    (subst (λ (w : ℕ). Near s (suc n) (suc (f n)) (unit_then w g)) (sym e') (near_suc n (f n) (g (suc n)) h))
 
 run_far : (unit : List ℕ → ℕ) (x : List ℕ) (k : ℕ) → length x < k → length x < run_after unit k (x ++ spaced)
 unfolding run_after
@@ -337,20 +434,66 @@ run_far unit [] (suc k) e = omega arith
 run_far unit (a ∷ x) zero e = absurd (omega (arith, e))
 run_far unit (a ∷ x) (suc k) e = let more = run_far unit x k (omega (arith, e)) in omega (arith, more)
 
-run_after_at : (unit : List ℕ → ℕ) (v : List ℕ) → UnitAt unit v → (skip : ℕ) (x : List ℕ) → Apart x v
-    → Short (length x) (run_after unit skip (x ++ spaced)) (run_after unit skip (x ++ v))
+-- what a unit that ends with the text, or with the LF behind it, leaves
+left_run : (unit : List ℕ → ℕ) (x v : List ℕ) → run_after unit (length x) (x ++ v) ≡ length x + run unit v
 unfolding run_after
-run_after_at unit v local (suc skip) [] m = inr (omega arith)
-run_after_at unit v local zero [] m = start_at unit v (unit spaced) (λ k. run_after unit k (125 ∷ [])) (local [] m)
-run_after_at unit v local (suc skip) (a ∷ x) m = short_suc (length x) _ _ (run_after_at unit v local skip x (apart_tail v a x m))
-run_after_at unit v local zero (a ∷ x) m =
-    then_at (length x) (unit (a ∷ (x ++ spaced))) (unit (a ∷ (x ++ v))) (λ k. run_after unit k (x ++ spaced))
-    (λ k. run_after unit k (x ++ v))
-    (local (a ∷ x) m) (λ k. run_after_at unit v local k x (apart_tail v a x m)) (λ k e. run_far unit x k e)
+left_run unit [] v = omega arith
+left_run unit (a ∷ x) v = let more = left_run unit x v in omega (arith, more)
 
-pub run_at : (unit : List ℕ → ℕ) (v : List ℕ) → UnitAt unit v → (x : List ℕ) → Apart x v
-    → Short (length x) (run unit (x ++ spaced)) (run unit (x ++ v))
-run_at unit v local x m = run_after_at unit v local 0 x m
+left_line : (unit : List ℕ → ℕ) (x v : List ℕ) → begins (λ d. d == 10) v ≡ true
+    → run_after unit (suc (length x)) (x ++ v) ≡ suc (length x) + run unit (drop 1 v)
+unfolding run_after
+left_line unit [] [] e = absurd (cc)
+left_line unit [] (c ∷ v) e = omega arith
+left_line unit (a ∷ x) v e = let more = left_line unit x v e in omega (arith, more)
+
+both_left : {s : Bool} (unit : List ℕ → ℕ) (x v : List ℕ) → s ≡ true → begins (λ d. d == 10) v ≡ true → Ends unit v
+    → Near s (length x) (run_after unit (length x) (x ++ spaced)) (run_after unit (suc (length x)) (x ++ v))
+unfolding run_after
+both_left unit x v m line ends =
+    let one = left_run unit x spaced in
+    let two = left_line unit x v line in
+    elim ends [
+      | inl some ↦ near_past (let here = some_run (unit spaced) (λ k. run_after unit k (125 ∷ [])) some in omega (arith, one, here, first))
+      | inr none ↦
+          let a = none_here unit spaced none.0 in
+          let b = none_here unit (drop 1 v) (none.1 line) in
+          near_more m (omega (arith, one, a)) (omega (arith, two, b))
+    ]
+  where
+    some_run : (u : ℕ) (more : ℕ → ℕ) → 0 < u → 0 < unit_then u more
+    some_run zero more e = e
+    some_run (suc k) more e = omega arith
+
+    first : run unit spaced ≡ unit_then (unit spaced) (λ k. run_after unit k (125 ∷ []))
+    first = refl
+
+run_after_at : (unit : List ℕ → ℕ) (v : List ℕ) → UnitAt unit v → Ends unit v → (skip : ℕ) (x : List ℕ)
+    → Near (over_seam x v) (length x) (run_after unit skip (x ++ spaced)) (run_after unit skip (x ++ v))
+unfolding run_after
+run_after_at unit v local ends (suc skip) [] = near_past (omega arith)
+run_after_at unit v local ends zero [] = start_at unit v (unit spaced) (λ k. run_after unit k (125 ∷ [])) (local [])
+run_after_at unit v local ends (suc skip) (a ∷ x) =
+    near_wide (length (a ∷ x)) _ _ (seam_tail v a x) (near_suc (length x) _ _ (run_after_at unit v local ends skip x))
+run_after_at unit v local ends zero (a ∷ x) =
+    by (local (a ∷ x)) (λ k. near_wide (length x) _ _ (seam_tail v a x) (run_after_at unit v local ends k x))
+  where
+    by : Near (over_seam (a ∷ x) v) (length (a ∷ x)) (unit (a ∷ (x ++ spaced))) (unit (a ∷ (x ++ v)))
+        → ((k : ℕ) → Near (over_seam (a ∷ x) v) (length x) (run_after unit k (x ++ spaced)) (run_after unit k (x ++ v)))
+        → Near (over_seam (a ∷ x) v) (length (a ∷ x)) (unit_then (unit (a ∷ (x ++ spaced))) (λ k. run_after unit k (x ++ spaced)))
+        (unit_then (unit (a ∷ (x ++ v))) (λ k. run_after unit k (x ++ v)))
+    by (near_same same) below =
+        subst (λ (w : ℕ). Near (over_seam (a ∷ x) v) (length (a ∷ x))
+        (unit_then (unit (a ∷ (x ++ spaced))) (λ k. run_after unit k (x ++ spaced))) (unit_then w (λ k. run_after unit k (x ++ v)))) same
+        (then_near (length x) (unit (a ∷ (x ++ spaced))) (λ k. run_after unit k (x ++ spaced)) (λ k. run_after unit k (x ++ v)) below)
+    by (near_past far) below = near_past (then_far (length x) _ (λ k. run_after unit k (x ++ spaced)) far (λ k e. run_far unit x k e))
+    by (near_more m e n) below =
+        then_more (length x) _ _ (λ k. run_after unit k (x ++ spaced)) (λ k. run_after unit k (x ++ v)) e n
+        (both_left unit x v m (seam_line v (a ∷ x) m) ends)
+
+pub run_at : (unit : List ℕ → ℕ) (v : List ℕ) → UnitAt unit v → Ends unit v → (x : List ℕ)
+    → Near (over_seam x v) (length x) (run unit (x ++ spaced)) (run unit (x ++ v))
+run_at unit v local ends x = run_after_at unit v local ends 0 x
 
 -- a comment that is closed before the space is the same; the last code of a text closes none
 comment_after : (v : List ℕ) (skip : ℕ) (x : List ℕ)
@@ -395,6 +538,8 @@ facts_space rest quoted = record {
   name = refl;
   ident = refl;
   quoted = quoted;
+  next_name = λ e. absurd (cc);
+  next_round = λ e. absurd (cc);
 }
 
 pub facts_tab : (rest : List ℕ) → begins is_quote (drop (white_run (9 ∷ rest)) (9 ∷ rest)) ≡ false → Facts (9 ∷ rest)
@@ -418,11 +563,14 @@ facts_tab rest quoted = record {
   name = refl;
   ident = refl;
   quoted = quoted;
+  next_name = λ e. absurd (cc);
+  next_round = λ e. absurd (cc);
 }
 
-pub facts_line : (rest : List ℕ) → begins is_quote (drop (white_run (10 ∷ rest)) (10 ∷ rest)) ≡ false → Facts (10 ∷ rest)
+pub facts_line : (rest : List ℕ) → name_unit rest ≡ 0 → begins (λ d. d == 40) rest ≡ false
+    → begins is_quote (drop (white_run (10 ∷ rest)) (10 ∷ rest)) ≡ false → Facts (10 ∷ rest)
 unfolding escape_len
-facts_line rest quoted = record {
+facts_line rest name round quoted = record {
   hex = refl;
   digit = refl;
   quote = refl;
@@ -441,6 +589,8 @@ facts_line rest quoted = record {
   name = refl;
   ident = refl;
   quoted = quoted;
+  next_name = λ e. name;
+  next_round = λ e. round;
 }
 
 pub facts_feed : (rest : List ℕ) → begins is_quote (drop (white_run (12 ∷ rest)) (12 ∷ rest)) ≡ false → Facts (12 ∷ rest)
@@ -464,6 +614,8 @@ facts_feed rest quoted = record {
   name = refl;
   ident = refl;
   quoted = quoted;
+  next_name = λ e. absurd (cc);
+  next_round = λ e. absurd (cc);
 }
 
 pub facts_return : (rest : List ℕ) → begins is_quote (drop (white_run (13 ∷ rest)) (13 ∷ rest)) ≡ false → Facts (13 ∷ rest)
@@ -487,6 +639,8 @@ facts_return rest quoted = record {
   name = refl;
   ident = refl;
   quoted = quoted;
+  next_name = λ e. absurd (cc);
+  next_round = λ e. absurd (cc);
 }
 
 pub facts_comment : (rest : List ℕ) → Facts (47 ∷ 42 ∷ rest)
@@ -510,4 +664,6 @@ facts_comment rest = record {
   name = refl;
   ident = refl;
   quoted = refl;
+  next_name = λ e. absurd (cc);
+  next_round = λ e. absurd (cc);
 }

@@ -38,7 +38,7 @@ pub record SpotOf (text other : List ℕ) (r : RuleForm) (q : RulePart) (around 
   pub rest : List Token
   pub part : IsPart (level_of a) (rule_part q) rest
 
-names_media_is : (text : List ℕ) (keyword : Token) (prelude : List Token) (first : Token) (within : List Token) (last : Option Token)
+pub names_media_is : (text : List ℕ) (keyword : Token) (prelude : List Token) (first : Token) (within : List Token) (last : Option Token)
     (m : MediaForm)
     → media_form text (at_rule keyword prelude (block first within last)) ≡ Some m → names_media text keyword keyword.kind ≡ true
 unfolding media_form
@@ -51,13 +51,13 @@ names_media_is text keyword prelude first within last m e = by (names_media text
     by false is e = absurd (cc)
 
 -- a media rule's keyword, prelude and `{`, whatever stands behind
-record OpensMedia (m : MediaForm) (first : Token) (last : Option Token) (rest : List Token) : Type 0 where
-  at : m.keyword.kind ≡ tokens.AtKeyword
-  values : (others : List Token) → AreValues (outside stops.BlockOrSemicolon) m.prelude (first ∷ others)
-  curly : first.kind ≡ tokens.OpenCurly
-  fits : until stops.BlockEnd (m.inside ++ (option_to_list last ++ rest)) ≡ length m.inside
+pub record OpensMedia (m : MediaForm) (first : Token) (last : Option Token) (rest : List Token) : Type 0 where
+  pub at : m.keyword.kind ≡ tokens.AtKeyword
+  pub values : (others : List Token) → AreValues (outside stops.BlockOrSemicolon) m.prelude (first ∷ others)
+  pub curly : first.kind ≡ tokens.OpenCurly
+  pub fits : until stops.BlockEnd (m.inside ++ (option_to_list last ++ rest)) ≡ length m.inside
 
-opens_media : (level : Level) (m : MediaForm) (first : Token) (last : Option Token) (rest : List Token)
+pub opens_media : (level : Level) (m : MediaForm) (first : Token) (last : Option Token) (rest : List Token)
     → IsPart level (at_rule m.keyword m.prelude (block first m.inside last)) rest → OpensMedia m first last rest
 opens_media level m first last rest (at_rule_part _ _ _ at r) =
     let b = ended r.ends in
@@ -75,15 +75,17 @@ opens_media level m first last rest (at_rule_part _ _ _ at r) =
     ended (in_open_block _ _ k vs over) =
         (k, ap (λ (l : List Token). until stops.BlockEnd (m.inside ++ l)) over ∙ until_is stops.BlockEnd m.inside [] vs tt)
 
-module _ (text other : List ℕ) (s : ℕ) (same : SamePart text other (λ x. x) 0 s) (r : RuleForm) (q : RulePart) where
+module _ (text other : List ℕ) (s : ℕ) (same : SamePart text other (λ x. x) 0 s) where
   keep : (x : ℕ) → 0 ≤ x → x ≤ s → x ≡ x
   keep x a b = refl
 
-  form_stays : (p : PartForm) → AllTokens 0 s (part_pieces p) → media_form other p ≡ option_map (raised_media (λ x. x)) (media_form text p)
+  pub form_stays : (p : PartForm) → AllTokens 0 s (part_pieces p)
+      → media_form other p ≡ option_map (raised_media (λ x. x)) (media_form text p)
   form_stays p all =
       sym (ap (media_form other) (part_kept (λ x. x) 0 s keep p all)) ∙ form_same text other (λ x. x) 0 s same p all
 
-  media_stays : (p : PartForm) (m : MediaForm) → media_form text p ≡ Some m → AllTokens 0 s (part_pieces p) → media_form other p ≡ Some m
+  pub media_stays : (p : PartForm) (m : MediaForm) → media_form text p ≡ Some m → AllTokens 0 s (part_pieces p)
+      → media_form other p ≡ Some m
   media_stays p m e all =
       let both = form_in text 0 s p m e all in
       let b = tokens_kept (λ x. x) 0 s keep m.prelude both.0 in
@@ -91,11 +93,12 @@ module _ (text other : List ℕ) (s : ℕ) (same : SamePart text other (λ x. x)
       form_stays p all ∙ ap (option_map (raised_media (λ x. x))) e
       ∙ (λ i. Some (record { keyword = m.keyword; prelude = b i; inside = d i }))
 
-  record LaidToo (k : ℕ) (inner : List PartForm) (within : List Laid) : Type 0 where
-    are : AreLaid other (Some k) (suc k) inner within
-    count : length (media_in text within) ≡ length (media_in other within)
+  pub record LaidToo (k : ℕ) (inner : List PartForm) (within : List Laid) : Type 0 where
+    pub are : AreLaid other (Some k) (suc k) inner within
+    pub count : length (media_in text within) ≡ length (media_in other within)
 
-  laid_too : (k : ℕ) (inner : List PartForm) (within : List Laid) → AreLaid text (Some k) (suc k) inner within → AllTokens 0 s (flat inner)
+  pub laid_too : (k : ℕ) (inner : List PartForm) (within : List Laid)
+      → AreLaid text (Some k) (suc k) inner within → AllTokens 0 s (flat inner)
       → LaidToo k inner within
   laid_too k inner within own all =
       let inside = laid_in 0 s text (Some k) (suc k) inner within own all in
@@ -110,6 +113,7 @@ module _ (text other : List ℕ) (s : ℕ) (same : SamePart text other (λ x. x)
             ∙ ap (λ (ls : List Laid). length (media_in other ls)) kept;
       }
 
+module _ (text other : List ℕ) (s : ℕ) (same : SamePart text other (λ x. x) 0 s) (r : RuleForm) (q : RulePart) where
   -- a part with the rule behind it is one whatever stands behind
   any_rest : (level : Level) (p : PartForm) (ps : List PartForm) (xs more : List Token)
       → flat ps ≡ xs ++ q.brace ∷ (q.body ++ (option_to_list q.close ++ more)) → IsPart level p (flat ps)
@@ -146,7 +150,7 @@ module _ (text other : List ℕ) (s : ℕ) (same : SamePart text other (λ x. x)
         parted = join sub.front sub.parted;
         spot = spots.past_part p sub.rs sub.front
             (any_rest (level_of around) p ps xs more (path_flat text r q around k ps ls rs xs more path) all.0)
-            (form_stays p own ∙ ap (option_map (raised_media (λ x. x))) none) sub.spot;
+            (form_stays text other s same p own ∙ ap (option_map (raised_media (λ x. x))) none) sub.spot;
         rule = sub.rule;
         rest = sub.rest;
         part = sub.part;
@@ -160,7 +164,7 @@ module _ (text other : List ℕ) (s : ℕ) (same : SamePart text other (λ x. x)
       let own = (tokens_split 0 s (part_pieces p) sub.front (inside (part_pieces p ++ sub.front) (join sub.front sub.parted))).0 in
       let inner_all : AllTokens 0 s (flat inner) =
       subst (AllTokens 0 s) (flat_of Inner inner m.inside parts_own).0 (form_in text 0 s p m is own).1 in
-      let too = laid_too k inner within are inner_all in
+      let too = laid_too text other s same k inner within are inner_all in
       record {
         a = sub.a;
         j = sub.j;
@@ -169,7 +173,7 @@ module _ (text other : List ℕ) (s : ℕ) (same : SamePart text other (λ x. x)
         parted = join sub.front sub.parted;
         spot = spots.past_media p m inner within sub.rs sub.front
             (any_rest (level_of around) p ps xs more (path_flat text r q around i ps ls rs xs more path) all.0)
-            (media_stays p m is own) parts_own too.are
+            (media_stays text other s same p m is own) parts_own too.are
             (subst (λ (n : ℕ). Spot other around (suc k + n) sub.a sub.j sub.rs sub.front) too.count sub.spot);
         rule = sub.rule;
         rest = sub.rest;

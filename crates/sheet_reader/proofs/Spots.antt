@@ -61,18 +61,18 @@ pub record Led (text : List ℕ) (Own : RuleForm → Type 0) (rs : List RuleForm
   pub is : rules_in text ls ≡ rs ++ rule ∷ more
   pub own : Own rule
 
-take_front : (xs ys : List Token) (n : ℕ) → length xs ≤ n → take n (xs ++ ys) ≡ xs ++ take (n - length xs) ys
+pub take_front : (xs ys : List Token) (n : ℕ) → length xs ≤ n → take n (xs ++ ys) ≡ xs ++ take (n - length xs) ys
 take_front [] ys n fits = let same : n ≡ n - 0 = omega arith in ap (λ (m : ℕ). take m ys) same
 take_front (x ∷ xs) ys zero fits = absurd (omega (arith, fits))
 take_front (x ∷ xs) ys (suc n) fits =
     let same : n - length xs ≡ suc n - suc (length xs) = omega arith in
     ap (λ (l : List Token). x ∷ l) (take_front xs ys n (omega (arith, fits)) ∙ ap (λ (m : ℕ). xs ++ take m ys) same)
 
-closing : (k : TokenKind) → stops_at stops.BlockEnd k ≡ true → k ≡ tokens.CloseCurly
+pub closing : (k : TokenKind) → stops_at stops.BlockEnd k ≡ true → k ≡ tokens.CloseCurly
 closing tokens.CloseCurly e = refl
 closing _ e = absurd (cc)
 
-media_named : (text : List ℕ) (keyword : Token) (prelude : List Token) (first : Token) (inside : List Token) (last : Option Token)
+pub media_named : (text : List ℕ) (keyword : Token) (prelude : List Token) (first : Token) (inside : List Token) (last : Option Token)
     → names_media text keyword keyword.kind ≡ true
     → media_form text (at_rule keyword prelude (block first inside last))
     ≡ Some (record { keyword = keyword; prelude = prelude; inside = inside })
@@ -80,7 +80,7 @@ unfolding media_form
 media_named text keyword prelude first inside last named = rw named refl
 
 -- a text's pieces cut at the end of a block
-cut_is : (keyword first : Token) (prelude xs core inside last rest : List Token) → xs ++ core ≡ inside ++ (last ++ rest)
+pub cut_is : (keyword first : Token) (prelude xs core inside last rest : List Token) → xs ++ core ≡ inside ++ (last ++ rest)
     → ◌≡◌ {A = List Token} ((keyword ∷ (prelude ++ first ∷ xs)) ++ core) ((keyword ∷ (prelude ++ first ∷ (inside ++ last))) ++ rest)
 cut_is keyword first prelude xs core inside last rest e =
     ap (λ (l : List Token). keyword ∷ l)
@@ -154,7 +154,11 @@ module _ (text : List ℕ) (core : List Token) (Own : RuleForm → Type 0) (a : 
           let ls : List Laid = laid_out text around i rest in
           let is : ts ≡ part_pieces p ++ rest = cut_is keyword first prelude xs (core ++ zs) inside (option_to_list last) rest cut in
           let part : IsPart (level_of around) p rest = at_rule_part keyword prelude (block first inside last) at
-          (record { values = values ((inside ++ option_to_list last) ++ rest); stopped = ap (stops_at stops.BlockOrSemicolon) curly; ends = ends }) in
+          (record {
+            values = values ((inside ++ option_to_list last) ++ rest);
+            stopped = ap (stops_at stops.BlockOrSemicolon) curly;
+            ends = ends;
+          }) in
           let are : AreLaid text around k (p ∷ parts (level_of around) rest) (laid around p ∷ (within ++ ls)) =
           media_laid p m (parts Inner inside) (parts (level_of around) rest) within ls
           (media_named text keyword prelude first inside last named) (parts_spelled Inner inside)
@@ -247,7 +251,7 @@ nested_stays all (nested_and t close within ts b whole opened own closes more_ne
     opens_none true _ c e = refl
 
 -- a place where component values end as the search says
-values_at : (stop : Stop) (front rest : List Token) → until stop (front ++ rest) ≡ length front → AreValues (outside stop) front rest
+pub values_at : (stop : Stop) (front rest : List Token) → until stop (front ++ rest) ≡ length front → AreValues (outside stop) front rest
 values_at stop front rest e =
     let s = until_splits stop (front ++ rest) in
     let taken : take (until stop (front ++ rest)) (front ++ rest) ≡ front =

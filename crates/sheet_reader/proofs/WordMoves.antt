@@ -1,5 +1,5 @@
 -- Words that stand further back in another text, with the same codes up to a place: selectors are read from them as before.
-use Rattle.std.proofs.Common.{◌≡◌, ℕ, zero, suc, ◌+◌, ◌-◌, ◌<◌, ◌≤◌, ◌==◌, Bool, true, false, cond, ◌&&◌, nat_lt, List}
+use Rattle.std.proofs.Common.{◌≡◌, ◌⊎◌, inl, inr, ℕ, zero, suc, ◌+◌, ◌-◌, ◌<◌, ◌≤◌, ◌==◌, Bool, true, false, cond, ◌&&◌, nat_lt, List}
 use Rattle.std.proofs.Common.{[], ◌∷◌, ◌++◌, map}
 use Rattle.std.proofs.Common.{length, Option, Some, None, refl, ap, sym, ◌∙◌, subst, arith}
 use Rattle.std.specs.Prelude.{ℤ, slice_get, slice_index, option_map, codes}
@@ -9,7 +9,7 @@ use Rattle.css_tokens.specs.Escapes.{unescaped}
 use Rattle.css_tokens.specs.declared.token.Range.{Range}
 use Rattle.selectors.specs.declared.words.Word.{Word}
 use Rattle.selectors.specs.declared.words.WordKind.{WordKind}
-use Rattle.selectors.specs.declared.words.WordKind.TheVariants.{Ident, Function, Id, Mark}
+use Rattle.selectors.specs.declared.words.WordKind.TheVariants.{Ident, Function, Id, Mark, Str}
 use Rattle.selectors.specs.Words.{WordReading, word_reading, is_mark, between}
 use Rattle.selectors.specs.Forms.{TestForm, any, tag, id, class, nth, never, is, is_not, SelectorForm}
 use Rattle.selectors.specs.Forms.{◌>>=◌}
@@ -43,6 +43,16 @@ pub record SamePart (text other : List ℕ) (f : ℕ → ℕ) (lo hi : ℕ) : Ty
   pub code : (i : ℕ) → lo ≤ i → i < hi → slice_index text i ≡ slice_index other (f i)
   pub shift : (x k : ℕ) → lo ≤ x → x + k ≤ hi → f (x + k) ≡ f x + k
 
+-- The words of a text read as words of another: each with the values that selectors are read from, those of an ident, an id, a function
+-- and a string; what stands between a function and a word; and that one stands right behind another
+pub record SameWords (text other : List ℕ) (f : ℕ → ℕ) (In : Word → Type 0) : Type 0 where
+  pub value : (w : Word) → In w → w.kind ≡ Ident → word_value text w ≡ word_value other (raised_word f w)
+  pub hash : (w : Word) → In w → w.kind ≡ Id → hash_value text w ≡ hash_value other (raised_word f w)
+  pub function : (w : Word) → In w → w.kind ≡ Function → function_of text w ≡ function_of other (raised_word f w)
+  pub string : (w : Word) → In w → w.kind ≡ Str → string_of text w ≡ string_of other (raised_word f w)
+  pub inner : (w e : Word) → In w → In e → w.kind ≡ Function → between text w.end e.start ≡ between other (f w.end) (f e.start)
+  pub tight : (e w : Word) → In e → In w → (e.start == w.end) ≡ (f e.start == f w.end)
+
 -- a word between these places
 abbrev pub InWord : ℕ → ℕ → Word → Type 0
 InWord lo hi w = (lo ≤ w.start) × (w.start < w.end) × (w.end ≤ hi)
@@ -63,52 +73,8 @@ at_close text o = o >>= λ x. Some (x.0, word_reading text x.1)
 abbrev number_at : NthKind → ℕ → List ℕ → Option (Word × WordReading) → Option (TestForm × WordReading)
 number_at kind start text o = o >>= λ close. nth_of (between text start close.0.start) >>= λ v. Some (nth kind v.0 v.1, close.1)
 
+-- ---- words that stand in one piece
 module _ (text other : List ℕ) (f : ℕ → ℕ) (lo hi : ℕ) (same : SamePart text other f lo hi) where
-  abbrev here : List Word → WordReading
-  here ws = word_reading text ws
-
-  abbrev there : List Word → WordReading
-  there ws = word_reading other (map (raised_word f) ws)
-
-  data Agrees {A : Type 0} : Option (A × WordReading) → Option (A × WordReading) → Type 0 where
-    fails : Agrees None None
-    gives : (x : A) (ws : List Word) → AllIn lo hi ws → Agrees (Some (x, here ws)) (Some (x, there ws))
-
-  data Goes : Option WordReading → Option WordReading → Type 0 where
-    stuck : Goes None None
-    goes : (ws : List Word) → AllIn lo hi ws → Goes (Some (here ws)) (Some (there ws))
-
-  then_agrees : {A B : Type 0} (o o' : Option (A × WordReading)) (f g : A × WordReading → Option (B × WordReading)) → Agrees o o'
-      → ((x : A) (ws : List Word) → AllIn lo hi ws → Agrees (f (x, here ws)) (g (x, there ws))) → Agrees (o >>= f) (o' >>= g)
-  then_agrees _ _ f g fails more = fails
-  then_agrees _ _ f g (gives x ws all) more = more x ws all
-
-  goes_agrees : {B : Type 0} (o o' : Option WordReading) (f g : WordReading → Option (B × WordReading)) → Goes o o'
-      → ((ws : List Word) → AllIn lo hi ws → Agrees (f (here ws)) (g (there ws))) → Agrees (o >>= f) (o' >>= g)
-  goes_agrees _ _ f g stuck more = fails
-  goes_agrees _ _ f g (goes ws all) more = more ws all
-
-  either_agrees : {A : Type 0} (b : Bool) (x y x' y' : Option (A × WordReading)) → Agrees x x' → Agrees y y'
-      → Agrees (cond b x y) (cond b x' y')
-  either_agrees true x y x' y' h k = h
-  either_agrees false x y x' y' h k = k
-
-  test_agrees : {A : Type 0} (b c : Bool) (x y x' y' : Option (A × WordReading)) → b ≡ c → Agrees x x' → Agrees y y'
-      → Agrees (cond b x y) (cond c x' y')
-  test_agrees b c x y x' y' e h k = subst (λ (t : Bool). Agrees (cond b x y) (cond t x' y')) e (either_agrees b x y x' y' h k)
-
-  rest_agrees : {A : Type 0} (o o' : Option A) (ws : List Word) → o ≡ o' → AllIn lo hi ws
-      → Agrees (with_rest o (here ws)) (with_rest o' (there ws))
-  rest_agrees {A = A} o o' ws e all = subst (λ (x : Option A). Agrees (with_rest o (here ws)) (with_rest x (there ws))) e (by o)
-    where
-      by : (o : Option A) → Agrees (with_rest o (here ws)) (with_rest o (there ws))
-      by None = fails
-      by (Some x) = gives x ws all
-
-  give_agrees : {A : Type 0} (x y : A) (ws : List Word) → x ≡ y → AllIn lo hi ws → Agrees (Some (x, here ws)) (Some (y, there ws))
-  give_agrees {A = A} x y ws e all = subst (λ (z : A). Agrees (Some (x, here ws)) (Some (z, there ws))) e (gives x ws all)
-
-  -- ---- words
   pub place_at : (x : ℕ) → lo ≤ x → x ≤ hi → f x ≡ f lo + (x - lo)
   place_at x a b =
       let is : lo + (x - lo) ≡ x = omega (arith, a) in
@@ -174,6 +140,92 @@ module _ (text other : List ℕ) (f : ℕ → ℕ) (lo hi : ℕ) (same : SamePar
       ∙ ap (λ (k : ℕ). between other k (f (string_end text w))) (next_place w.start i.0 (omega (arith, i.1, i.2)))
       ∙ ap (between other (f w.start + 1)) (string_end_same w i))
 
+  nth_same : (w e : Word) → InWord lo hi w → InWord lo hi e → between text w.end e.start ≡ between other (f w.end) (f e.start)
+  nth_same w e i j = same.cut w.end e.start (omega (arith, i.0, i.1)) i.2 j.0 (omega (arith, j.1, j.2))
+
+  tight_places : (e w : Word) → InWord lo hi e → InWord lo hi w → (e.start == w.end) ≡ (f e.start == f w.end)
+  tight_places e w j i =
+      equal_places (f e.start) (f w.end) e.start w.end lo (f lo) (place_at e.start j.0 (omega (arith, j.1, j.2)))
+      (place_at w.end (omega (arith, i.0, i.1)) i.2) j.0 (omega (arith, i.0, i.1))
+
+  pub part_words : SameWords text other f (InWord lo hi)
+  part_words = record {
+    value = λ w i k. value_same w i;
+    hash = λ w i k. hash_same w i;
+    function = λ w i k. function_same w i;
+    string = λ w i k. string_same w i;
+    inner = λ w e i j k. nth_same w e i j;
+    tight = λ e w j i. tight_places e w j i;
+  }
+
+-- words that are all so
+abbrev pub AllWords : (Word → Type 0) → List Word → Type 0
+AllWords In [] = Unit {0}
+AllWords In (w ∷ ws) = In w × AllWords In ws
+
+-- ---- ranges
+module _ (f : ℕ → ℕ) where
+  range_by_same : (a b : Option Word) → range_by (option_map (raised_word f) a) (option_map (raised_word f) b)
+      ≡ option_map (placed_range f) (range_by a b)
+  range_by_same None b = refl
+  range_by_same (Some a) None = refl
+  range_by_same (Some a) (Some b) = refl
+
+  pub range_kept : (ws : List Word) → range_of (map (raised_word f) ws) ≡ option_map (placed_range f) (range_of ws)
+  range_kept ws =
+      ap (λ (n : ℕ). range_by (slice_get (map (raised_word f) ws) 0) (slice_get (map (raised_word f) ws) (n - 1)))
+      (map_length (raised_word f) ws)
+      ∙ ap (λ (o : Option Word). range_by o (slice_get (map (raised_word f) ws) (length ws - 1))) (map_get (raised_word f) 0 ws)
+      ∙ ap (range_by (option_map (raised_word f) (slice_get ws 0))) (map_get (raised_word f) (length ws - 1) ws)
+      ∙ range_by_same (slice_get ws 0) (slice_get ws (length ws - 1))
+
+-- ---- selectors
+module _ (text other : List ℕ) (f : ℕ → ℕ) (In : Word → Type 0) (same : SameWords text other f In) where
+  abbrev here : List Word → WordReading
+  here ws = word_reading text ws
+
+  abbrev there : List Word → WordReading
+  there ws = word_reading other (map (raised_word f) ws)
+
+  data Agrees {A : Type 0} : Option (A × WordReading) → Option (A × WordReading) → Type 0 where
+    fails : Agrees None None
+    gives : (x : A) (ws : List Word) → AllWords In ws → Agrees (Some (x, here ws)) (Some (x, there ws))
+
+  data Goes : Option WordReading → Option WordReading → Type 0 where
+    stuck : Goes None None
+    goes : (ws : List Word) → AllWords In ws → Goes (Some (here ws)) (Some (there ws))
+
+  then_agrees : {A B : Type 0} (o o' : Option (A × WordReading)) (f g : A × WordReading → Option (B × WordReading)) → Agrees o o'
+      → ((x : A) (ws : List Word) → AllWords In ws → Agrees (f (x, here ws)) (g (x, there ws))) → Agrees (o >>= f) (o' >>= g)
+  then_agrees _ _ f g fails more = fails
+  then_agrees _ _ f g (gives x ws all) more = more x ws all
+
+  goes_agrees : {B : Type 0} (o o' : Option WordReading) (f g : WordReading → Option (B × WordReading)) → Goes o o'
+      → ((ws : List Word) → AllWords In ws → Agrees (f (here ws)) (g (there ws))) → Agrees (o >>= f) (o' >>= g)
+  goes_agrees _ _ f g stuck more = fails
+  goes_agrees _ _ f g (goes ws all) more = more ws all
+
+  either_agrees : {A : Type 0} (b : Bool) (x y x' y' : Option (A × WordReading)) → Agrees x x' → Agrees y y'
+      → Agrees (cond b x y) (cond b x' y')
+  either_agrees true x y x' y' h k = h
+  either_agrees false x y x' y' h k = k
+
+  test_agrees : {A : Type 0} (b c : Bool) (x y x' y' : Option (A × WordReading)) → b ≡ c → Agrees x x' → Agrees y y'
+      → Agrees (cond b x y) (cond c x' y')
+  test_agrees b c x y x' y' e h k = subst (λ (t : Bool). Agrees (cond b x y) (cond t x' y')) e (either_agrees b x y x' y' h k)
+
+  rest_agrees : {A : Type 0} (o o' : Option A) (ws : List Word) → o ≡ o' → AllWords In ws
+      → Agrees (with_rest o (here ws)) (with_rest o' (there ws))
+  rest_agrees {A = A} o o' ws e all = subst (λ (x : Option A). Agrees (with_rest o (here ws)) (with_rest x (there ws))) e (by o)
+    where
+      by : (o : Option A) → Agrees (with_rest o (here ws)) (with_rest o (there ws))
+      by None = fails
+      by (Some x) = gives x ws all
+
+  give_agrees : {A : Type 0} (x y : A) (ws : List Word) → x ≡ y → AllWords In ws → Agrees (Some (x, here ws)) (Some (y, there ws))
+  give_agrees {A = A} x y ws e all = subst (λ (z : A). Agrees (Some (x, here ws)) (Some (z, there ws))) e (gives x ws all)
+
+  -- ---- words
   first_same : (p : WordKind → Bool) (ws : List Word) → first_is (λ w. p w.kind) ws ≡ first_is (λ w. p w.kind) (map (raised_word f) ws)
   first_same p [] = refl
   first_same p (w ∷ ws) = refl
@@ -182,7 +234,7 @@ module _ (text other : List ℕ) (f : ℕ → ℕ) (lo hi : ℕ) (same : SamePar
   tight_same [] = refl
   tight_same (w ∷ ws) = refl
 
-  mark_goes : (c : ℕ) (ws : List Word) → AllIn lo hi ws → Goes (take_mark c (here ws)) (take_mark c (there ws))
+  mark_goes : (c : ℕ) (ws : List Word) → AllWords In ws → Goes (take_mark c (here ws)) (take_mark c (there ws))
   mark_goes c [] all = stuck
   mark_goes c (w ∷ ws) all = by (is_mark c w.kind)
     where
@@ -190,7 +242,7 @@ module _ (text other : List ℕ) (f : ℕ → ℕ) (lo hi : ℕ) (same : SamePar
       by true = goes ws all.1
       by false = stuck
 
-  tight_mark_goes : (c : ℕ) (ws : List Word) → AllIn lo hi ws → Goes (tight_mark_at c (here ws)) (tight_mark_at c (there ws))
+  tight_mark_goes : (c : ℕ) (ws : List Word) → AllWords In ws → Goes (tight_mark_at c (here ws)) (tight_mark_at c (there ws))
   tight_mark_goes c ws all =
       subst (λ (b : Bool). Goes (cond (is_tight (here ws)) (take_mark c (here ws)) None) (cond b (take_mark c (there ws)) None))
       (tight_same ws)
@@ -200,26 +252,41 @@ module _ (text other : List ℕ) (f : ℕ → ℕ) (lo hi : ℕ) (same : SamePar
       by true = mark_goes c ws all
       by false = stuck
 
-  ident_agrees : (ws : List Word) → AllIn lo hi ws → Agrees (ident_at (here ws)) (ident_at (there ws))
+  -- what is read from the value turns on it for an ident alone
+  by_ident : {A : Type 0} (g : List ℕ → WordKind → A) (w : Word) → In w → ((k : WordKind) → (k ≡ Ident) ⊎ ((x y : List ℕ) → g x k ≡ g y k))
+      → g (word_value text w) w.kind ≡ g (word_value other (raised_word f w)) w.kind
+  by_ident g w i each = by (each w.kind)
+    where
+      by : (w.kind ≡ Ident) ⊎ ((x y : List ℕ) → g x w.kind ≡ g y w.kind)
+          → g (word_value text w) w.kind ≡ g (word_value other (raised_word f w)) w.kind
+      by (inl e) = ap (λ (v : List ℕ). g v w.kind) (same.value w i e)
+      by (inr either) = either (word_value text w) (word_value other (raised_word f w))
+
+  ident_same : (w : Word) → In w → ident_value (word_value text w) w.kind ≡ ident_value (word_value other (raised_word f w)) w.kind
+  ident_same w i = by_ident ident_value w i each
+    where
+      each : (k : WordKind) → (k ≡ Ident) ⊎ ((x y : List ℕ) → ident_value x k ≡ ident_value y k)
+      each Ident = inl refl
+      each _ = inr (λ x y. refl)
+
+  ident_agrees : (ws : List Word) → AllWords In ws → Agrees (ident_at (here ws)) (ident_at (there ws))
   unfolding ident_at
   ident_agrees [] all = fails
-  ident_agrees (w ∷ ws) all = rest_agrees _ _ ws (ap (λ (v : List ℕ). ident_value v w.kind) (value_same w all.0)) all.1
+  ident_agrees (w ∷ ws) all = rest_agrees _ _ ws (ident_same w all.0) all.1
 
-  tight_ident_agrees : (ws : List Word) → AllIn lo hi ws → Agrees (tight_ident_at (here ws)) (tight_ident_at (there ws))
+  tight_ident_agrees : (ws : List Word) → AllWords In ws → Agrees (tight_ident_at (here ws)) (tight_ident_at (there ws))
   tight_ident_agrees ws all = test_agrees _ _ _ _ _ _ (tight_same ws) (ident_agrees ws all) fails
 
   -- ---- attribute selectors
-  equals_agrees : (w : Word) (op : _) (ws : List Word) → InWord lo hi w → AllIn lo hi ws
+  equals_agrees : (w : Word) (op : _) (ws : List Word) → In w → AllWords In ws
       → Agrees (equals_at w op (here ws)) (equals_at (raised_word f w) op (there ws))
   equals_agrees w op [] i all = fails
   equals_agrees w op (e ∷ ws) i all =
-      let j = all.0 in
-      let eq = equal_places (f e.start) (f w.end) e.start w.end lo (f lo) (place_at e.start j.0 (omega (arith, j.1, j.2)))
-      (place_at w.end (omega (arith, i.0, i.1)) i.2) j.0 (omega (arith, i.0, i.1)) in
+      let eq = same.tight e w all.0 i in
       test_agrees (is_mark 61 e.kind && e.start == w.end) _ _ _ _ _ (ap (λ (b : Bool). is_mark 61 e.kind && b) eq)
       (gives op ws all.1) fails
 
-  operator_agrees : (ws : List Word) → AllIn lo hi ws → Agrees (operator_at (here ws)) (operator_at (there ws))
+  operator_agrees : (ws : List Word) → AllWords In ws → Agrees (operator_at (here ws)) (operator_at (there ws))
   unfolding operator_at
   operator_agrees [] all = fails
   operator_agrees (w ∷ ws) all = either_agrees (is_mark 61 w.kind) _ _ _ _ (gives _ ws all.1) (by (operator_of w.kind))
@@ -228,24 +295,28 @@ module _ (text other : List ℕ) (f : ℕ → ℕ) (lo hi : ℕ) (same : SamePar
       by None = fails
       by (Some op) = equals_agrees w op ws all.0 all.1
 
-  operand_agrees : (ws : List Word) → AllIn lo hi ws → Agrees (operand_at (here ws)) (operand_at (there ws))
+  operand_same : (w : Word) → In w → (k : WordKind) → w.kind ≡ k → operand_by (word_value text w) (string_of text w) k
+      ≡ operand_by (word_value other (raised_word f w)) (string_of other (raised_word f w)) k
+  operand_same w i Ident e = ap (λ (v : List ℕ). Some v) (same.value w i e)
+  operand_same w i Str e = ap (λ (v : List ℕ). Some v) (same.string w i e)
+  operand_same w i _ e = refl
+
+  operand_agrees : (ws : List Word) → AllWords In ws → Agrees (operand_at (here ws)) (operand_at (there ws))
   unfolding operand_at
   operand_agrees [] all = fails
   operand_agrees (w ∷ ws) all =
-      let a = value_same w all.0 in
-      let b = string_same w all.0 in
-      rest_agrees _ _ ws (λ i. operand_by (a i) (b i) w.kind) all.1
+      rest_agrees _ _ ws (operand_same w all.0 w.kind refl) all.1
 
-  exists_agrees : (name : List ℕ) (ws : List Word) → AllIn lo hi ws → Agrees (exists_at name (here ws)) (exists_at name (there ws))
+  exists_agrees : (name : List ℕ) (ws : List Word) → AllWords In ws → Agrees (exists_at name (here ws)) (exists_at name (there ws))
   exists_agrees name ws all = goes_agrees _ _ _ _ (mark_goes 93 ws all) (λ xs a. gives _ xs a)
 
-  compare_agrees : (name : List ℕ) (ws : List Word) → AllIn lo hi ws → Agrees (compare_at name (here ws)) (compare_at name (there ws))
+  compare_agrees : (name : List ℕ) (ws : List Word) → AllWords In ws → Agrees (compare_at name (here ws)) (compare_at name (there ws))
   compare_agrees name ws all =
       then_agrees _ _ _ _ (operator_agrees ws all) (λ op xs a.
       then_agrees _ _ _ _ (operand_agrees xs a) (λ operand ys b.
       goes_agrees _ _ _ _ (mark_goes 93 ys b) (λ zs c. gives _ zs c)))
 
-  attribute_agrees : (ws : List Word) → AllIn lo hi ws → Agrees (attribute_at (here ws)) (attribute_at (there ws))
+  attribute_agrees : (ws : List Word) → AllWords In ws → Agrees (attribute_at (here ws)) (attribute_at (there ws))
   unfolding attribute_at
   attribute_agrees ws all = then_agrees _ _ _ _ (ident_agrees ws all) (λ name xs a.
       test_agrees _ _ _ _ _ _ (first_same (is_mark 93) xs) (exists_agrees name xs a) (compare_agrees name xs a))
@@ -253,10 +324,10 @@ module _ (text other : List ℕ) (f : ℕ → ℕ) (lo hi : ℕ) (same : SamePar
   -- ---- pseudo-classes
   data Closes : Option (Word × List Word) → Option (Word × List Word) → Type 0 where
     never_closes : Closes None None
-    closes_at : (w : Word) (ws : List Word) → InWord lo hi w → AllIn lo hi ws
+    closes_at : (w : Word) (ws : List Word) → In w → AllWords In ws
         → Closes (Some (w, ws)) (Some (raised_word f w, map (raised_word f) ws))
 
-  closing_same : (ws : List Word) → AllIn lo hi ws → Closes (closing ws) (closing (map (raised_word f) ws))
+  closing_same : (ws : List Word) → AllWords In ws → Closes (closing ws) (closing (map (raised_word f) ws))
   unfolding closing
   closing_same [] all = never_closes
   closing_same (w ∷ ws) all = by (is_mark 41 w.kind) (closing_same ws all.1)
@@ -267,89 +338,89 @@ module _ (text other : List ℕ) (f : ℕ → ℕ) (lo hi : ℕ) (same : SamePar
       by true h = closes_at w ws all.0 all.1
       by false h = h
 
-  nth_agrees : (kind : NthKind) (start : ℕ) (ws : List Word) → lo ≤ start → start ≤ hi → AllIn lo hi ws
-      → Agrees (nth_at kind start (here ws)) (nth_at kind (f start) (there ws))
+  nth_agrees : (kind : NthKind) (v : Word) (ws : List Word) → In v → v.kind ≡ Function → AllWords In ws
+      → Agrees (nth_at kind v.end (here ws)) (nth_at kind (f v.end) (there ws))
   unfolding nth_at
-  nth_agrees kind start ws least most all = by (closing ws) (closing (map (raised_word f) ws)) (closing_same ws all)
+  nth_agrees kind v ws own e all = by (closing ws) (closing (map (raised_word f) ws)) (closing_same ws all)
     where
-      with_number : (o : Option (ℤ × ℤ)) (ws : List Word) → AllIn lo hi ws
+      with_number : (o : Option (ℤ × ℤ)) (ws : List Word) → AllWords In ws
           → Agrees (o >>= λ v. Some (nth kind v.0 v.1, here ws)) (o >>= λ v. Some (nth kind v.0 v.1, there ws))
       with_number None ws all = fails
       with_number (Some v) ws all = gives (nth kind v.0 v.1) ws all
 
       by : (o o' : Option (Word × List Word)) → Closes o o'
-          → Agrees (number_at kind start text (at_close text o)) (number_at kind (f start) other (at_close other o'))
+          → Agrees (number_at kind v.end text (at_close text o)) (number_at kind (f v.end) other (at_close other o'))
       by _ _ never_closes = fails
       by _ _ (closes_at w ws i a) =
-          subst (λ (t : List ℕ). Agrees (nth_of (between text start w.start) >>= λ v. Some (nth kind v.0 v.1, here ws))
-          (nth_of t >>= λ v. Some (nth kind v.0 v.1, there ws))) (same.cut start w.start least most i.0 (omega (arith, i.1, i.2)))
-          (with_number (nth_of (between text start w.start)) ws a)
+          subst (λ (t : List ℕ). Agrees (nth_of (between text v.end w.start) >>= λ n. Some (nth kind n.0 n.1, here ws))
+          (nth_of t >>= λ n. Some (nth kind n.0 n.1, there ws))) (same.inner v w own i e)
+          (with_number (nth_of (between text v.end w.start)) ws a)
 
-  lang_agrees : (ws : List Word) → AllIn lo hi ws → Agrees (lang_at (here ws)) (lang_at (there ws))
+  lang_agrees : (ws : List Word) → AllWords In ws → Agrees (lang_at (here ws)) (lang_at (there ws))
   unfolding lang_at
   lang_agrees ws all = then_agrees _ _ _ _ (tight_ident_agrees ws all) (λ i xs a.
       goes_agrees _ _ _ _ (tight_mark_goes 41 xs a) (λ ys b. gives never ys b))
 
-  function_agrees : (name : List ℕ) (start : ℕ) (ws : List Word) → lo ≤ start → start ≤ hi → AllIn lo hi ws
-      → Agrees (function_at name start (here ws)) (function_at name (f start) (there ws))
+  function_agrees : (name : List ℕ) (v : Word) (ws : List Word) → In v → v.kind ≡ Function → AllWords In ws
+      → Agrees (function_at name v.end (here ws)) (function_at name (f v.end) (there ws))
   unfolding function_at
-  function_agrees name start ws least most all = either_agrees (is_named (codes "lang") name) _ _ _ _ (lang_agrees ws all)
+  function_agrees name v ws own e all = either_agrees (is_named (codes "lang") name) _ _ _ _ (lang_agrees ws all)
       (by (nth_kind name))
     where
-      by : (o : _) → Agrees (o >>= λ kind. nth_at kind start (here ws)) (o >>= λ kind. nth_at kind (f start) (there ws))
+      by : (o : _) → Agrees (o >>= λ kind. nth_at kind v.end (here ws)) (o >>= λ kind. nth_at kind (f v.end) (there ws))
       by None = fails
-      by (Some kind) = nth_agrees kind start ws least most all
+      by (Some kind) = nth_agrees kind v ws own e all
 
   -- ---- simple selectors
-  class_agrees : (ws : List Word) → AllIn lo hi ws → Agrees (class_at (here ws)) (class_at (there ws))
+  class_agrees : (ws : List Word) → AllWords In ws → Agrees (class_at (here ws)) (class_at (there ws))
   class_agrees ws all = then_agrees _ _ _ _ (tight_ident_agrees ws all) (λ n xs a. gives (class n) xs a)
 
-  plain_by_agrees : (w : Word) (ws : List Word) (k : WordKind) → InWord lo hi w → AllIn lo hi ws
+  plain_by_agrees : (w : Word) (ws : List Word) (k : WordKind) → w.kind ≡ k → In w → AllWords In ws
       → Agrees (plain_by w (here ws) k) (plain_by (raised_word f w) (there ws) k)
-  plain_by_agrees w ws Id i all = give_agrees _ _ ws (ap id (hash_same w i)) all
-  plain_by_agrees w ws (Mark c) i all = either_agrees (c == 46) _ _ _ _ (class_agrees ws all)
+  plain_by_agrees w ws Id e i all = give_agrees _ _ ws (ap id (same.hash w i e)) all
+  plain_by_agrees w ws (Mark c) e i all = either_agrees (c == 46) _ _ _ _ (class_agrees ws all)
       (either_agrees (c == 91) _ _ _ _ (attribute_agrees ws all) fails)
-  plain_by_agrees w ws _ i all = fails
+  plain_by_agrees w ws _ e i all = fails
 
-  plain_agrees : (w : Word) (ws : List Word) → InWord lo hi w → AllIn lo hi ws
+  plain_agrees : (w : Word) (ws : List Word) → In w → AllWords In ws
       → Agrees (plain_from w (here ws)) (plain_from (raised_word f w) (there ws))
   unfolding plain_from
-  plain_agrees w ws i all = plain_by_agrees w ws w.kind i all
+  plain_agrees w ws i all = plain_by_agrees w ws w.kind refl i all
 
-  named_agrees : (w : Word) (ws : List Word) → InWord lo hi w → AllIn lo hi ws
+  named_agrees : (w : Word) (ws : List Word) → w.kind ≡ Ident → In w → AllWords In ws
       → Agrees (named_at w (here ws)) (named_at (raised_word f w) (there ws))
-  named_agrees w ws i all = rest_agrees _ _ ws (ap pseudo_class (lower_same w i)) all
+  named_agrees w ws e i all = rest_agrees _ _ ws (ap (λ (v : List ℕ). pseudo_class (map to_ascii_lowercase v)) (same.value w i e)) all
 
-  called_agrees : (w : Word) (ws : List Word) → InWord lo hi w → AllIn lo hi ws
+  called_agrees : (w : Word) (ws : List Word) → w.kind ≡ Function → In w → AllWords In ws
       → Agrees (called_at w (here ws)) (called_at (raised_word f w) (there ws))
-  called_agrees w ws i all = subst (λ (t : List ℕ). Agrees (function_at (function_of text w) w.end (here ws))
+  called_agrees w ws e i all = subst (λ (t : List ℕ). Agrees (function_at (function_of text w) w.end (here ws))
       (function_at t (f w.end) (there ws)))
-      (function_same w i) (function_agrees (function_of text w) w.end ws (omega (arith, i.0, i.1)) i.2 all)
+      (same.function w i e) (function_agrees (function_of text w) w ws i e all)
 
-  pseudo_by_agrees : (w : Word) (ws : List Word) (k : WordKind) → InWord lo hi w → AllIn lo hi ws
+  pseudo_by_agrees : (w : Word) (ws : List Word) (k : WordKind) → w.kind ≡ k → In w → AllWords In ws
       → Agrees (pseudo_by w (here ws) k) (pseudo_by (raised_word f w) (there ws) k)
-  pseudo_by_agrees w ws Ident i all = named_agrees w ws i all
-  pseudo_by_agrees w ws Function i all = called_agrees w ws i all
-  pseudo_by_agrees w ws _ i all = fails
+  pseudo_by_agrees w ws Ident e i all = named_agrees w ws e i all
+  pseudo_by_agrees w ws Function e i all = called_agrees w ws e i all
+  pseudo_by_agrees w ws _ e i all = fails
 
-  pseudo_agrees : (ws : List Word) → AllIn lo hi ws → Agrees (pseudo_at (here ws)) (pseudo_at (there ws))
+  pseudo_agrees : (ws : List Word) → AllWords In ws → Agrees (pseudo_at (here ws)) (pseudo_at (there ws))
   unfolding pseudo_at
   pseudo_agrees [] all = fails
-  pseudo_agrees (w ∷ ws) all = either_agrees w.spaced _ _ _ _ fails (pseudo_by_agrees w ws w.kind all.0 all.1)
+  pseudo_agrees (w ∷ ws) all = either_agrees w.spaced _ _ _ _ fails (pseudo_by_agrees w ws w.kind refl all.0 all.1)
 
-  argument_by_agrees : (w : Word) (ws : List Word) (k : WordKind) → InWord lo hi w → AllIn lo hi ws
+  argument_by_agrees : (w : Word) (ws : List Word) (k : WordKind) → w.kind ≡ k → In w → AllWords In ws
       → Agrees (argument_by w (here ws) k) (argument_by (raised_word f w) (there ws) k)
-  argument_by_agrees w ws Ident i all = give_agrees _ _ ws (ap tag (value_same w i)) all
-  argument_by_agrees w ws (Mark c) i all = either_agrees (c == 42) _ _ _ _ (gives any ws all)
+  argument_by_agrees w ws Ident e i all = give_agrees _ _ ws (ap tag (same.value w i e)) all
+  argument_by_agrees w ws (Mark c) e i all = either_agrees (c == 42) _ _ _ _ (gives any ws all)
       (either_agrees (c == 58) _ _ _ _ (pseudo_agrees ws all) (plain_agrees w ws i all))
-  argument_by_agrees w ws _ i all = plain_agrees w ws i all
+  argument_by_agrees w ws _ e i all = plain_agrees w ws i all
 
-  argument_agrees : (ws : List Word) → AllIn lo hi ws → Agrees (argument_at (here ws)) (argument_at (there ws))
+  argument_agrees : (ws : List Word) → AllWords In ws → Agrees (argument_at (here ws)) (argument_at (there ws))
   unfolding argument_from
   argument_agrees [] all = fails
-  argument_agrees (w ∷ ws) all = argument_by_agrees w ws w.kind all.0 all.1
+  argument_agrees (w ∷ ws) all = argument_by_agrees w ws w.kind refl all.0 all.1
 
-  not_agrees : (ws : List Word) → AllIn lo hi ws → Agrees (not_at (here ws)) (not_at (there ws))
+  not_agrees : (ws : List Word) → AllWords In ws → Agrees (not_at (here ws)) (not_at (there ws))
   unfolding not_at
   not_agrees ws all = then_agrees _ _ _ _ (argument_agrees ws all) (λ t xs a.
       goes_agrees _ _ _ _ (mark_goes 41 xs a) (λ ys b. gives t ys b))
@@ -362,57 +433,55 @@ module _ (text other : List ℕ) (f : ℕ → ℕ) (lo hi : ℕ) (same : SamePar
   item_is_not_agrees _ _ fails = fails
   item_is_not_agrees _ _ (gives x ws all) = gives (is_not x ∷ [], false) ws all
 
-  element_agrees : (ws : List Word) → AllIn lo hi ws → Agrees (element_at (here ws)) (element_at (there ws))
+  element_agrees : (ws : List Word) → AllWords In ws → Agrees (element_at (here ws)) (element_at (there ws))
   unfolding element_at
   element_agrees ws all = then_agrees _ _ _ _ (tight_ident_agrees ws all) (λ n xs a.
       either_agrees (is_pseudo_element (map to_ascii_lowercase n)) _ _ _ _ (gives ([], true) xs a) fails)
 
-  colon_named_agrees : (w : Word) (ws : List Word) → InWord lo hi w → AllIn lo hi ws
+  colon_named_agrees : (w : Word) (ws : List Word) → w.kind ≡ Ident → In w → AllWords In ws
       → Agrees (colon_named w (here ws)) (colon_named (raised_word f w) (there ws))
-  colon_named_agrees w ws i all = test_agrees _ _ _ _ _ _ (ap is_pseudo_element (lower_same w i)) (gives ([], true) ws all)
-      (item_is_agrees _ _ (named_agrees w ws i all))
+  colon_named_agrees w ws e i all = test_agrees _ _ _ _ _ _
+      (ap (λ (v : List ℕ). is_pseudo_element (map to_ascii_lowercase v)) (same.value w i e)) (gives ([], true) ws all)
+      (item_is_agrees _ _ (named_agrees w ws e i all))
 
-  colon_called_agrees : (w : Word) (ws : List Word) → InWord lo hi w → AllIn lo hi ws
+  colon_called_agrees : (w : Word) (ws : List Word) → w.kind ≡ Function → In w → AllWords In ws
       → Agrees (colon_called w (here ws)) (colon_called (raised_word f w) (there ws))
-  colon_called_agrees w ws i all = test_agrees _ _ _ _ _ _ (ap (is_named (codes "not")) (function_same w i))
-      (item_is_not_agrees _ _ (not_agrees ws all)) (item_is_agrees _ _ (called_agrees w ws i all))
+  colon_called_agrees w ws e i all = test_agrees _ _ _ _ _ _ (ap (is_named (codes "not")) (same.function w i e))
+      (item_is_not_agrees _ _ (not_agrees ws all)) (item_is_agrees _ _ (called_agrees w ws e i all))
 
-  colon_by_agrees : (w : Word) (ws : List Word) (k : WordKind) → InWord lo hi w → AllIn lo hi ws
+  colon_by_agrees : (w : Word) (ws : List Word) (k : WordKind) → w.kind ≡ k → In w → AllWords In ws
       → Agrees (colon_by w (here ws) k) (colon_by (raised_word f w) (there ws) k)
-  colon_by_agrees w ws Ident i all = colon_named_agrees w ws i all
-  colon_by_agrees w ws Function i all = colon_called_agrees w ws i all
-  colon_by_agrees w ws (Mark c) i all = either_agrees (c == 58) _ _ _ _ (element_agrees ws all) fails
-  colon_by_agrees w ws _ i all = fails
+  colon_by_agrees w ws Ident e i all = colon_named_agrees w ws e i all
+  colon_by_agrees w ws Function e i all = colon_called_agrees w ws e i all
+  colon_by_agrees w ws (Mark c) e i all = either_agrees (c == 58) _ _ _ _ (element_agrees ws all) fails
+  colon_by_agrees w ws _ e i all = fails
 
-  colon_agrees : (ws : List Word) → AllIn lo hi ws → Agrees (colon_at (here ws)) (colon_at (there ws))
+  colon_agrees : (ws : List Word) → AllWords In ws → Agrees (colon_at (here ws)) (colon_at (there ws))
   unfolding colon_at
   colon_agrees [] all = fails
-  colon_agrees (w ∷ ws) all = either_agrees w.spaced _ _ _ _ fails (colon_by_agrees w ws w.kind all.0 all.1)
+  colon_agrees (w ∷ ws) all = either_agrees w.spaced _ _ _ _ fails (colon_by_agrees w ws w.kind refl all.0 all.1)
 
-  item_agrees : (w : Word) (ws : List Word) → InWord lo hi w → AllIn lo hi ws
+  item_agrees : (w : Word) (ws : List Word) → In w → AllWords In ws
       → Agrees (item_from w (here ws)) (item_from (raised_word f w) (there ws))
   unfolding item_from
   item_agrees w ws i all = either_agrees (is_mark 58 w.kind) _ _ _ _ (colon_agrees ws all) (item_is_agrees _ _ (plain_agrees w ws i all))
 
-  compound_item_agrees : (ws : List Word) → AllIn lo hi ws → Agrees (compound_item_at (here ws)) (compound_item_at (there ws))
+  compound_item_agrees : (ws : List Word) → AllWords In ws → Agrees (compound_item_at (here ws)) (compound_item_at (there ws))
   compound_item_agrees [] all = fails
   compound_item_agrees (w ∷ ws) all = item_agrees w ws all.0 all.1
 
-  first_by_agrees : (w : Word) (ws : List Word) (k : WordKind) → InWord lo hi w → AllIn lo hi ws
+  first_by_agrees : (w : Word) (ws : List Word) (k : WordKind) → w.kind ≡ k → In w → AllWords In ws
       → Agrees (first_by w (here ws) k) (first_by (raised_word f w) (there ws) k)
-  first_by_agrees w ws Ident i all = give_agrees _ _ ws (ap (λ (v : List ℕ). (is (tag v) ∷ [], false)) (value_same w i)) all
-  first_by_agrees w ws (Mark c) i all = either_agrees (c == 42) _ _ _ _ (gives (is any ∷ [], false) ws all) (item_agrees w ws i all)
-  first_by_agrees w ws _ i all = item_agrees w ws i all
+  first_by_agrees w ws Ident e i all = give_agrees _ _ ws (ap (λ (v : List ℕ). (is (tag v) ∷ [], false)) (same.value w i e)) all
+  first_by_agrees w ws (Mark c) e i all = either_agrees (c == 42) _ _ _ _ (gives (is any ∷ [], false) ws all) (item_agrees w ws i all)
+  first_by_agrees w ws _ e i all = item_agrees w ws i all
 
-  first_part_agrees : (ws : List Word) → AllIn lo hi ws → Agrees (first_part_at (here ws)) (first_part_at (there ws))
+  first_part_agrees : (ws : List Word) → AllWords In ws → Agrees (first_part_at (here ws)) (first_part_at (there ws))
   unfolding first_from
   first_part_agrees [] all = fails
-  first_part_agrees (w ∷ ws) all = first_by_agrees w ws w.kind all.0 all.1
+  first_part_agrees (w ∷ ws) all = first_by_agrees w ws w.kind refl all.0 all.1
 
   -- ---- compounds and selectors
-  ReadsSame : {X : Type 0} → (WordReading → Option ((List X × Bool) × WordReading)) → Type 0
-  ReadsSame read = (ws : List Word) → AllIn lo hi ws → Agrees (read (here ws)) (read (there ws))
-
   front_agrees : {X : Type 0} (front : List X) (o o' : Option ((List X × Bool) × WordReading)) → Agrees o o'
       → Agrees (with_front front o) (with_front front o')
   front_agrees front _ _ fails = fails
@@ -420,8 +489,8 @@ module _ (text other : List ℕ) (f : ℕ → ℕ) (lo hi : ℕ) (same : SamePar
 
   many_in_agrees : {X : Type 0} (ends : WordReading → Bool) (read : WordReading → Option ((List X × Bool) × WordReading))
       → ((ws : List Word) → ends (here ws) ≡ ends (there ws))
-      → ((ws : List Word) → AllIn lo hi ws → Agrees (read (here ws)) (read (there ws)))
-      → (n : ℕ) (element : Bool) (ws : List Word) → AllIn lo hi ws
+      → ((ws : List Word) → AllWords In ws → Agrees (read (here ws)) (read (there ws)))
+      → (n : ℕ) (element : Bool) (ws : List Word) → AllWords In ws
       → Agrees (many_in ends read n element (here ws)) (many_in ends read n element (there ws))
   unfolding many_in
   many_in_agrees ends read end_same read_same zero element ws all = fails
@@ -433,8 +502,8 @@ module _ (text other : List ℕ) (f : ℕ → ℕ) (lo hi : ℕ) (same : SamePar
 
   many_agrees : {X : Type 0} (ends : WordReading → Bool) (read : WordReading → Option ((List X × Bool) × WordReading))
       → ((ws : List Word) → ends (here ws) ≡ ends (there ws))
-      → ((ws : List Word) → AllIn lo hi ws → Agrees (read (here ws)) (read (there ws)))
-      → (element : Bool) (ws : List Word) → AllIn lo hi ws → Agrees (many ends read element (here ws)) (many ends read element (there ws))
+      → ((ws : List Word) → AllWords In ws → Agrees (read (here ws)) (read (there ws)))
+      → (element : Bool) (ws : List Word) → AllWords In ws → Agrees (many ends read element (here ws)) (many ends read element (there ws))
   many_agrees ends read end_same read_same element ws all =
       subst (λ (n : ℕ). Agrees (many ends read element (here ws)) (many_in ends read (suc n) element (there ws)))
       (sym (map_length (raised_word f) ws)) (many_in_agrees ends read end_same read_same (suc (length ws)) element ws all)
@@ -443,7 +512,7 @@ module _ (text other : List ℕ) (f : ℕ → ℕ) (lo hi : ℕ) (same : SamePar
   ends_compound_same [] = refl
   ends_compound_same (w ∷ ws) = refl
 
-  tests_agrees : (element : Bool) (ws : List Word) → AllIn lo hi ws → Agrees (tests_at element (here ws)) (tests_at element (there ws))
+  tests_agrees : (element : Bool) (ws : List Word) → AllWords In ws → Agrees (tests_at element (here ws)) (tests_at element (there ws))
   unfolding tests_at
   tests_agrees element ws all = many_agrees ends_compound compound_item_at ends_compound_same compound_item_agrees element ws all
 
@@ -451,12 +520,12 @@ module _ (text other : List ℕ) (f : ℕ → ℕ) (lo hi : ℕ) (same : SamePar
   compound_of_agrees joint _ _ fails = fails
   compound_of_agrees joint _ _ (gives x ws all) = gives (reading.compound_form joint x.0 ∷ [], x.1) ws all
 
-  compound_agrees : (joint : _) (ws : List Word) → AllIn lo hi ws → Agrees (compound_at joint (here ws)) (compound_at joint (there ws))
+  compound_agrees : (joint : _) (ws : List Word) → AllWords In ws → Agrees (compound_at joint (here ws)) (compound_at joint (there ws))
   unfolding compound_at
   compound_agrees joint ws all = then_agrees _ _ _ _ (first_part_agrees ws all) (λ first xs a.
       compound_of_agrees joint _ _ (front_agrees first.0 _ _ (tests_agrees first.1 xs a)))
 
-  joint_agrees : (ws : List Word) → AllIn lo hi ws → Agrees (joint_at (here ws)) (joint_at (there ws))
+  joint_agrees : (ws : List Word) → AllWords In ws → Agrees (joint_at (here ws)) (joint_at (there ws))
   unfolding joint_at
   joint_agrees [] all = fails
   joint_agrees (w ∷ ws) all = by (combinator_of w.kind) w.spaced
@@ -466,7 +535,7 @@ module _ (text other : List ℕ) (f : ℕ → ℕ) (lo hi : ℕ) (same : SamePar
       by None true = gives _ (w ∷ ws) all
       by None false = fails
 
-  joined_agrees : (ws : List Word) → AllIn lo hi ws → Agrees (joined_at (here ws)) (joined_at (there ws))
+  joined_agrees : (ws : List Word) → AllWords In ws → Agrees (joined_at (here ws)) (joined_at (there ws))
   unfolding joined_at
   joined_agrees ws all = then_agrees _ _ _ _ (joint_agrees ws all) (λ j xs a. compound_agrees j xs a)
 
@@ -474,34 +543,20 @@ module _ (text other : List ℕ) (f : ℕ → ℕ) (lo hi : ℕ) (same : SamePar
   ends_selector_same [] = refl
   ends_selector_same (w ∷ ws) = refl
 
-  compounds_agrees : (element : Bool) (ws : List Word) → AllIn lo hi ws
+  compounds_agrees : (element : Bool) (ws : List Word) → AllWords In ws
       → Agrees (compounds_at element (here ws)) (compounds_at element (there ws))
   unfolding compounds_at
   compounds_agrees element ws all = many_agrees ends_selector joined_at ends_selector_same joined_agrees element ws all
 
-  joined_of_agrees : (ws : List Word) → AllIn lo hi ws → Agrees (joined_of (here ws)) (joined_of (there ws))
+  joined_of_agrees : (ws : List Word) → AllWords In ws → Agrees (joined_of (here ws)) (joined_of (there ws))
   unfolding joined_of
   joined_of_agrees ws all = then_agrees _ _ _ _ (compound_agrees _ ws all) (λ first xs a.
       front_agrees first.0 _ _ (compounds_agrees first.1 xs a))
 
-  range_by_same : (a b : Option Word) → range_by (option_map (raised_word f) a) (option_map (raised_word f) b)
-      ≡ option_map (placed_range f) (range_by a b)
-  range_by_same None b = refl
-  range_by_same (Some a) None = refl
-  range_by_same (Some a) (Some b) = refl
-
-  pub range_same : (ws : List Word) → range_of (map (raised_word f) ws) ≡ option_map (placed_range f) (range_of ws)
-  range_same ws =
-      ap (λ (n : ℕ). range_by (slice_get (map (raised_word f) ws) 0) (slice_get (map (raised_word f) ws) (n - 1)))
-      (map_length (raised_word f) ws)
-      ∙ ap (λ (o : Option Word). range_by o (slice_get (map (raised_word f) ws) (length ws - 1))) (map_get (raised_word f) 0 ws)
-      ∙ ap (range_by (option_map (raised_word f) (slice_get ws 0))) (map_get (raised_word f) (length ws - 1) ws)
-      ∙ range_by_same (slice_get ws 0) (slice_get ws (length ws - 1))
-
-  selector_same : (ws : List Word) → AllIn lo hi ws → selector_of (there ws) ≡ option_map (placed_selector f) (selector_of (here ws))
+  selector_same : (ws : List Word) → AllWords In ws → selector_of (there ws) ≡ option_map (placed_selector f) (selector_of (here ws))
   unfolding selector_of
   selector_same ws all =
-      ap (λ (o : Option Range). o >>= λ range. joined_of (there ws) >>= λ whole. Some (selector_form range whole.0)) (range_same ws)
+      ap (λ (o : Option Range). o >>= λ range. joined_of (there ws) >>= λ whole. Some (selector_form range whole.0)) (range_kept f ws)
       ∙ by (range_of ws) (joined_of (here ws)) (joined_of (there ws)) (joined_of_agrees ws all)
     where
       by : (o : Option Range) (j j' : Option (Joined × WordReading)) → Agrees j j'
@@ -514,7 +569,7 @@ module _ (text other : List ℕ) (f : ℕ → ℕ) (lo hi : ℕ) (same : SamePar
   -- ---- lists
   AllLists : List (List Word) → Type 0
   AllLists [] = Unit {0}
-  AllLists (ws ∷ wss) = AllIn lo hi ws × AllLists wss
+  AllLists (ws ∷ wss) = AllWords In ws × AllLists wss
 
   put_same : (w : Word) (wss : List (List Word)) → put_first (raised_word f w) (map (map (raised_word f)) wss)
       ≡ map (map (raised_word f)) (put_first w wss)
@@ -532,12 +587,12 @@ module _ (text other : List ℕ) (f : ℕ → ℕ) (lo hi : ℕ) (same : SamePar
       by true e = ap (λ (x : List (List Word)). [] ∷ x) e
       by false e = ap (put_first (raised_word f w)) e ∙ put_same w (segments ws)
 
-  put_in : (w : Word) (wss : List (List Word)) → InWord lo hi w → AllLists wss → AllLists (put_first w wss)
+  put_in : (w : Word) (wss : List (List Word)) → In w → AllLists wss → AllLists (put_first w wss)
   unfolding AllLists
   put_in w [] i all = ((i, tt), tt)
   put_in w (ws ∷ wss) i all = ((i, all.0), all.1)
 
-  segments_in : (ws : List Word) → AllIn lo hi ws → AllLists (segments ws)
+  segments_in : (ws : List Word) → AllWords In ws → AllLists (segments ws)
   unfolding segments AllLists
   segments_in [] all = (tt, tt)
   segments_in (w ∷ ws) all = by (is_mark 44 w.kind) (segments_in ws all.1)
@@ -564,6 +619,21 @@ module _ (text other : List ℕ) (f : ℕ → ℕ) (lo hi : ℕ) (same : SamePar
       by (Some s) None = refl
       by (Some s) (Some ss) = refl
 
-  pub list_same : (ws : List Word) → AllIn lo hi ws → selector_list_of (word_reading other (map (raised_word f) ws))
+  pub words_list : (ws : List Word) → AllWords In ws → selector_list_of (word_reading other (map (raised_word f) ws))
       ≡ option_map (map (placed_selector f)) (selector_list_of (word_reading text ws))
-  list_same ws all = ap (selectors_in other) (segments_same ws) ∙ selectors_in_same (segments ws) (segments_in ws all)
+  words_list ws all = ap (selectors_in other) (segments_same ws) ∙ selectors_in_same (segments ws) (segments_in ws all)
+
+-- ---- the same of words that stand in one piece
+pub range_same : (text other : List ℕ) (f : ℕ → ℕ) (lo hi : ℕ) → SamePart text other f lo hi → (ws : List Word)
+    → range_of (map (raised_word f) ws) ≡ option_map (placed_range f) (range_of ws)
+range_same text other f lo hi same ws = range_kept f ws
+
+all_words : (lo hi : ℕ) (ws : List Word) → AllIn lo hi ws → AllWords (InWord lo hi) ws
+all_words lo hi [] all = tt
+all_words lo hi (w ∷ ws) all = (all.0, all_words lo hi ws all.1)
+
+pub list_same : (text other : List ℕ) (f : ℕ → ℕ) (lo hi : ℕ) → SamePart text other f lo hi → (ws : List Word) → AllIn lo hi ws
+    → selector_list_of (word_reading other (map (raised_word f) ws))
+    ≡ option_map (map (placed_selector f)) (selector_list_of (word_reading text ws))
+list_same text other f lo hi same ws all =
+    words_list text other f (InWord lo hi) (part_words text other f lo hi same) ws (all_words lo hi ws all)

@@ -21,10 +21,10 @@ ghost use Rattle.std.specs.List.{sum_by};
 ghost use Rattle.std.specs.Str.{IsUtf8, IsCharBoundary};
 ghost use Rattle.sheet_reader.specs.Sheets.{sheet_of};
 ghost use Rattle.sheet_reader.specs.Forms.{range, RuleForm};
-ghost use Rattle.sheet_reader.specs.Preludes.{ends_return, HasPreludeIn};
+ghost use Rattle.sheet_reader.specs.Preludes.{HasPreludeIn, KeepsMedia, spaces_at};
 ghost use Rattle.selectors.specs.Forms.{SelectorForm};
 ghost use Rattle.selectors.specs.Reading.{selectors_of};
-ghost use Rattle.sheet_reader.specs.Sealing.{is_sealed};
+ghost use Rattle.sheet_reader.specs.Sealing.{is_sealed, is_sealed_prelude};
 ghost use Rattle.sheet_reader.specs.Moves.{moved_sheet, replaced, CanMoveBody};
 ghost use Rattle.sheet_reader.specs.Around.{AreThere, AreBelow, IsBelow, AllHold, held, held_at};
 ghost use Rattle.sheet_reader.specs.declared.sheet.MediaRule.{MediaRule};
@@ -102,10 +102,16 @@ pub fn joined_law()
 {}
 
 /// Where the prelude of a style rule is replaced by a sealed text that is a selector list, there is a rule with the new prelude: the
-/// first one whose body does not start before the new text, and its prelude starts in that text. So it is inside media rules too. (Of a
-/// text that ends in a CR this is not said: with an LF behind it the two are one newline.)
+/// first one whose body does not start before the new text, and its prelude starts in that text. And where that of a media rule is
+/// replaced by a sealed text with no `{` or `;` outside brackets, behind the spaces that it needs behind a keyword, the media rule with
+/// its number is the last one whose prelude does not start behind the new text. So it is inside media rules too. (A text that ends in a CR may stand before an LF: the two are one newline, and
+/// where they end an escape, the new prelude ends behind the new text.)
 pub fn prelude_law()
-    ensures { (text put : List ℕ) (k : ℕ) (r : RuleForm) (ss : List SelectorForm) → slice_get (sheet_of text).rules k ≡ Some r
-        → is_sealed put ≡ true → selectors_of put ≡ Some ss → ends_return put ≡ false → IsUtf8 (replaced text r.prelude put)
+    ensures rule { (text put : List ℕ) (k : ℕ) (r : RuleForm) (ss : List SelectorForm) → slice_get (sheet_of text).rules k ≡ Some r
+        → is_sealed put ≡ true → selectors_of put ≡ Some ss → IsUtf8 (replaced text r.prelude put)
         → HasPreludeIn (range r.prelude.start (r.prelude.start + length put)) (sheet_of (replaced text r.prelude put)).rules }
+    ensures media { (text put : List ℕ) (k : ℕ) (m : MediaRule) → slice_get (sheet_of text).media k ≡ Some m
+        → is_sealed_prelude put ≡ true → IsUtf8 (replaced text m.prelude (spaces_at text m.prelude.start ++ put))
+        → KeepsMedia k (m.prelude.start + length (spaces_at text m.prelude.start ++ put))
+        (sheet_of (replaced text m.prelude (spaces_at text m.prelude.start ++ put))).media }
 {}

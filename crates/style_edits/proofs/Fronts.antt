@@ -1,20 +1,18 @@
 -- What a text in front of another says, where the other is read as it is alone.
-use Rattle.std.proofs.Common.{◌≡◌, ℕ, ◌+◌, ◌<◌, Bool, true, false, ◌&&◌, ◌==◌, All, List, [], ◌∷◌, ◌++◌, map, length, take}
-use Rattle.std.proofs.Common.{Option, Some, None, inl, inr, refl, sym, ap, subst, ◌∙◌, append_assoc, append-nil, length-append, arith}
-use Rattle.std.proofs.Math.Seq.{take-append_seam}
+use Rattle.std.proofs.Common.{◌≡◌, ℕ, ◌+◌, ◌<◌, true, false, All, List, [], ◌∷◌, ◌++◌, map, length}
+use Rattle.std.proofs.Common.{Option, Some, None, refl, sym, ap, subst, ◌∙◌, append_assoc, append-nil, length-append, arith}
 use Rattle.std.specs.List.{list_all}
 use Rattle.std.specs.Prelude.{option_to_list}
 use Rattle.std.proofs.lemmas.List.Elements.{All-nil}
 use Rattle.css_tokens.specs.declared.token.Token.{Token}
 use Rattle.css_tokens.specs.declared.token.TokenKind.{TokenKind}
-use Rattle.css_tokens.specs.declared.token.TokenKind.TheVariants.{Comment, WhiteSpace}
+use Rattle.css_tokens.specs.declared.token.TokenKind.TheVariants.{WhiteSpace}
 use Rattle.css_tokens.specs.Codes.{is_white, begins}
-use Rattle.css_tokens.specs.Forms.{Units, no_units, unit_and, CommentUnit, comment_code, CommentForm, ClosesWith}
-use Rattle.css_tokens.specs.Rows.{piece, first_piece, comment}
+use Rattle.css_tokens.specs.Rows.{piece, first_piece}
 use Rattle.css_tokens.specs.Pieces.{pieces}
 use Rattle.css_tokens.specs.Seams.{IsWholeBefore, no_more, piece_and}
 use Rattle.css_tokens.proofs.SeamPieces.{pieces_at}
-use Rattle.css_tokens.proofs.RowForms.{comment_row_law, white_row_law, passes_cut, begins_all}
+use Rattle.css_tokens.proofs.RowForms.{passes_cut}
 use Rattle.sheet_reader.specs.Forms.{RuleForm}
 use Rattle.sheet_reader.specs.Parts.{is_passed, PartForm, passed, part_pieces, parts}
 use Rattle.sheet_reader.specs.Grammar.{IsPart, passed_part}

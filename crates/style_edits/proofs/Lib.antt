@@ -16,3 +16,4 @@ pub mod AddedRules
 pub mod Fronts
 pub mod PassedPieces
 pub mod NewPreludes
+pub mod MadeMedia

@@ -1,5 +1,5 @@
 -- The style rule whose prelude an edit made is there.
-use Rattle.std.proofs.Common.{◌≡◌, ℕ, zero, suc, ◌+◌, Bool, true, false, cond, All, List, [], ◌∷◌, map, length}
+use Rattle.std.proofs.Common.{◌≡◌, ℕ, suc, ◌+◌, Bool, true, false, cond, All, List, [], ◌∷◌, map, length}
 use Rattle.std.proofs.Common.{Option, Some, None, Ok, Err, refl, sym, ap, subst, ◌∙◌}
 use Rattle.std.specs.Prelude.{slice_get, is_some, IsSomeAnd}
 use Rattle.std.specs.Str.{IsUtf8}
@@ -12,7 +12,7 @@ use Rattle.sheet_reader.specs.declared.book.Origin.TheVariants as origins
 use Rattle.sheet_reader.specs.declared.book.SheetEntry.{SheetEntry}
 use Rattle.sheet_reader.specs.Books.{IsStored, entry_of}
 use Rattle.sheet_reader.specs.Forms.{range, RuleForm}
-use Rattle.sheet_reader.specs.Preludes.{ends_return, BeginsIn, HasPreludeIn}
+use Rattle.sheet_reader.specs.Preludes.{BeginsIn, HasPreludeIn}
 use Rattle.sheet_reader.specs.Sealing.{is_sealed}
 use Rattle.sheet_reader.specs.Sheets.{sheet_of}
 use Rattle.sheet_reader.proofs.MadePreludes.{prelude_there}
@@ -20,9 +20,10 @@ use Rattle.style_edits.specs.declared.faults.SheetFault.TheVariants.{BadText, Ba
 use Rattle.style_edits.specs.declared.lines.LineRange.{LineRange}
 use Rattle.style_edits.specs.declared.splice.Splice.{Splice}
 use Rattle.style_edits.specs.Splices.{spliced, spliced_entry, after_splice}
-use Rattle.style_edits.specs.Edits.{Found, is_at, splice_at, prelude_at, placed_text, selector_by, selector_in, mutable, client_by, found_by}
+use Rattle.style_edits.specs.Edits.{Found, is_at, splice_at, prelude_at, placed_text, selector_by, selector_in, mutable, client_by}
+use Rattle.style_edits.specs.Edits.{found_by}
 use Rattle.style_edits.specs.Edits.{selector_splice}
-use Rattle.style_edits.specs.EditedRules.{rules_before, made_rule, new_range, MakesPrelude}
+use Rattle.style_edits.specs.EditedRules.{rules_before, new_range, MakesPrelude}
 use Rattle.style_edits.proofs.BookForms.{entry_again}
 use Rattle.style_edits.proofs.SpliceForms.{made, stored_after}
 use Rattle.style_edits.proofs.FoundForms.{stored_of, selector_found}
@@ -109,9 +110,9 @@ selector_repreludes id lines text book s h = by (entry_of id book) refl h
     by None found k = absurd (cc)
     by (Some e) found k = at e e.origin found k
 
-pub prelude_made : (id : ℕ) (lines : LineRange) (text : List ℕ) → IsUtf8 text → ends_return text ≡ false → (book : List SheetEntry)
-    (s : Splice) → All IsStored book → selector_splice id lines text book ≡ Ok s → MakesPrelude book s
-prelude_made id lines text utf8 plain book s all h =
+pub prelude_made : (id : ℕ) (lines : LineRange) (text : List ℕ) → IsUtf8 text → (book : List SheetEntry) (s : Splice)
+    → All IsStored book → selector_splice id lines text book ≡ Ok s → MakesPrelude book s
+prelude_made id lines text utf8 book s all h =
     let m = selector_repreludes id lines text book s h in
     let d = made s book m.sheet m.found in
     let takes = selector_found id lines text book s all utf8 h in
@@ -122,6 +123,6 @@ prelude_made id lines text utf8 plain book s all h =
     (subst (λ (put : List ℕ). IsUtf8 (spliced m.sheet.text m.rule.prelude.start m.rule.prelude.end put)
     → HasPreludeIn (range m.rule.prelude.start (m.rule.prelude.start + length put))
     (sheet_of (spliced m.sheet.text m.rule.prelude.start m.rule.prelude.end put)).rules) (sym m.own)
-    (λ whole. prelude_there m.sheet.text text m.k m.rule m.ss m.there m.sealed m.listed plain whole)) new.utf8 in
+    (λ whole. prelude_there m.sheet.text text m.k m.rule m.ss m.there m.sealed m.listed whole)) new.utf8 in
     subst (λ (o : Option RuleForm). IsSomeAnd o (BeginsIn (new_range s)))
     (sym (made_at book s m.sheet (rules_before (sheet_of (spliced m.sheet.text s.start s.end s.text)).rules s.start) m.found refl)) there

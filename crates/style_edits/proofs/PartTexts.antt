@@ -10,15 +10,11 @@ use Rattle.node_tree.specs.Numbers.{number_limit}
 use Rattle.css_tokens.specs.declared.token.Token.{Token}
 use Rattle.css_tokens.specs.declared.token.TokenKind.{TokenKind}
 use Rattle.css_tokens.specs.declared.token.TokenKind.TheVariants as tokens
-use Rattle.css_tokens.specs.Marks.{HasMarks}
 use Rattle.css_tokens.specs.Pieces.{pieces, pieces_after}
-use Rattle.css_tokens.specs.Rows.{piece, first_piece, mark_kind, comment, white_space, string, bad_string, hash, numeric, cdc, url, bad_url}
-use Rattle.css_tokens.specs.Rows.{opens_url, ident, cdo, at_keyword, mark}
-use Rattle.css_tokens.specs.Runs.{number_len}
-use Rattle.css_tokens.specs.Escapes.{escape_len}
-use Rattle.css_tokens.specs.Seams.{is_stop, IsWholeBefore}
-use Rattle.css_tokens.proofs.Ends.{and_true, first_whole}
-use Rattle.css_tokens.proofs.SeamPieces.{pieces_at, whole_before}
+use Rattle.css_tokens.specs.Rows.{piece, first_piece}
+use Rattle.css_tokens.specs.Seams.{IsWholeBefore}
+use Rattle.css_tokens.proofs.Ends.{and_true}
+use Rattle.css_tokens.proofs.SeamPieces.{pieces_at}
 use Rattle.sheet_reader.specs.Grammar.{IsEnding, at_text_end, at_semicolon, in_block, in_open_block, IsRule, IsPart, passed_part}
 use Rattle.sheet_reader.specs.Grammar.{at_rule_part, qualified_part}
 use Rattle.sheet_reader.specs.Joins.{is_shut_part, ends_shut, is_shut_text}
@@ -29,9 +25,9 @@ use Rattle.sheet_reader.specs.Sheets.{is_closed_comment, passed_place, rule_of, 
 use Rattle.sheet_reader.proofs.GrammarForms.{parts_only}
 use Rattle.sheet_reader.proofs.Raised.{flat}
 use Rattle.sheet_reader.proofs.PartMoves.{cons_follows, values_rest}
-use Rattle.sheet_reader.proofs.SealedCuts.{FirstOf, first_of, MarkFirst, close_first, close_piece, split_at, one_more}
+use Rattle.sheet_reader.proofs.SealedCuts.{first_of, close_first, close_piece}
 use Rattle.sheet_reader.proofs.JoinForms.{shut_rest}
-use Rattle.sheet_reader.proofs.MarkTexts.{Marked, mark_part, semi_piece, semi_first}
+use Rattle.sheet_reader.proofs.MarkTexts.{mark_part, semi_piece, semi_first}
 use Rattle.sheet_reader.proofs.PassedTexts.{over, comment_closed}
 use Rattle.style_edits.proofs.LoneRules.{OneRule}
 use Rattle.style_edits.proofs.Fronts.{Fronts, passed_fronts, part_front}

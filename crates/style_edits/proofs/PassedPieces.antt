@@ -1,22 +1,9 @@
 -- Pieces that are passed over between the parts of a sheet.
-use Rattle.std.proofs.Common.{◌≡◌, inl, inr, ℕ, ◌≤◌, ◌==◌, Bool, true, false, cond, List, [], ◌∷◌, ◌++◌, length, take, drop, ◌-◌, suc}
-use Rattle.std.proofs.Common.{append-nil}
-use Rattle.std.proofs.Common.{Some, None, refl, sym, ap, subst, ◌∙◌, arith}
-use Rattle.std.specs.Prelude.{slice_index}
+use Rattle.std.proofs.Common.{◌≡◌, ℕ, true, List, [], ◌∷◌, ◌++◌, length}
+use Rattle.std.proofs.Common.{Some, refl, sym, subst}
 use Rattle.css_tokens.specs.declared.token.TokenKind.{TokenKind}
 use Rattle.css_tokens.specs.declared.token.TokenKind.TheVariants as tokens
-use Rattle.css_tokens.specs.Forms.{ClosesWith, CommentForm, WhiteSpaceForm, CdcForm, CdoForm, NumericForm, a_percentage, a_dimension}
-use Rattle.css_tokens.specs.Forms.{a_number}
-use Rattle.css_tokens.specs.Rows.{piece, first_piece, mark_kind, comment, white_space, string, bad_string, hash, numeric, cdc, url, bad_url}
-use Rattle.css_tokens.specs.Rows.{opens_url, ident, cdo, at_keyword, mark}
-use Rattle.css_tokens.specs.Runs.{number_len}
-use Rattle.css_tokens.specs.Escapes.{escape_len}
-use Rattle.std.proofs.Math.Seq.{take-append_seam, drop-append_seam}
-use Rattle.css_tokens.specs.Table.{PieceRow, comment_row, white_space_row, string_row, bad_string_row, hash_row, numeric_row, cdc_row}
-use Rattle.css_tokens.specs.Table.{url_row, bad_url_row, ident_row, cdo_row, at_keyword_row, mark_row, FormOf}
-use Rattle.css_tokens.proofs.TableForms.{first_is_first}
-use Rattle.sheet_reader.specs.Layout.{level_of}
-use Rattle.sheet_reader.specs.Parts.{is_passed}
+use Rattle.css_tokens.specs.Rows.{piece, first_piece}
 use Rattle.sheet_reader.proofs.PassedTexts.{PassedForm, a_comment, white, an_opening, a_closing, over, opening_piece, closing_piece}
 use Rattle.sheet_reader.proofs.PassedTexts.{piece_form, comment_piece}
 use Rattle.style_edits.proofs.Fronts.{IsPassedFront, passed_front, white_front}

@@ -1,46 +1,24 @@
 -- What a client's edit of the prelude of a media rule comes to.
-use Rattle.std.specs.Prelude.{ℕ, ◌-◌, ◌==◌, nat_le, Bool, true, false, ◌&&◌, List, [], ◌∷◌, ◌++◌, map, length, Option, Some, None, Err}
+use Rattle.std.specs.Prelude.{◌≡◌, ℕ, ◌-◌, nat_le, List, ◌++◌, map, slice_get, Option, Some, None, option_and_then, IsSome, IsSomeAnd, Err}
 use Rattle.std.specs.Prelude.{if◌then◌else◌}
 use Rattle.std.specs.List.{find, prefix_len}
 use Rattle.css_tokens.specs.declared.token.Range.{Range}
-use Rattle.css_tokens.specs.declared.token.Token.{Token}
-use Rattle.css_tokens.specs.Pieces.{pieces}
-use Rattle.selectors.specs.Words.{between}
 use Rattle.sheet_reader.specs.declared.book.SheetEntry.{SheetEntry}
 use Rattle.sheet_reader.specs.declared.sheet.MediaRule.{MediaRule}
 use Rattle.sheet_reader.specs.Books.{entry_of}
-use Rattle.sheet_reader.specs.Grammar.{is_at_keyword}
+use Rattle.sheet_reader.specs.Forms.{range}
+use Rattle.sheet_reader.specs.Preludes.{spaces_at}
 use Rattle.sheet_reader.specs.Sheets.{sheet_of}
 use Rattle.sheet_reader.specs.Sealing.{is_sealed_prelude}
 use Rattle.style_edits.specs.declared.faults.SheetFault.TheVariants.{BadRange, BadText}
 use Rattle.style_edits.specs.declared.lines.LineRange.{LineRange}
 use Rattle.style_edits.specs.declared.splice.Splice.{Splice}
+use Rattle.style_edits.specs.Splices.{after_splice, back_splice}
 use Rattle.style_edits.specs.Edits.{Found, is_at, placed_text, client_sheet, found_by}
 
 -- the prelude of a media rule with these lines and columns
 abbrev pub media_at : List ℕ → LineRange → Option Range
 media_at text lines = find (is_at text lines) (map (λ m. m.prelude) (sheet_of text).media)
-
--- an at-keyword that ends at this place
-abbrev pub ends_keyword : ℕ → Token → Bool
-ends_keyword place t = is_at_keyword t.kind && t.end == place
-
--- a space right behind the keyword is one piece with it: it ends in the hex digits of an escape
-abbrev pub takes_space : List ℕ → Bool
-takes_space keyword = length (pieces (keyword ++ 32 ∷ [])) == 1
-
--- between a keyword and what comes right behind it: a space, and before it one that the keyword takes, if it takes one
-abbrev pub spaces_behind : List ℕ → List ℕ
-spaces_behind keyword = if takes_space keyword then 32 ∷ 32 ∷ [] else 32 ∷ []
-
--- the same behind the at-keyword that was found, and nothing where there is none
-abbrev pub spaces_by : List ℕ → Option Token → List ℕ
-spaces_by text None = []
-spaces_by text (Some t) = spaces_behind (between text t.start t.end)
-
--- what goes before a text that is put at this place: nothing, unless an at-keyword ends there
-abbrev pub spaces_at : List ℕ → ℕ → List ℕ
-spaces_at text place = spaces_by text (find (ends_keyword place) (pieces text))
 
 -- a text in the place of the prelude that was found, if there is one and the text can be a prelude
 abbrev pub media_by : List ℕ → SheetEntry → Option Range → Found
@@ -68,3 +46,18 @@ media_place_by back (Some e) = media_up_to (sheet_of e.text).media back.end - 1
 -- the way back: the last one whose prelude does not start behind the edit's text
 abbrev pub edited_media : List SheetEntry → Splice → ℕ
 edited_media book back = media_place_by back (entry_of back.sheet book)
+
+-- the media rule at that place of the sheet with this id, if there is one
+abbrev pub media_rule_at : List SheetEntry → ℕ → ℕ → Option MediaRule
+media_rule_at book sheet place = option_and_then (λ e. slice_get (sheet_of e.text).media place) (entry_of sheet book)
+
+-- the media rule that an edit made, of which this book is what it left and the splice the way back, if there is one
+abbrev pub made_media : List SheetEntry → Splice → Option MediaRule
+made_media book back = media_rule_at book back.sheet (edited_media book back)
+
+-- The place that is answered for a splice of the book is the number of the media rule whose prelude the splice replaced, and there is a
+-- media rule with that number in the book that the splice left
+pub record MakesMedia (book : List SheetEntry) (s : Splice) : Type 0 where
+  pub own : IsSomeAnd (media_rule_at book s.sheet (edited_media (after_splice s book) (back_splice s book)))
+      (λ m. m.prelude ≡ range s.start s.end)
+  pub there : IsSome (made_media (after_splice s book) (back_splice s book))

@@ -7,7 +7,8 @@ ghost use Rattle.css_tokens.specs.Marks.{IsPieceOf};
 ghost use Rattle.sheet_reader.specs.Books.{IsEntry};
 ghost use Rattle.sheet_reader.specs.Sheets.{sheet_of};
 ghost use Rattle.style_edits.specs.Edits.{edited, IfFault};
-ghost use Rattle.style_edits.specs.MediaEdits.{ends_keyword, takes_space, spaces_behind, spaces_at, media_in, media_splice};
+ghost use Rattle.sheet_reader.specs.Preludes.{ends_keyword, takes_space, spaces_behind, spaces_at};
+ghost use Rattle.style_edits.specs.MediaEdits.{media_in, media_splice};
 ghost use Rattle.style_edits.specs.MediaEdits.{media_up_to, edited_media};
 ghost use Rattle.style_edits.specs.Drafts.{Drafts, IsToldBy};
 

@@ -1,8 +1,9 @@
 -- Groups on a stack.
-use Rattle.std.proofs.Common.{◌≡◌, ℕ, zero, suc, ◌+◌, List, [], ◌∷◌, ◌++◌, length, get_or, refl, sym, ap, Vec, arith}
+use Rattle.std.proofs.Common.{◌≡◌, ◌≤◌, ℕ, zero, suc, ◌+◌, ◌*◌, List, [], ◌∷◌, ◌++◌, length, get_or, refl, sym, ap, Vec, arith}
 use Rattle.std.specs.Prelude.{slice_set, Result, Ok, Err, OnErr}
 use Rattle.std.specs.declared.alloc.Global.{Global}
 use Rattle.std.proofs.lemmas.List.{length_push}
+use Rattle.node_tree.specs.Numbers.{memory_limit}
 use Rattle.undo_marks.specs.Marks.{entry_count}
 use Rattle.undo_marks.specs.Groups.{groups_in}
 
@@ -31,6 +32,16 @@ last_set (x ∷ y ∷ ys) (suc n) v w e is =
 pub entry_count-joined : {A : Type 0} (x : A) (g : List A) (rest gs hs : List (List A)) → gs ≡ g ∷ rest → hs ≡ (g ++ x ∷ []) ∷ rest
     → entry_count hs ≡ entry_count gs + 1
 entry_count-joined x g rest gs hs old new = omega (arith, ap entry_count old, ap entry_count new, length_push g x)
+
+-- the entries of a list of groups, and of one with a group behind it
+pub entry_count-push : {A : Type 0} (gs : List (List A)) (g : List A) → entry_count (gs ++ g ∷ []) ≡ entry_count gs + length g
+entry_count-push [] g = omega arith
+entry_count-push (x ∷ gs) g = omega (arith, entry_count-push gs g)
+
+-- no group has as many entries as `memory_limit`
+pub entries-few : {A : Type 0} (vs : List (Vec A Global)) → entry_count (groups_in vs) ≤ length vs * memory_limit
+entries-few [] = omega arith
+entries-few (v ∷ vs) = omega (arith, entry_count-push (groups_in vs) v.items, v.ok, entries-few vs)
 
 -- a fact at an error, whatever the error
 pub on_err : {A B : Type 0} (r : Result A B) (p : Type 0) → p → OnErr r p

@@ -1,22 +1,22 @@
-ghost use Rattle.std.specs.Prelude.{◌≡◌, ◌+◌, ◌<◌, [], ◌∷◌, length, option_map, OnOk, OnErr};
-ghost use Rattle.node_tree.specs.Numbers.{memory_limit, kept_before_group};
+ghost use Rattle.std.specs.Prelude.{◌≡◌, ◌<◌, [], ◌∷◌, option_map, OnOk, OnErr};
 ghost use Rattle.undo_marks.specs.Marks.{entry_count, newest, older, onto_newest};
+ghost use Rattle.undo_marks.specs.Groups.{entries_limit};
 
 use crate::inverse_lists::Inverse;
 use std::alloc::{AllocError, Global};
 use std::marker::Model;
 
-/// A stack of groups, which contracts see with the newest first. Their edits are counted, and are fewer than 2^63.
+/// A stack of groups, which contracts see with the newest first. Their edits are counted in a type that no memory overflows: there are
+/// fewer than 2^63 groups, of fewer than 2^63 edits each.
 #[derive(Drop)]
 pub struct Groups {
     alloc: Global,
     groups: Vec<Vec<Inverse>>,
-    count: u64,
+    count: u128,
 }
 
 impl Model for Groups {
-    ghost use Rattle.std.specs.Prelude.{◌≡◌, ◌<◌, List};
-    ghost use Rattle.node_tree.specs.Numbers.{memory_limit};
+    ghost use Rattle.std.specs.Prelude.{◌≡◌, List};
     ghost use Rattle.undo_marks.specs.declared.inverse_lists.Inverse.{Inverse};
     ghost use Rattle.undo_marks.specs.Codes.{coded_inverses};
     ghost use Rattle.std.specs.Coded.{coded_list};
@@ -29,7 +29,7 @@ impl Model for Groups {
 
     ghost view = { λ g. groups_in g.groups.items };
 
-    ghost invariant = { λ g. (g.count ≡ entry_count (groups_in g.groups.items)) × (g.count < memory_limit) };
+    ghost invariant = { λ g. g.count ≡ entry_count (groups_in g.groups.items) };
 }
 
 impl Groups {
@@ -45,20 +45,19 @@ impl Groups {
     }
 
     /// How many edits the groups have.
-    pub fn count(&self) -> u64
+    pub fn count(&self) -> u128
         ensures value { result ≡ entry_count self.now }
-        ensures fits { result < memory_limit }
+        ensures fits { result < entries_limit }
     {
         self.count
     }
 
     /// Puts a group on top.
     pub fn push(&mut self, group: Vec<Inverse>) -> Result<(), AllocError>
-        requires room { entry_count self.old + length group.items < memory_limit }
         ensures ok { OnOk result (self.new ≡ group.items ∷ self.old) }
         ensures err { OnErr result (self.new ≡ self.old) }
     {
-        let count = self.count + group.len() as u64;
+        let count = self.count + group.len() as u128;
         self.groups.push(group)?;
         self.count = count;
         Ok(())
@@ -66,7 +65,6 @@ impl Groups {
 
     /// Puts a group of one edit on top.
     pub fn start(&mut self, inverse: Inverse) -> Result<(), AllocError>
-        requires room { entry_count self.old < kept_before_group }
         ensures ok { OnOk result (self.new ≡ (inverse ∷ []) ∷ self.old) }
         ensures err { OnErr result (self.new ≡ self.old) }
     {
@@ -77,7 +75,6 @@ impl Groups {
 
     /// Puts the edit last into the newest group, or into a first one.
     pub fn join(&mut self, inverse: Inverse) -> Result<(), AllocError>
-        requires room { entry_count self.old < kept_before_group }
         ensures ok { OnOk result (self.new ≡ onto_newest (inverse ∷ []) self.old) }
         ensures err { OnErr result (self.new ≡ self.old) }
     {
@@ -96,7 +93,7 @@ impl Groups {
         ensures rest { self.new ≡ older self.old }
     {
         let group = self.groups.pop()?;
-        self.count -= group.len() as u64;
+        self.count -= group.len() as u128;
         Some(group)
     }
 

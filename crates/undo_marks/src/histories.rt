@@ -1,5 +1,4 @@
-ghost use Rattle.std.specs.Prelude.{◌≡◌, ◌+◌, ◌<◌, length, None, OnOk, OnErr};
-ghost use Rattle.node_tree.specs.Numbers.{kept_before_group, memory_limit};
+ghost use Rattle.std.specs.Prelude.{◌≡◌, ◌+◌, None, OnOk, OnErr};
 ghost use Rattle.undo_marks.specs.Marks.{no_marks, entry_count, handed_out, noted, marked, crossed_over, past_popped, future_popped};
 ghost use Rattle.undo_marks.specs.Marks.{past_pushed, future_pushed};
 
@@ -47,7 +46,6 @@ impl History {
     /// Notes a client's edit by its inverse. A command of several edits notes each, in order. What was taken back can then
     /// no longer be done again.
     pub fn note(&mut self, inverse: Inverse) -> Result<(), AllocError>
-        requires room { entry_count self.old.past < kept_before_group }
         ensures ok { OnOk result (self.new ≡ noted inverse self.old) }
         ensures err { OnErr result (self.new ≡ self.old) }
     {
@@ -106,7 +104,6 @@ impl History {
 
     /// Takes the inverses that applying a group of `pop_undo` gave, in the order in which they were made.
     pub fn push_undone(&mut self, group: Vec<Inverse>) -> Result<(), AllocError>
-        requires room { entry_count self.old.future + length group.items < memory_limit }
         ensures ok { OnOk result (self.new ≡ future_pushed group.items self.old) }
         ensures err { OnErr result (self.new ≡ self.old) }
     {
@@ -117,7 +114,6 @@ impl History {
 
     /// Takes the inverses that applying a group of `pop_redo` gave, in the order in which they were made.
     pub fn push_redone(&mut self, group: Vec<Inverse>) -> Result<(), AllocError>
-        requires room { entry_count self.old.past + length group.items < memory_limit }
         ensures ok { OnOk result (self.new ≡ past_pushed group.items self.old) }
         ensures err { OnErr result (self.new ≡ self.old) }
     {
@@ -148,8 +144,8 @@ impl History {
         self.crossed = false;
     }
 
-    /// How many edits can be taken back or done again, in all groups.
-    pub fn kept(&self) -> u64
+    /// How many edits can be taken back or done again, in all groups. No memory holds so many that their number would not fit.
+    pub fn kept(&self) -> u128
         ensures { result ≡ entry_count self.now.past + entry_count self.now.future }
     {
         self.past.count() + self.future.count()

@@ -1,7 +1,7 @@
 use Rattle.std.proofs.Common.{sym, ◌∙◌, arith}
 use Rattle.std.specs.List.{find}
 use Rattle.std.proofs.lemmas.List.{at_drop_all}
-use Rattle.style_edits.specs.MediaEdits.{ends_keyword}
+use Rattle.sheet_reader.specs.Preludes.{ends_keyword}
 use Rattle.style_edits.proofs.MediaForms.{piece_found, piece_passed}
 use Rattle.style_edits.proofs.media_edits.keyword_before.Goals as goal
 

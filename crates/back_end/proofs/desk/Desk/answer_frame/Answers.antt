@@ -1,5 +1,5 @@
 -- A load that is read token by token is the step on its frame.
-use Rattle.std.proofs.Common.{◌≡◌, ◌++◌, subst, sym, ap, ◌∙◌}
+use Rattle.std.proofs.Common.{◌≡◌, ◌++◌, subst}
 use Rattle.std.specs.Result.{OnOk}
 use Rattle.cdp_messages.specs.Asked.{asked}
 use Rattle.client_views.specs.Moves.{frames_of_moves}

@@ -1,9 +1,10 @@
 -- A client's edit of sheets is carried out by the CSS agent, while both domains are on, or else refused.
-use Rattle.std.proofs.Common.{Err, refl, sym, ap, subst, ◌∙◌}
+use Rattle.std.proofs.Common.{List, Err, refl, sym, ap, subst, ◌∙◌}
 use Rattle.cdp_messages.specs.declared.command.Command.TheVariants as commands
 use Rattle.back_end.specs.Sheets.{NumberedBook}
 use Rattle.back_end.specs.Outside.{command_outward}
-use Rattle.back_end.specs.Guests.{Hears, heard_step}
+use Rattle.style_edits.specs.declared.splice.Splice.{Splice}
+use Rattle.back_end.specs.Guests.{Hears, HearsSplices, heard_step}
 use Rattle.back_end.proofs.SeatLemmas.{on_ok}
 use Rattle.back_end.proofs.ScriptLemmas.{in_any}
 use Rattle.back_end.proofs.SpliceSeats.{restyled-both, restyled-sent, unrestyled-both, unrestyled-sent, why-sent, in_fault}
@@ -60,4 +61,6 @@ returns-in_ok-tell_guest_splices-in-Ok-clause-told c = λ state other first stan
     (restyled-hears c.args.guest.now c.tell_guest_splices.new.guest c.args.self.now c.args.side.now
     (record { page = c.args.side.now.page; sheets = c.edit.new.self }) state other c.args.edit.now c.in-Ok.backs.items first stands
     c.requires.room.sheets c.requires.texts c.requires.on c.requires.css c.in-Ok.ensures.done refl c.in-Ok.ensures.next
-    c.in-Ok.ensures.medium (c.in_ok-tell_guest_splices-in-Ok.ensures {u = tt}))
+    c.in-Ok.ensures.medium
+    (subst (λ (backs : List Splice). HearsSplices c.args.guest.now c.tell_guest_splices.new.guest backs) c.as_slice.ensures.value
+    (c.in_ok-tell_guest_splices-in-Ok.ensures {u = tt})))

@@ -8,7 +8,7 @@ use Rattle.back_end.proofs.SeatLemmas.{on_ok}
 use Rattle.back_end.proofs.TreeSteps.{named-plain, lowered-texts}
 use Rattle.back_end.proofs.ScriptLemmas.{in_any}
 use Rattle.back_end.proofs.TreeSeats.{edit-is, named-both, unnamed-both, edited-sent}
-use Rattle.back_end.specs.Outside.{unchanged, command_outward}
+use Rattle.back_end.specs.Outside.{command_outward}
 use Rattle.cdp_messages.specs.declared.command.Command.TheVariants as commands
 use Rattle.back_end.proofs.GuestSteps.{named-outward, named-hears, unchanged-hears}
 use Rattle.back_end.proofs.desk.Desk.answer_tree_edit.Goals as goal

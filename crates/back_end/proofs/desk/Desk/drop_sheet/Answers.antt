@@ -1,10 +1,9 @@
 -- The sheet that is meant goes.
 use Rattle.back_end.proofs.SheetSeats.{named-found, named-none, named-there}
-use Rattle.std.proofs.Common.{sym, ap, ◌∙◌}
+use Rattle.std.proofs.Common.{ap}
 use Rattle.page_forms.specs.declared.acts.Act.TheVariants as act
 use Rattle.back_end.specs.Sheets.{leaves}
 use Rattle.back_end.specs.Plans.{restyles, drop_fault, dropping}
-use Rattle.css_agent.specs.Asks.{sheet_named}
 use Rattle.back_end.proofs.GuestSteps.{unacted-hears}
 use Rattle.back_end.proofs.GuestSheets.{once-hears}
 use Rattle.back_end.proofs.desk.Desk.drop_sheet.Goals as goal

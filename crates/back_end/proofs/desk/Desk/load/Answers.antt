@@ -1,10 +1,8 @@
 -- A load puts a new page in the place of the old one, and tells which sheets go and come.
-use Rattle.std.proofs.Common.{false, ◌≡◌, ◌+◌, ◌++◌, length, map as mapped, List, [], ◌∷◌, cond, refl, sym, ap, ◌∙◌, append_assoc, arith}
-use Rattle.std.proofs.lemmas.List.Concat.{flat_map-append}
-use Rattle.pipe_frames.specs.Frames.{framed}
+use Rattle.std.proofs.Common.{false, ◌+◌, ◌++◌, length, [], ◌∷◌, cond, refl, ap, ◌∙◌, arith}
 use Rattle.cdp_messages.specs.Replies.{message_frames}
 use Rattle.css_agent.specs.Told.{turn_messages}
-use Rattle.client_views.specs.Moves.{Move, clear, dropped, move_text, frames_of_moves}
+use Rattle.client_views.specs.Moves.{clear, frames_of_moves}
 use Rattle.back_end.specs.Sheets.{as_book, numbered_sheets}
 use Rattle.page_tree.specs.Pages.{loaded}
 use Rattle.page_forms.specs.Pages.{loaded_page}

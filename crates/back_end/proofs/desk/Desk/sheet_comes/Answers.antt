@@ -1,8 +1,8 @@
 -- A sheet that fits comes last, and is told.
-use Rattle.std.proofs.Common.{◌≡◌, ◌++◌, refl, ap, ◌∙◌}
-use Rattle.cdp_messages.specs.Events.{News, sheet_added, news_of}
+use Rattle.std.proofs.Common.{◌++◌, refl, ap, ◌∙◌}
+use Rattle.cdp_messages.specs.Events.{News, news_of}
 use Rattle.cdp_messages.specs.Replies.{message_frames}
-use Rattle.css_agent.specs.Told.{told_header, event_messages}
+use Rattle.css_agent.specs.Told.{event_messages}
 use Rattle.style_edits.specs.Edits.{new_sheet}
 use Rattle.back_end.specs.Sheets.{NumberedBook}
 use Rattle.back_end.proofs.ScriptLemmas.{in_any}

@@ -9,14 +9,14 @@ overflow_sub-self c =
     let e : groups_in c.self.inside.groups.items
     ≡ c.in_ok-group.group.items ∷ groups_in c.pop.new.self.items = ap groups_in c.in_ok-group.ensures.items ∙ groups_in-push
     c.pop.new.self.items c.in_ok-group.group in
-    omega (arith, ap entry_count e, c.in_ok-group.group.ok, c.self.invariant.0)
+    omega (arith, ap entry_count e, c.in_ok-group.group.ok, c.self.invariant)
 
 pub invariant_of-self-2 : goal.invariant_of-self-2
 invariant_of-self-2 c =
     let e : groups_in c.self.inside.groups.items
     ≡ c.in_ok-group.group.items ∷ groups_in c.pop.new.self.items = ap groups_in c.in_ok-group.ensures.items ∙ groups_in-push
     c.pop.new.self.items c.in_ok-group.group in
-    (omega (arith, ap entry_count e, c.in_ok-group.group.ok, c.self.invariant.0), omega (arith, c.self.invariant.1))
+    omega (arith, ap entry_count e, c.in_ok-group.group.ok, c.self.invariant)
 
 pub returns-clause-group : goal.returns-clause-group
 returns-clause-group c = sym (ap newest

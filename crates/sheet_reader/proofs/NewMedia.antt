@@ -1,0 +1,823 @@
+-- Where the prelude of a media rule is replaced by a sealed text with no `{` or `;` outside brackets, the media rule is there.
+use Rattle.std.proofs.Common.{◌≡◌, ◌⊎◌, inl, inr, ℕ, suc, ◌+◌, ◌-◌, ◌<◌, ◌≤◌, ◌==◌, ◌&&◌, Bool, true, false, cond, List, [], ◌∷◌, ◌++◌, map}
+use Rattle.std.proofs.Common.{length, take, drop, Option, Some, None, refl, sym, ap, subst, ◌∙◌, append_assoc, append-nil, length-append}
+use Rattle.std.proofs.Common.{arith}
+use Rattle.std.specs.Prelude.{slice_get, option_map, option_to_list, codes, IsSome}
+use Rattle.std.specs.List.{list_all, find}
+use Rattle.std.specs.Char.{to_ascii_lowercase}
+use Rattle.std.specs.Str.{bytes_eq}
+use Rattle.std.proofs.lemmas.Bool.Decides.{nat_tests}
+use Rattle.std.proofs.lemmas.Bool.{eqb-true, eq-eqb}
+use Rattle.std.proofs.lemmas.List.{take-append-drop}
+use Rattle.std.proofs.Math.Seq.{drop-append_seam, take-append_seam}
+use Rattle.css_tokens.specs.declared.token.Token.{Token}
+use Rattle.css_tokens.specs.declared.token.TokenKind.{TokenKind}
+use Rattle.css_tokens.specs.declared.token.TokenKind.TheVariants as tokens
+use Rattle.css_tokens.specs.Codes.{is_white}
+use Rattle.css_tokens.specs.Escapes.{escape_len, unescaped}
+use Rattle.css_tokens.specs.Forms.{Units, NameUnit}
+use Rattle.css_tokens.specs.Pieces.{pieces, pieces_after}
+use Rattle.css_tokens.specs.Rows.{piece, first_piece}
+use Rattle.css_tokens.specs.Runs.{name_unit, starts_ident}
+use Rattle.css_tokens.specs.Seams.{IsWholeBefore}
+use Rattle.css_tokens.proofs.Cuts.{piece_first}
+use Rattle.css_tokens.proofs.SeamPieces.{pieces_at}
+use Rattle.selectors.specs.Words.{words_after, between}
+use Rattle.selectors.specs.Reading.{range_of}
+use Rattle.sheet_reader.specs.declared.brackets.Bracket.{Bracket}
+use Rattle.sheet_reader.specs.declared.brackets.Nesting.TheVariants.{Closed}
+use Rattle.sheet_reader.specs.declared.brackets.Stop.TheVariants as stops
+use Rattle.sheet_reader.specs.declared.parts.Level.{Level}
+use Rattle.sheet_reader.specs.declared.parts.Level.TheVariants.{Top, Inner}
+use Rattle.sheet_reader.specs.declared.sheet.MediaRule.{MediaRule}
+use Rattle.sheet_reader.specs.Brackets.{opened_by, closed_by, is_none_open, stops_at, open_after, open_by, until_in, until, nesting}
+use Rattle.sheet_reader.specs.Forms.{RuleForm}
+use Rattle.sheet_reader.specs.Grammar.{outside, AreValues, EndsBefore, IsEnding, in_block, in_open_block, IsPart, passed_part, at_rule_part}
+use Rattle.sheet_reader.specs.Grammar.{AreNested, plain_and, is_at_keyword}
+use Rattle.sheet_reader.specs.Layout.{names_media, MediaForm, media_form, media_rule, media_of, media_in, Laid, laid, level_of, laid_out}
+use Rattle.sheet_reader.specs.Layout.{prelude_range, media_laid}
+use Rattle.sheet_reader.specs.Moves.{replaced}
+use Rattle.sheet_reader.specs.Preludes.{KeepsMedia, ends_keyword, takes_space, spaces_behind, spaces_by, spaces_at}
+use Rattle.sheet_reader.specs.Parts.{block, PartForm, passed, at_rule, is_passed, parts}
+use Rattle.sheet_reader.specs.Sealing.{is_sealed, is_sealed_prelude}
+use Rattle.sheet_reader.specs.Sheets.{sheet_of}
+use Rattle.sheet_reader.proofs.BracketLemmas.{go_on, stop_here}
+use Rattle.sheet_reader.proofs.ExchangeForms.{reaches}
+use Rattle.sheet_reader.proofs.FrameForms.{media_append}
+use Rattle.sheet_reader.proofs.FreeWords.{closed_opens}
+use Rattle.sheet_reader.proofs.Gaps.{AllPassed, Gap, no_gap, gap_white, gap_comment, gap_mark, gap_append, gap_whites}
+use Rattle.sheet_reader.proofs.Gaps.{gap_of, skips, passed_top, white_codes, white_first}
+use Rattle.sheet_reader.proofs.GrammarForms.{parts_spelled}
+use Rattle.sheet_reader.proofs.KeyNames.{units_front, Moves, stays, grows, units_move, SaysMedia, starts_media, KeyName, key_name}
+use Rattle.sheet_reader.proofs.KeyNames.{key_piece}
+use Rattle.sheet_reader.proofs.LayoutForms.{laid_spelled}
+use Rattle.sheet_reader.proofs.MadePreludes.{Placed, placed_with, ends_whole, tail_pieces, put_on, front_same, curly_on}
+use Rattle.sheet_reader.proofs.MediaSpots.{spot_other, LedLaid, out_is, laid_past, reads_laid}
+use Rattle.sheet_reader.proofs.MediaStarts.{StartFrom, from_append, laid_from, up_to_all}
+use Rattle.sheet_reader.proofs.UsableForms.{sheet_usable}
+use Rattle.std.specs.Str.{IsUtf8}
+use Rattle.std.specs.List.{AllByRecursion, prefix_len}
+use Rattle.std.specs.Prelude.{nat_le}
+use Rattle.css_tokens.specs.declared.token.Range.{Range}
+use Rattle.selectors.specs.Ranges.{AreBetween}
+use Rattle.selectors.specs.Words.{word_of}
+use Rattle.selectors.specs.declared.words.Word.{Word}
+use Rattle.sheet_reader.proofs.PutPieces.{at_place, passed_words}
+use Rattle.sheet_reader.proofs.PreludeWords.{lead_words, first_word, range_some}
+use Rattle.sheet_reader.proofs.ReadMoves.{tokens_split}
+use Rattle.sheet_reader.proofs.MovedLaw.{white_last, closed_is}
+use Rattle.sheet_reader.proofs.NestingForms.{closed_nested}
+use Rattle.sheet_reader.proofs.OldMedia.{OldMedia, old_media}
+use Rattle.sheet_reader.proofs.OpenForms.{passes}
+use Rattle.sheet_reader.proofs.PartMoves.{map_length}
+use Rattle.sheet_reader.proofs.PreludeWords.{passed_nested, nested_append, passed_nesting, until_front}
+use Rattle.sheet_reader.proofs.PutPieces.{WholeParts, whole_split, solid_begin, LeadSolid, split_lead}
+use Rattle.sheet_reader.proofs.Raised.{raised}
+use Rattle.sheet_reader.proofs.ReadMoves.{AllTokens, nesting_raised}
+use Rattle.sheet_reader.proofs.SealedCuts.{SealedPieces, sealed_pieces, sealed_own, white_is, AllWhite}
+use Rattle.sheet_reader.proofs.SealedSeams.{CutBefore, cut_before}
+use Rattle.sheet_reader.proofs.SpaceUnits.{both}
+use Rattle.sheet_reader.proofs.SpotEnds.{strip}
+use Rattle.sheet_reader.proofs.Spots.{Spot, nested_stays, closing, media_named, cut_is, values_at}
+use Rattle.sheet_reader.proofs.TextMoves.{whole_tokens}
+use Rattle.sheet_reader.proofs.ValueForms.{until_splits}
+use Rattle.sheet_reader.proofs.WordMoves.{SamePart}
+
+-- ---- the keyword, before the new prelude
+
+-- the first code of such a text goes on no name
+gap_code : (c : ℕ) (x y all : List ℕ) → all ≡ c ∷ x → Gap Inner all → name_unit (c ∷ y) ≡ 0
+unfolding escape_len
+gap_code c x y _ e no_gap = absurd (cc)
+gap_code c x y _ e (gap_white d z w g) =
+    let same : d ≡ c = cc in
+    white_codes (λ (n : ℕ). name_unit (n ∷ y) ≡ 0) refl refl refl refl refl c (subst (λ (n : ℕ). is_white n ≡ true) same w)
+gap_code c x y all e (gap_comment inner z _ is own g) =
+    let same : 47 ∷ ((42 ∷ inner) ++ z) ≡ c ∷ x = sym is ∙ e in
+    let first : 47 ≡ c = cc in
+    subst (λ (n : ℕ). name_unit (n ∷ y) ≡ 0) first refl
+gap_code c x y all e (gap_mark first inner z _ k is top over solid own g) = absurd (cc)
+
+space_unit : (x : List ℕ) → name_unit (32 ∷ x) ≡ 0
+unfolding escape_len
+space_unit x = refl
+
+-- the spaces that go before a text put right behind a keyword
+abbrev pub spaces_for : List ℕ → List ℕ
+spaces_for key = cond (length (pieces (key ++ 32 ∷ [])) == 1) (32 ∷ 32 ∷ []) (32 ∷ [])
+
+-- the keyword before the new text, and what is passed over between
+record NewKey (key lead spaces behind : List ℕ) : Type 0 where
+  name : List ℕ
+  gap : List ℕ
+  is : key ++ (lead ++ (spaces ++ behind)) ≡ (64 ∷ name) ++ (gap ++ behind)
+  open_gap : Gap Inner gap
+  found : first_piece ((64 ∷ name) ++ (gap ++ behind)) ≡ Some (piece tokens.AtKeyword (length (64 ∷ name)))
+  says : SaysMedia name
+  fits : length (64 ∷ name) ≤ length key + length lead + length spaces
+
+two_pieces : (key : List ℕ) (k : TokenKind) → 0 < length key → first_piece (key ++ 32 ∷ []) ≡ Some (piece k (length key))
+    → (length (pieces (key ++ 32 ∷ [])) == 1) ≡ false
+unfolding pieces_after
+two_pieces key k some found =
+    let first = piece_first (key ++ 32 ∷ []) 0 (piece k (length key)) found some (omega (arith, length-append key (32 ∷ []))) in
+    let left : drop (length key) (key ++ 32 ∷ []) ≡ 32 ∷ [] = drop-append_seam key (32 ∷ []) in
+    let size : length (pieces (key ++ 32 ∷ [])) ≡ 1 + length (pieces_after (0 + length key) 0 (32 ∷ [])) =
+    omega (arith, ap (λ (ts : List Token). length ts) first, ap (λ (x : List ℕ). length (pieces_after (0 + length key) 0 x)) left) in
+    by (length (pieces_after (0 + length key) 0 (32 ∷ []))) (some_piece (0 + length key)) (length (pieces (key ++ 32 ∷ []))) size
+  where
+    some_piece : (n : ℕ) → 0 < length (pieces_after n 0 (32 ∷ []))
+    some_piece n =
+        let e = piece_first (32 ∷ []) n (piece tokens.WhiteSpace 1) (white_first 32 [] refl) (omega arith) (omega arith) in
+        omega (arith, ap (λ (ts : List Token). length ts) e)
+
+    by : (m : ℕ) → 0 < m → (n : ℕ) → n ≡ 1 + m → (n == 1) ≡ false
+    by m some n e = grind (arith, nat_tests)
+
+one_piece : (key : List ℕ) (k : TokenKind) → 0 < length key → first_piece key ≡ Some (piece k (length key))
+    → (length (pieces key) == 1) ≡ true
+unfolding pieces_after
+one_piece key k some found =
+    let first = piece_first key 0 (piece k (length key)) found some (omega arith) in
+    let left : drop (length key) key ≡ [] = ap (drop (length key)) (sym (append-nil key)) ∙ drop-append_seam key [] in
+    let size : length (pieces key) ≡ 1 = ap (λ (ts : List Token). length ts) first
+    ∙ ap (λ (x : List ℕ). suc (length (pieces_after (0 + length key) 0 x))) left in
+    ap (λ (n : ℕ). n == 1) size
+
+new_key : (key lead old spaces behind : List ℕ) (k : TokenKind) → is_at_keyword k ≡ true
+    → first_piece (key ++ (lead ++ old)) ≡ Some (piece k (length key))
+    → 0 < length old → Gap Inner lead → list_all is_white spaces ≡ true → (lead ≡ [] → spaces ≡ spaces_for key)
+    → (KeyName key (lead ++ old) → SaysMedia (drop 1 key)) → NewKey key lead spaces behind
+new_key key lead old spaces behind k at found some open_lead white fits says = by lead refl (key_name key (lead ++ old) k at found)
+  where
+    name_says : (n : KeyName key (lead ++ old)) → SaysMedia n.name
+    name_says n = subst SaysMedia (ap (drop 1) n.is) (says n)
+
+    -- where something stands between
+    apart : (c : ℕ) (x : List ℕ) → lead ≡ c ∷ x → KeyName key (lead ++ old) → NewKey key lead spaces behind
+    apart c x e n =
+        let after = x ++ (spaces ++ behind) in
+        let units = units_front n.name c (x ++ old) after (subst (λ (t : List ℕ). Units NameUnit n.name (t ++ old)) e n.units) in
+        let starts = starts_media n.name (lead ++ old) (c ∷ after) (name_says n) n.starts in
+        let piece_is = key_piece n.name (c ∷ after) starts units (gap_code c x after lead e open_lead) in
+        let whole : lead ++ (spaces ++ behind) ≡ (lead ++ spaces) ++ behind = sym (append_assoc lead spaces behind) in
+        record {
+          name = n.name;
+          gap = lead ++ spaces;
+          is = ap (λ (t : List ℕ). t ++ (lead ++ (spaces ++ behind))) n.is ∙ ap (λ (t : List ℕ). (64 ∷ n.name) ++ t) whole;
+          open_gap = gap_append Inner lead spaces open_lead (gap_whites Inner spaces white);
+          found = ap (λ (t : List ℕ). first_piece ((64 ∷ n.name) ++ t)) (sym whole ∙ ap (λ (t : List ℕ). t ++ (spaces ++ behind)) e)
+              ∙ piece_is;
+          says = name_says n;
+          fits = omega (arith, ap length n.is);
+        }
+
+    -- where nothing does
+    tight : lead ≡ [] → (d : ℕ) (x : List ℕ) → old ≡ d ∷ x → KeyName key (lead ++ old) → NewKey key lead spaces behind
+    tight none d x e n = moves (units_move n.name d x (subst (Units NameUnit n.name) (ap (λ (t : List ℕ). t ++ old) none ∙ e) n.units))
+      where
+        start : (t : List ℕ) → starts_ident (n.name ++ t) ≡ true
+        start t = starts_media n.name (lead ++ old) t (name_says n) n.starts
+
+        moves : Moves n.name → NewKey key lead spaces behind
+        moves (stays f) =
+            let alone = key_piece n.name (32 ∷ []) (start (32 ∷ [])) (f []) (space_unit []) in
+            let takes = ap (λ (t : List ℕ). length (pieces (t ++ 32 ∷ [])) == 1) n.is
+            ∙ two_pieces (64 ∷ n.name) tokens.AtKeyword (omega arith) alone in
+            let spaces_is : spaces ≡ 32 ∷ [] = fits none ∙ ap (λ (b : Bool). cond b (32 ∷ 32 ∷ []) (32 ∷ [])) takes in
+            record {
+              name = n.name;
+              gap = 32 ∷ [];
+              is = (λ i. n.is i ++ (none i ++ (spaces_is i ++ behind)));
+              open_gap = gap_white 32 [] refl no_gap;
+              found = key_piece n.name (32 ∷ behind) (start (32 ∷ behind)) (f behind) (space_unit behind);
+              says = name_says n;
+              fits = omega (arith, ap length n.is);
+            }
+        moves (grows f same) =
+            let long = n.name ++ 32 ∷ [] in
+            let begin : (t : List ℕ) → starts_ident (long ++ t) ≡ true =
+            λ t. ap starts_ident (append_assoc n.name (32 ∷ []) t) ∙ start (32 ∷ t) in
+            let alone = key_piece long [] (begin []) (f []) refl in
+            let whole : key ++ 32 ∷ [] ≡ 64 ∷ long = ap (λ (t : List ℕ). t ++ 32 ∷ []) n.is in
+            let takes = ap (λ (t : List ℕ). length (pieces t) == 1) whole
+            ∙ one_piece (64 ∷ long) tokens.AtKeyword (omega arith) (ap first_piece (sym (append-nil (64 ∷ long))) ∙ alone) in
+            let spaces_is : spaces ≡ 32 ∷ 32 ∷ [] = fits none ∙ ap (λ (b : Bool). cond b (32 ∷ 32 ∷ []) (32 ∷ [])) takes in
+            record {
+              name = long;
+              gap = 32 ∷ [];
+              is = (λ i. n.is i ++ (none i ++ (spaces_is i ++ behind)))
+                  ∙ ap (λ (t : List ℕ). 64 ∷ t) (sym (append_assoc n.name (32 ∷ []) (32 ∷ behind)));
+              open_gap = gap_white 32 [] refl no_gap;
+              found = key_piece long (32 ∷ behind) (begin (32 ∷ behind)) (f (32 ∷ behind)) (space_unit behind);
+              says = ap (λ (t : List ℕ). says_by t) same ∙ name_says n;
+              fits = omega (arith, ap length n.is, ap length spaces_is, length-append n.name (32 ∷ []));
+            }
+          where
+            says_by : List ℕ → Bool
+            says_by t = bytes_eq (map to_ascii_lowercase t) (codes "media")
+
+    by : (t : List ℕ) → lead ≡ t → KeyName key (lead ++ old) → NewKey key lead spaces behind
+    by (c ∷ x) e n = apart c x e n
+    by [] e n = first old refl
+      where
+        first : (o : List ℕ) → old ≡ o → NewKey key lead spaces behind
+        first [] g = absurd (omega (arith, some, ap length g))
+        first (d ∷ x) g = tight e d x g n
+
+-- ---- the pieces behind the keyword
+
+and_no : (a b : Bool) → b ≡ false → (a && b) ≡ false
+and_no true b e = e
+and_no false b e = refl
+
+plain_kind : (k : TokenKind) → is_passed Top k ≡ true
+    → (opened_by k ≡ None) × (closed_by k ≡ None) × (stops_at stops.BlockOrSemicolon k ≡ false)
+plain_kind tokens.Comment e = (refl, refl, refl)
+plain_kind tokens.WhiteSpace e = (refl, refl, refl)
+plain_kind tokens.Cdo e = (refl, refl, refl)
+plain_kind tokens.Cdc e = (refl, refl, refl)
+plain_kind _ e = absurd (cc)
+
+passed_on : (level : Level) (lead : List Token) → AllPassed level lead → (bs : List Bracket) (rest : List Token)
+    → until_in stops.BlockOrSemicolon bs (lead ++ rest) ≡ length lead + until_in stops.BlockOrSemicolon bs rest
+passed_on level [] all bs rest = omega arith
+passed_on level (t ∷ lead) all bs rest =
+    let p = plain_kind t.kind (passed_top level t.kind all.0) in
+    let on = go_on stops.BlockOrSemicolon bs t (lead ++ rest) (and_no (is_none_open bs) (stops_at stops.BlockOrSemicolon t.kind) p.2) in
+    let same : open_after bs t.kind ≡ bs = λ i. open_by bs (p.0 i) (p.1 i) in
+    let next = ap (λ (x : List Bracket). until_in stops.BlockOrSemicolon x (lead ++ rest)) same in
+    let more = passed_on level lead all.1 bs rest in
+    omega (arith, on, next, more)
+
+-- a prelude and its `{`
+record NewPrelude (place size : ℕ) (tail : List ℕ) : Type 0 where
+  prelude : List Token
+  brace : Token
+  zs : List Token
+  is : pieces_after place 0 tail ≡ prelude ++ brace ∷ zs
+  nested : AreNested prelude
+  curly : brace.kind ≡ tokens.OpenCurly
+  ends : (rest : List Token) → until stops.BlockOrSemicolon (prelude ++ brace ∷ rest) ≡ length prelude
+  -- it starts among the first codes, and the `{` stands behind them
+  starts : (text : List ℕ) (keyword : Token) → keyword.end ≤ place
+      → (prelude_range keyword (range_of (words_after text false prelude))).start ≤ place + size
+  far : place + size < brace.end
+  hi : ℕ
+  left : AllTokens brace.end hi zs
+
+brace_here : (brace : Token) (rest : List Token) → brace.kind ≡ tokens.OpenCurly → until stops.BlockOrSemicolon (brace ∷ rest) ≡ 0
+brace_here brace rest curly = stop_here stops.BlockOrSemicolon [] brace rest (ap (stops_at stops.BlockOrSemicolon) curly)
+
+-- the search passes the pieces of the text put in, but for white space at its end
+us_on : (put : List ℕ) → is_sealed_prelude put ≡ true → (s : SealedPieces put) → nesting s.us ≡ Closed → (ys : List Token)
+    → until stops.BlockOrSemicolon (s.us ++ ys) ≡ length s.us + until stops.BlockOrSemicolon ys
+us_on put sealed s closed ys =
+    passes stops.BlockOrSemicolon s.us ys [] (by s.either)
+    ∙ ap (λ (bs : List Bracket). length s.us + until_in stops.BlockOrSemicolon bs ys) (closed_opens [] s.us closed)
+  where
+    all : until stops.BlockOrSemicolon s.own ≡ length s.own
+    all = subst (λ (ts : List Token). until stops.BlockOrSemicolon ts ≡ length ts) (sealed_own put s)
+        (eqb-true _ _ (both (is_sealed put) _ sealed).1)
+
+    by : (s.own ≡ s.us) ⊎ ((w : Token) × (s.own ≡ s.us ++ w ∷ []) × (w.kind ≡ tokens.WhiteSpace))
+        → length s.us ≤ until stops.BlockOrSemicolon (s.us ++ ys)
+    by (inl e) =
+        let cut : until stops.BlockOrSemicolon (s.us ++ []) ≡ length s.us =
+        ap (until stops.BlockOrSemicolon) (append-nil s.us)
+        ∙ subst (λ (ts : List Token). until stops.BlockOrSemicolon ts ≡ length ts) e all in
+        reaches stops.BlockOrSemicolon s.us [] ys [] (omega (arith, cut))
+    by (inr w) =
+        let cut : until stops.BlockOrSemicolon (s.us ++ w.0 ∷ []) ≡ length (s.us ++ w.0 ∷ []) =
+        subst (λ (ts : List Token). until stops.BlockOrSemicolon ts ≡ length ts) w.1 all in
+        reaches stops.BlockOrSemicolon s.us (w.0 ∷ []) ys [] (omega (arith, cut, length-append s.us (w.0 ∷ [])))
+
+-- where it has words or marks
+put_prelude : (put gap rest lead front trail : List ℕ) (us : List Token) → put ≡ front ++ trail → AllWhite trail → Gap Inner gap
+    → Gap Inner lead → (place : ℕ) (l : LeadSolid us)
+    → nesting us ≡ Closed
+    → ((ys : List Token) → until stops.BlockOrSemicolon (us ++ ys) ≡ length us + until stops.BlockOrSemicolon ys)
+    → WholeParts (trail ++ (gap ++ 123 ∷ rest)) 0 front l.lead (l.first ∷ l.rest)
+    → (size : ℕ) → l.first.start < size → size ≤ length put → NewPrelude place (length lead + size) (lead ++ (put ++ (gap ++ 123 ∷ rest)))
+put_prelude put gap rest lead front trail us parts_are white blank open_lead place l closed ends w limit early within =
+    let v = gap ++ 123 ∷ rest in
+    let ts = l.first ∷ l.rest in
+    let Y = w.behind ++ (trail ++ v) in
+    let whole : IsWholeBefore (trail ++ v) (length w.front) w.behind ts =
+    subst (λ (n : ℕ). IsWholeBefore (trail ++ v) n w.behind ts) (omega arith) w.second in
+    let b = solid_begin (trail ++ v) (length w.front) w.behind l.first l.rest whole l.solid in
+    let open_front = gap_of Inner Y (omega (arith, b.1, length-append w.behind (trail ++ v))) 0 w.front l.lead w.first l.passed in
+    let z = lead ++ w.front in
+    let parted : lead ++ (put ++ v) ≡ z ++ Y =
+    ap (λ (t : List ℕ). lead ++ (t ++ v)) (parts_are ∙ ap (λ (t : List ℕ). t ++ trail) w.is)
+    ∙ ap (λ (t : List ℕ). lead ++ t) (append_assoc (w.front ++ w.behind) trail v ∙ append_assoc w.front w.behind (trail ++ v))
+    ∙ sym (append_assoc lead w.front Y) in
+    let k = (skips Inner Y b.0 z (gap_append Inner lead w.front open_lead open_front) place).start in
+    let n = place + length lead in
+    let at : place + length z ≡ n + length w.front = omega (arith, length-append lead w.front) in
+    let t = tail_pieces (n + (length w.front + length w.behind)) (trail ++ gap) rest
+    (gap_append Inner trail gap (gap_whites Inner trail white) blank) in
+    let f = λ (x : ℕ). n + x in
+    let own = map (raised f) ts in
+    let on = put_on put n w.behind (trail ++ v) (length w.front) ts whole in
+    let closed_rest : nesting ts ≡ Closed = sym (passed_nesting Inner l.lead l.passed [] ts) ∙ sym (ap nesting l.is) ∙ closed in
+    record {
+      prelude = k.lead ++ (own ++ t.trail);
+      brace = t.brace;
+      zs = t.zs;
+      is = ap (pieces_after place 0) parted ∙ k.is
+          ∙ ap (λ (x : List Token). k.lead ++ x)
+          (ap (λ (m : ℕ). pieces_after m 0 Y) at ∙ on
+          ∙ ap (λ (x : List Token). own ++ x)
+          (ap (pieces_after (n + (length w.front + length w.behind)) 0) (sym (append_assoc trail gap (123 ∷ rest))) ∙ t.is)
+          ∙ sym (append_assoc own t.trail (t.brace ∷ t.zs)))
+          ∙ sym (append_assoc k.lead (own ++ t.trail) (t.brace ∷ t.zs));
+      nested = nested_append k.lead (own ++ t.trail) (passed_nested Inner k.lead k.passed)
+          (nested_append own t.trail (closed_nested own (nesting_raised f [] ts ∙ closed_rest)) (passed_nested Inner t.trail t.blank));
+      curly = t.curly;
+      ends = λ ys. count k.lead k.passed t.trail t.blank t.brace t.curly f ys;
+      starts = λ text keyword at.
+          let moved = lead_words text false k.lead (own ++ t.trail) k.passed in
+          let one = range_some (word_of text moved.0 (raised f l.first)) (words_after text false (map (raised f) l.rest ++ t.trail)) in
+          let found : range_of (words_after text false (k.lead ++ (own ++ t.trail))) ≡ Some one.0 =
+          ap range_of (moved.1 ∙ first_word text moved.0 (raised f l.first) (map (raised f) l.rest ++ t.trail) l.solid) ∙ one.1 in
+          let start : (prelude_range keyword (range_of (words_after text false (k.lead ++ (own ++ t.trail))))).start ≡ n + l.first.start =
+          ap (λ (o : Option Range). (prelude_range keyword o).start) found ∙ one.2 in
+          omega (arith, start, early);
+      far = omega (
+        arith,
+        t.far,
+        within,
+        ap length parts_are,
+        ap length w.is,
+        length-append front trail,
+        length-append w.front w.behind,
+        length-append trail gap,
+      );
+      hi = t.brace.end + length rest;
+      left = t.left;
+    }
+  where
+    own_ends : (ys : List Token)
+        → until stops.BlockOrSemicolon ((l.first ∷ l.rest) ++ ys) ≡ length (l.first ∷ l.rest) + until stops.BlockOrSemicolon ys
+    own_ends ys =
+        let on = passed_on Inner l.lead l.passed [] ((l.first ∷ l.rest) ++ ys) in
+        let all = ends ys in
+        let cut : until stops.BlockOrSemicolon (us ++ ys) ≡ until stops.BlockOrSemicolon (l.lead ++ ((l.first ∷ l.rest) ++ ys)) =
+        ap (λ (xs : List Token). until stops.BlockOrSemicolon (xs ++ ys)) l.is
+        ∙ ap (until stops.BlockOrSemicolon) (append_assoc l.lead (l.first ∷ l.rest) ys) in
+        let size : length us ≡ length l.lead + length (l.first ∷ l.rest) =
+        ap (λ (xs : List Token). length xs) l.is ∙ length-append l.lead (l.first ∷ l.rest) in
+        omega (arith, on, all, cut, size)
+
+    count : (lead : List Token) → AllPassed Inner lead → (trail : List Token) → AllPassed Inner trail → (brace : Token)
+        → brace.kind ≡ tokens.OpenCurly → (f : ℕ → ℕ) (ys : List Token)
+        → until stops.BlockOrSemicolon ((lead ++ (map (raised f) (l.first ∷ l.rest) ++ trail)) ++ brace ∷ ys)
+        ≡ length (lead ++ (map (raised f) (l.first ∷ l.rest) ++ trail))
+    count lead quiet trail blank brace curly f ys =
+        let ts = l.first ∷ l.rest in
+        let own = map (raised f) ts in
+        let one = ap (until stops.BlockOrSemicolon) (append_assoc lead (own ++ trail) (brace ∷ ys)
+        ∙ ap (λ (x : List Token). lead ++ x) (append_assoc own trail (brace ∷ ys))) in
+        let two = passed_on Inner lead quiet [] (own ++ (trail ++ brace ∷ ys)) in
+        let three = until_front stops.BlockOrSemicolon f [] ts (trail ++ brace ∷ ys) in
+        let four = own_ends (trail ++ brace ∷ ys) in
+        let five = passed_on Inner trail blank [] (brace ∷ ys) in
+        let six = brace_here brace ys curly in
+        omega
+        (arith, one, two, three, four, five, six, length-append lead (own ++ trail), length-append own trail, map_length (raised f) ts)
+
+-- where it has none
+blank_prelude : (put gap rest lead front trail : List ℕ) (us : List Token) → put ≡ front ++ trail → AllWhite trail → Gap Inner gap
+    → Gap Inner lead → (place : ℕ) → AllPassed Inner us → (size : ℕ) → size ≤ length put
+    → IsWholeBefore (trail ++ (gap ++ 123 ∷ rest)) 0 front us → NewPrelude place (length lead + size) (lead ++ (put ++ (gap ++ 123 ∷ rest)))
+blank_prelude put gap rest lead front trail us parts_are white blank open_lead place all limit within whole =
+    let v = gap ++ 123 ∷ rest in
+    let open_front =
+    gap_of Inner (trail ++ v) (omega (arith, length-append trail v, length-append gap (123 ∷ rest))) 0 front us whole all in
+    let z = lead ++ (front ++ (trail ++ gap)) in
+    let t = tail_pieces place z rest
+    (gap_append Inner lead (front ++ (trail ++ gap)) open_lead
+    (gap_append Inner front (trail ++ gap) open_front (gap_append Inner trail gap (gap_whites Inner trail white) blank))) in
+    let parted : lead ++ (put ++ v) ≡ z ++ 123 ∷ rest =
+    ap (λ (x : List ℕ). lead ++ (x ++ v)) parts_are
+    ∙ ap (λ (x : List ℕ). lead ++ x) (append_assoc front trail v
+    ∙ ap (λ (x : List ℕ). front ++ x) (sym (append_assoc trail gap (123 ∷ rest)))
+    ∙ sym (append_assoc front (trail ++ gap) (123 ∷ rest)))
+    ∙ sym (append_assoc lead (front ++ (trail ++ gap)) (123 ∷ rest)) in
+    record {
+      prelude = t.trail;
+      brace = t.brace;
+      zs = t.zs;
+      is = ap (pieces_after place 0) parted ∙ t.is;
+      nested = passed_nested Inner t.trail t.blank;
+      curly = t.curly;
+      ends = λ ys.
+          let on = passed_on Inner t.trail t.blank [] (t.brace ∷ ys) in
+          let here = brace_here t.brace ys t.curly in
+          omega (arith, on, here);
+      starts = λ text keyword at.
+          let none : (prelude_range keyword (range_of (words_after text false t.trail))).start ≡ keyword.end =
+          ap (λ (ws : List Word). (prelude_range keyword (range_of ws)).start) (passed_words text t.trail t.blank) in
+          omega (arith, none, at);
+      far = omega (
+        arith,
+        t.far,
+        within,
+        ap length parts_are,
+        length-append front trail,
+        length-append lead (front ++ (trail ++ gap)),
+        length-append front (trail ++ gap),
+        length-append trail gap,
+      );
+      hi = t.brace.end + length rest;
+      left = t.left;
+    }
+
+new_prelude : (put gap rest lead : List ℕ) → is_sealed_prelude put ≡ true → Gap Inner gap → Gap Inner lead → (place : ℕ)
+    → NewPrelude place (length lead + length put) (lead ++ (put ++ (gap ++ 123 ∷ rest)))
+new_prelude put gap rest lead sealed blank open_lead place =
+    subst (λ (t : List ℕ). NewPrelude place (length lead + length put) (lead ++ t)) c.same (by (split_lead us))
+  where
+    s : SealedPieces put
+    s = sealed_pieces put (both (is_sealed put) _ sealed).0
+
+    c : CutBefore put gap rest s
+    c = cut_before put gap rest s blank
+
+    us : List Token
+    us = map (raised c.moved) s.us
+
+    all_closed : nesting s.us ≡ Closed
+    all_closed = sym (white_last [] s.us s.white (white_is s.white.kind s.is_white)) ∙ closed_is (nesting (s.us ++ s.white ∷ [])) s.nested
+
+    ends : (ys : List Token) → until stops.BlockOrSemicolon (us ++ ys) ≡ length us + until stops.BlockOrSemicolon ys
+    ends ys =
+        let same = until_front stops.BlockOrSemicolon c.moved [] s.us ys in
+        let on = us_on put sealed s all_closed ys in
+        omega (arith, same, on, map_length (raised c.moved) s.us)
+
+    by : AllPassed Inner us ⊎ LeadSolid us → NewPrelude place (length lead + length put) (lead ++ (c.text ++ (c.behind ++ 123 ∷ rest)))
+    by (inl all) = blank_prelude c.text c.behind rest lead c.front c.trail us c.parted c.white c.blank open_lead place all (length put) c.long c.whole
+    by (inr l) = put_prelude c.text c.behind rest lead c.front c.trail us c.parted c.white c.blank open_lead place l
+        (nesting_raised c.moved [] s.us ∙ all_closed) ends
+        (whole_split (c.trail ++ (c.behind ++ 123 ∷ rest)) 0 c.front l.lead (l.first ∷ l.rest)
+        (subst (IsWholeBefore (c.trail ++ (c.behind ++ 123 ∷ rest)) 0 c.front) l.is c.whole))
+        (length put) (at_place (length put) l.lead l.first l.rest (subst (AllByRecursion (λ t. t.start < length put)) l.is c.early)) c.long
+
+-- ---- the media rule at a place between parts
+
+no_media_in : (text : List ℕ) → media_in text [] ≡ []
+unfolding media_in
+no_media_in text = refl
+
+-- it has this keyword and this prelude
+abbrev IsMedia : List ℕ → Token → List Token → Laid → Type 0
+IsMedia text keyword prelude l =
+    (m : MediaRule) × (media_of text l ≡ Some m) × (m.prelude ≡ prelude_range keyword (range_of (words_after text false prelude)))
+
+module _ (text : List ℕ) (a : Option ℕ) (j : ℕ) (keyword : Token) (prelude : List Token) (brace : Token)
+    (at : keyword.kind ≡ tokens.AtKeyword)
+    (named : names_media text keyword keyword.kind ≡ true) (curly : brace.kind ≡ tokens.OpenCurly)
+    (ends : (rest : List Token) → until stops.BlockOrSemicolon (prelude ++ brace ∷ rest) ≡ length prelude) (hi : ℕ) where
+  led_by : (zs inside : List Token) (last : Option Token) (rest : List Token) → zs ≡ inside ++ (option_to_list last ++ rest)
+      → IsEnding (block brace inside last) rest → AllTokens brace.end hi zs
+      → LedLaid text (IsMedia text keyword prelude) brace.end j j (laid_out text a j (keyword ∷ (prelude ++ brace ∷ zs)))
+  led_by zs inside last rest cut closed all =
+      let p : PartForm = at_rule keyword prelude (block brace inside last) in
+      let m : MediaForm = record { keyword = keyword; prelude = prelude; inside = inside } in
+      let within = laid_out text (Some j) (suc j) inside in
+      let i = suc j + length (media_in text within) in
+      let ls = laid_out text a i rest in
+      let part : IsPart (level_of a) p rest = at_rule_part keyword prelude (block brace inside last) at
+      (record {
+        values = values_at stops.BlockOrSemicolon prelude (brace ∷ ((inside ++ option_to_list last) ++ rest))
+            (ends ((inside ++ option_to_list last) ++ rest));
+        stopped = ap (stops_at stops.BlockOrSemicolon) curly;
+        ends = closed;
+      }) in
+      let form : media_form text p ≡ Some m = media_named text keyword prelude brace inside last named in
+      let both = tokens_split brace.end hi inside (option_to_list last ++ rest) (subst (AllTokens brace.end hi) cut all) in
+      let left = tokens_split brace.end hi (option_to_list last) rest both.1 in
+      let out = out_is text (IsMedia text keyword prelude) brace.end hi a j p (keyword ∷ (prelude ++ brace ∷ zs)) rest (laid a p ∷ (within ++ ls))
+      (ap (λ (l : List Token). keyword ∷ l) (sym (append_assoc prelude (brace ∷ []) zs))
+      ∙ cut_is keyword brace prelude [] zs inside (option_to_list last) rest cut) part
+      (media_laid p m (parts Inner inside) (parts (level_of a) rest) within ls form (parts_spelled Inner inside)
+      (laid_spelled text (Some j) (suc j) inside) (laid_spelled text a i rest)) in
+      record {
+        before = [];
+        here = laid a p;
+        after = within ++ ls;
+        is = sym out;
+        count = omega (arith, ap (λ (ms : List MediaRule). length ms) (no_media_in text));
+        own = (media_rule text a m, ap (option_map (media_rule text a)) form, refl);
+        behind = subst (StartFrom brace.end) (sym (media_append text within ls))
+            (from_append brace.end (media_in text within) (media_in text ls) (laid_from text brace.end hi (Some j) (suc j) inside both.0)
+            (laid_from text brace.end hi a i rest left.1));
+      }
+
+  led_here : (zs : List Token) → AllTokens brace.end hi zs → LedLaid text (IsMedia text keyword prelude) brace.end j j (laid_out text a j (keyword ∷ (prelude ++ brace ∷ zs)))
+  led_here zs all = by (drop n zs) refl
+    where
+      n : ℕ
+      n = until stops.BlockEnd zs
+
+      by : (left : List Token) → drop n zs ≡ left
+          → LedLaid text (IsMedia text keyword prelude) brace.end j j (laid_out text a j (keyword ∷ (prelude ++ brace ∷ zs)))
+      by [] e =
+          let s = until_splits stops.BlockEnd zs in
+          led_by zs (take n zs) None [] (sym (take-append-drop n zs) ∙ ap (λ (l : List Token). take n zs ++ l) e)
+          (in_open_block brace (take n zs) curly (subst (AreValues (outside stops.BlockEnd) (take n zs)) e s.values) refl) all
+      by (c ∷ rest) e =
+          let s = until_splits stops.BlockEnd zs in
+          led_by zs (take n zs) (Some c) rest (sym (take-append-drop n zs) ∙ ap (λ (l : List Token). take n zs ++ l) e)
+          (in_block brace c (take n zs) curly (subst (AreValues (outside stops.BlockEnd) (take n zs)) e s.values)
+          (closing c.kind (subst (EndsBefore (outside stops.BlockEnd)) e s.stopped))) all
+
+  led_behind : (lead : List Token) → AllPassed (level_of a) lead → (zs : List Token) → AllTokens brace.end hi zs
+      → LedLaid text (IsMedia text keyword prelude) brace.end j j (laid_out text a j (lead ++ keyword ∷ (prelude ++ brace ∷ zs)))
+  unfolding media_form
+  led_behind [] all zs left = led_here zs left
+  led_behind (x ∷ lead) all zs left =
+      let rest = lead ++ keyword ∷ (prelude ++ brace ∷ zs) in
+      laid_past text (IsMedia text keyword prelude) brace.end hi a j j (passed x) (x ∷ rest) rest refl (passed_part x all.0) refl
+      (led_behind lead all.1 zs left)
+
+  -- so it is there, with so many media rules before it
+  pub media_there : (rs : List RuleForm) (own lead : List Token) → Spot text None 0 a j rs own → AllPassed (level_of a) lead
+      → AreNested prelude
+      → (zs : List Token) → AllTokens brace.end hi zs
+      → LedLaid text (IsMedia text keyword prelude) brace.end 0 j (laid_out text None 0 (own ++ (lead ++ keyword ∷ (prelude ++ brace ∷ zs))))
+  media_there rs own lead spot quiet nested zs left =
+      subst (λ (l : List Token). LedLaid text (IsMedia text keyword prelude) brace.end 0 j (laid_out text None 0 (own ++ l))) (core_is zs)
+      (reads_laid text core (IsMedia text keyword prelude) brace.end hi a j stays leads rs own spot zs left)
+    where
+      core : List Token
+      core = lead ++ (keyword ∷ (prelude ++ brace ∷ []))
+
+      core_is : (ys : List Token) → core ++ ys ≡ lead ++ keyword ∷ (prelude ++ brace ∷ ys)
+      core_is ys = append_assoc lead (keyword ∷ (prelude ++ brace ∷ [])) ys
+          ∙ ap (λ (l : List Token). lead ++ keyword ∷ l) (append_assoc prelude (brace ∷ []) ys)
+
+      plain : AreNested (keyword ∷ prelude)
+      plain = plain_and keyword prelude (ap opened_by at) (ap closed_by at) nested
+
+      all : AreNested (lead ++ keyword ∷ prelude)
+      all = nested_append lead (keyword ∷ prelude) (passed_nested (level_of a) lead quiet) plain
+
+      stays : (bs : List Bracket) (ys : List Token) → length core ≤ until_in stops.BlockEnd bs (core ++ ys)
+      stays bs ys =
+          let cut : until_in stops.BlockEnd bs (core ++ ys) ≡ until_in stops.BlockEnd bs ((lead ++ keyword ∷ prelude) ++ brace ∷ ys) =
+          ap (until_in stops.BlockEnd bs) (core_is ys ∙ sym (append_assoc lead (keyword ∷ prelude) (brace ∷ ys))) in
+          let on = nested_stays (lead ++ keyword ∷ prelude) all bs (brace ∷ ys) in
+          let one = curly_on bs brace ys curly in
+          let size : length core ≡ length (lead ++ keyword ∷ prelude) + 1 =
+          ap (λ (l : List Token). length l) (sym (append_assoc lead (keyword ∷ prelude) (brace ∷ [])))
+          ∙ length-append (lead ++ keyword ∷ prelude) (brace ∷ []) in
+          omega (arith, cut, on, one, size)
+
+      leads : (ys : List Token) → AllTokens brace.end hi ys → LedLaid text (IsMedia text keyword prelude) brace.end j j (laid_out text a j (core ++ ys))
+      leads ys more =
+          subst (λ (l : List Token). LedLaid text (IsMedia text keyword prelude) brace.end j j (laid_out text a j l)) (sym (core_is ys))
+          (led_behind lead quiet ys more)
+
+-- ---- put together
+
+key_text : (front name rest : List ℕ)
+    → between (front ++ ((64 ∷ name) ++ rest)) (length front + 1) (length front + length (64 ∷ name)) ≡ name
+key_text front name rest =
+    let size : length front + length (64 ∷ name) - (length front + 1) ≡ length name = omega arith in
+    let head : length (front ++ 64 ∷ []) ≡ length front + 1 = length-append front (64 ∷ []) in
+    let behind : drop (length front + 1) (front ++ ((64 ∷ name) ++ rest)) ≡ name ++ rest =
+    (λ i. drop (sym head i) (sym (append_assoc front (64 ∷ []) (name ++ rest)) i)) ∙ drop-append_seam (front ++ 64 ∷ []) (name ++ rest) in
+    (λ i. take (size i) (behind i)) ∙ take-append_seam name rest
+
+some_at : (k : ℕ) (text : List ℕ) (ls : List Laid) (m : MediaRule) (here : Laid) (before after : List Laid)
+    → ls ≡ before ++ here ∷ after → length (media_in text before) ≡ k → media_of text here ≡ Some m
+    → slice_get (media_in text ls) k ≡ Some m
+unfolding media_in
+some_at k text ls m here before after is count own =
+    ap (λ (xs : List Laid). slice_get (media_in text xs) k) is
+    ∙ ap (λ (ms : List MediaRule). slice_get ms k) (media_append text before (here ∷ after)
+    ∙ ap (λ (o : Option MediaRule). media_in text before ++ (option_to_list o ++ media_in text after)) own)
+    ∙ get (media_in text before) count
+  where
+    get : (ms : List MediaRule) → length ms ≡ k → slice_get (ms ++ m ∷ media_in text after) k ≡ Some m
+    get ms e = ap (slice_get (ms ++ m ∷ media_in text after)) (sym e) ∙ own_get ms
+      where
+        own_get : (xs : List MediaRule) → slice_get (xs ++ m ∷ media_in text after) (length xs) ≡ Some m
+        own_get [] = refl
+        own_get (x ∷ xs) = own_get xs
+
+media_split : (text : List ℕ) (ls : List Laid) (m : MediaRule) (here : Laid) (before after : List Laid) → ls ≡ before ++ here ∷ after
+    → media_of text here ≡ Some m → media_in text ls ≡ media_in text before ++ m ∷ media_in text after
+unfolding media_in
+media_split text ls m here before after is own =
+    ap (media_in text) is ∙ media_append text before (here ∷ after)
+    ∙ ap (λ (o : Option MediaRule). media_in text before ++ (option_to_list o ++ media_in text after)) own
+
+-- media rule i of the new text, the last one whose prelude does not start behind a place
+record MadeIn (text : List ℕ) (i place : ℕ) : Type 0 where
+  rule : MediaRule
+  there : slice_get (sheet_of text).media i ≡ Some rule
+  last : prefix_len (λ (m : MediaRule). nat_le m.prelude.start place) (sheet_of text).media ≡ i + 1
+
+media_made_in : (text : List ℕ) (i : ℕ) (rule : MediaRule) (o : OldMedia text i rule) (put spaces : List ℕ) → is_sealed_prelude put ≡ true
+    → NewKey o.key o.lead spaces (put ++ (o.gap ++ 123 ∷ o.rest))
+    → IsUtf8 (o.front ++ (o.key ++ (o.lead ++ (spaces ++ (put ++ (o.gap ++ 123 ∷ o.rest))))))
+    → MadeIn (o.front ++ (o.key ++ (o.lead ++ (spaces ++ (put ++ (o.gap ++ 123 ∷ o.rest)))))) i
+    (length o.front + length o.key + length o.lead + (length spaces + length put))
+media_made_in text i rule o put spaces sealed key utf8 =
+    let same = subst (λ (t : List ℕ). SamePart t new (λ x. x) 0 n) (sym o.is) (front_same o.front old behind) in
+    let all = subst (λ (m : ℕ). AllTokens 0 m o.before) (omega arith) (whole_tokens old 0 o.front o.before o.whole) in
+    let s = spot_other text new n same o.rs o.before o.spot all in
+    let l = placed_with new o.a o.j o.before (strip new s.0 o.before s.1) in
+    by l.0 l.1 (whole_split old 0 o.front (l.0).own (l.0).lead (subst (IsWholeBefore old 0 o.front) (l.0).is o.whole))
+  where
+    v : List ℕ
+    v = o.gap ++ 123 ∷ o.rest
+
+    old : List ℕ
+    old = o.key ++ (o.lead ++ (o.prelude ++ v))
+
+    behind : List ℕ
+    behind = o.key ++ (o.lead ++ (spaces ++ (put ++ v)))
+
+    new : List ℕ
+    new = o.front ++ behind
+
+    n : ℕ
+    n = length o.front
+
+    Y : List ℕ
+    Y = (64 ∷ key.name) ++ (key.gap ++ (put ++ v))
+
+    by : (l : Placed new o.before) → l.j ≡ o.j → WholeParts old 0 o.front l.own l.lead
+        → MadeIn new i (length o.front + length o.key + length o.lead + (length spaces + length put))
+    by l number w =
+        let after = w.behind ++ old in
+        let text_is : text ≡ w.front ++ after =
+        o.is ∙ ap (λ (t : List ℕ). t ++ old) w.is ∙ append_assoc w.front w.behind old in
+        let some : 0 < length old =
+        omega (
+          arith,
+          length-append o.key (o.lead ++ (o.prelude ++ v)),
+          length-append o.lead (o.prelude ++ v),
+          length-append o.prelude v,
+          length-append o.gap (123 ∷ o.rest),
+        ) in
+        let gap = gap_of (level_of l.a) old some (0 + length w.front) w.behind l.lead w.second l.passed in
+        let k = (skips (level_of l.a) Y refl w.behind gap (length w.front)).start in
+        let at : length w.front + length w.behind ≡ n = sym (length-append w.front w.behind) ∙ sym (ap length w.is) in
+        let new_is : new ≡ w.front ++ (w.behind ++ Y) =
+        (λ x. w.is x ++ key.is x) ∙ append_assoc w.front w.behind Y in
+        let whole = ends_whole text w.front after l.own text_is w.first l.ends (w.behind ++ Y) in
+        let size = length (64 ∷ key.name) in
+        let first = piece_first Y n (piece tokens.AtKeyword size) key.found (omega arith)
+        (omega (arith, length-append (64 ∷ key.name) (key.gap ++ (put ++ v)))) in
+        let left : drop size Y ≡ key.gap ++ (put ++ v) = drop-append_seam (64 ∷ key.name) (key.gap ++ (put ++ v)) in
+        let p = new_prelude put o.gap o.rest key.gap sealed o.blank key.open_gap (n + size) in
+        let keyword : Token = record { kind = tokens.AtKeyword; start = n; end = n + size } in
+        let pieces_are : pieces new ≡ l.own ++ (k.lead ++ keyword ∷ (p.prelude ++ p.brace ∷ p.zs)) =
+        ap pieces new_is ∙ pieces_at (w.behind ++ Y) w.front l.own whole
+        ∙ ap (λ (ts : List Token). l.own ++ ts)
+        (k.is ∙ ap (λ (ts : List Token). k.lead ++ ts)
+        (ap (λ (m : ℕ). pieces_after m 0 Y) at ∙ first
+        ∙ ap (λ (ts : List Token). keyword ∷ ts) (ap (pieces_after (n + size) 0) left ∙ p.is))) in
+        let whole_is : new ≡ o.front ++ Y = ap (λ (t : List ℕ). o.front ++ t) key.is in
+        let name_is : between new (n + 1) (n + size) ≡ key.name =
+        ap (λ (t : List ℕ). between t (n + 1) (n + size)) whole_is ∙ key_text o.front key.name (key.gap ++ (put ++ v)) in
+        let named : names_media new keyword keyword.kind ≡ true =
+        ap (λ (t : List ℕ). bytes_eq (map to_ascii_lowercase (unescaped t)) (codes "media")) name_is ∙ key.says in
+        let led =
+        media_there new l.a l.j keyword p.prelude p.brace refl named p.curly p.ends p.hi l.rs l.own k.lead l.spot k.passed p.nested p.zs p.left in
+        let ls = laid_out new None 0 (l.own ++ (k.lead ++ keyword ∷ (p.prelude ++ p.brace ∷ p.zs))) in
+        let media_is : (sheet_of new).media ≡ media_in new led.before ++ led.own.0 ∷ media_in new led.after =
+        ap (λ (ts : List Token). media_in new (laid_out new None 0 ts)) pieces_are
+        ∙ media_split new ls led.own.0 led.here led.before led.after led.is led.own.1 in
+        let place = length o.front + length o.key + length o.lead + (length spaces + length put) in
+        let same_place : n + size + (length key.gap + length put) ≡ place =
+        omega (
+          arith,
+          ap length key.is,
+          length-append o.key (o.lead ++ (spaces ++ (put ++ v))),
+          length-append o.lead (spaces ++ (put ++ v)),
+          length-append spaces (put ++ v),
+          length-append put v,
+          length-append (64 ∷ key.name) (key.gap ++ (put ++ v)),
+          length-append key.gap (put ++ v),
+        ) in
+        let starts = p.starts new keyword (omega arith) in
+        let start_is : (led.own.0).prelude.start ≡ (prelude_range keyword (range_of (words_after new false p.prelude))).start =
+        ap (λ (r : Range). r.start) led.own.2 in
+        let order = subst (λ (ms : List MediaRule). AreBetween new 0 (length new) (map (λ (m : MediaRule). m.prelude) ms)) media_is
+        (sheet_usable new utf8).media in
+        let up = up_to_all new 0 (length new) place p.brace.end (media_in new led.before) led.own.0 (media_in new led.after) order
+        (omega (arith, starts, start_is, same_place)) (omega (arith, p.far, same_place)) led.behind in
+        record {
+          rule = led.own.0;
+          last = ap (prefix_len (λ (m : MediaRule). nat_le m.prelude.start place)) media_is ∙ up
+              ∙ omega (arith, led.count, number, o.number);
+          there = ap (λ (ts : List Token). slice_get (media_in new (laid_out new None 0 ts)) i) pieces_are
+              ∙ some_at i new (laid_out new None 0 (l.own ++ (k.lead ++ keyword ∷ (p.prelude ++ p.brace ∷ p.zs)))) led.own.0 led.here
+              led.before led.after led.is (omega (arith, led.count, number, o.number)) led.own.1;
+        }
+
+-- ---- the spaces
+
+spaces_white : (text : List ℕ) (o : Option Token) → list_all is_white (spaces_by text o) ≡ true
+spaces_white text None = refl
+spaces_white text (Some t) = by (takes_space (between text t.start t.end))
+  where
+    by : (b : Bool) → list_all is_white (cond b (32 ∷ 32 ∷ []) (32 ∷ [])) ≡ true
+    by true = refl
+    by false = refl
+
+-- the keyword is the one that is found
+find_key : (place lo : ℕ) (before : List Token) (keyword : Token) (more : List Token) → AllTokens 0 lo before → lo < place
+    → keyword.kind ≡ tokens.AtKeyword → keyword.end ≡ place → find (ends_keyword place) (before ++ keyword ∷ more) ≡ Some keyword
+find_key place lo [] keyword more all less at end =
+    let here : ends_keyword place keyword ≡ true =
+    ap (λ (k : TokenKind). is_at_keyword k && keyword.end == place) at ∙ eq-eqb keyword.end place end in rw here refl
+find_key place lo (t ∷ before) keyword more all less at end =
+    let apart : (t.end == place) ≡ false = far t.end place (omega (arith, all.0.2, less)) in
+    let none : ends_keyword place t ≡ false =
+    ap (λ (b : Bool). is_at_keyword t.kind && b) apart ∙ and_no (is_at_keyword t.kind) false refl in
+    rw none (find_key place lo before keyword more all.1 less at end)
+  where
+    far : (a b : ℕ) → a < b → (a == b) ≡ false
+    far a b e = grind (arith, nat_tests)
+
+-- where the prelude of a media rule is replaced, it is there under its number
+pub media_stays : (text put : List ℕ) (i : ℕ) (rule : MediaRule) → slice_get (sheet_of text).media i ≡ Some rule
+    → is_sealed_prelude put ≡ true → IsUtf8 (replaced text rule.prelude (spaces_at text rule.prelude.start ++ put))
+    → KeepsMedia i (rule.prelude.start + length (spaces_at text rule.prelude.start ++ put))
+    (sheet_of (replaced text rule.prelude (spaces_at text rule.prelude.start ++ put))).media
+media_stays text put i rule e sealed utf8 =
+    let o = old_media text i rule e in
+    let v = o.gap ++ 123 ∷ o.rest in
+    let s = rule.prelude.start in
+    let spaces = spaces_at text s in
+    let n = new_key o.key o.lead (o.prelude ++ v) spaces (put ++ v) o.keyword.kind (ap is_at_keyword o.at) o.found
+    (omega (arith, length-append o.prelude v, length-append o.gap (123 ∷ o.rest))) o.open_lead
+    (spaces_white text (find (ends_keyword s) (pieces text)))
+    (λ none. spaces_are o none) (λ name. says o name) in
+    there o spaces n utf8
+  where
+    -- what stands right before it
+    spaces_are : (o : OldMedia text i rule) → o.lead ≡ [] → spaces_at text rule.prelude.start ≡ spaces_for o.key
+    spaces_are o none =
+        let at : rule.prelude.start ≡ o.keyword.end = o.start ∙ omega (arith, ap length none, o.key_end) in
+        let some = key_name o.key (o.lead ++ (o.prelude ++ (o.gap ++ 123 ∷ o.rest))) o.keyword.kind (ap is_at_keyword o.at) o.found in
+        let all = whole_tokens (o.key ++ (o.lead ++ (o.prelude ++ (o.gap ++ 123 ∷ o.rest)))) 0 o.front o.before o.whole in
+        let found : find (ends_keyword rule.prelude.start) (pieces text) ≡ Some o.keyword =
+        ap (find (ends_keyword rule.prelude.start)) o.pieces_are
+        ∙ find_key rule.prelude.start (0 + length o.front) o.before o.keyword o.more all
+        (omega (arith, at, o.key_end, ap length some.is)) o.at (sym at) in
+        ap (spaces_by text) found ∙ ap spaces_behind (key_is o)
+      where
+        key_is : (o : OldMedia text i rule) → between text o.keyword.start o.keyword.end ≡ o.key
+        key_is o =
+            let size : o.keyword.end - o.keyword.start ≡ length o.key = omega (arith, o.key_end, o.key_start) in
+            let behind : drop o.keyword.start text ≡ o.key ++ (o.lead ++ (o.prelude ++ (o.gap ++ 123 ∷ o.rest))) =
+            (λ x. drop (o.key_start x) (o.is x)) ∙ drop-append_seam o.front (o.key ++ (o.lead ++ (o.prelude ++ (o.gap ++ 123 ∷ o.rest)))) in
+            (λ x. take (size x) (behind x)) ∙ take-append_seam o.key (o.lead ++ (o.prelude ++ (o.gap ++ 123 ∷ o.rest)))
+
+    says : (o : OldMedia text i rule) → KeyName o.key (o.lead ++ (o.prelude ++ (o.gap ++ 123 ∷ o.rest))) → SaysMedia (drop 1 o.key)
+    says o name =
+        let rest = o.lead ++ (o.prelude ++ (o.gap ++ 123 ∷ o.rest)) in
+        let text_is : text ≡ o.front ++ ((64 ∷ name.name) ++ rest) = o.is ∙ ap (λ (k : List ℕ). o.front ++ (k ++ rest)) name.is in
+        let size : length o.front + length o.key ≡ length o.front + length (64 ∷ name.name) =
+        ap (λ (k : List ℕ). length o.front + length k) name.is in
+        let cut : between text (o.keyword.start + 1) o.keyword.end ≡ name.name =
+        (λ x. between (text_is x) (o.key_start x + 1) ((o.key_end ∙ size) x)) ∙ key_text o.front name.name rest in
+        subst SaysMedia (sym (ap (drop 1) name.is))
+        (sym (ap (λ (t : List ℕ). bytes_eq (map to_ascii_lowercase (unescaped t)) (codes "media")) cut)
+        ∙ sym (ap (names_media text o.keyword) o.at) ∙ o.named)
+
+    there : (o : OldMedia text i rule) (spaces : List ℕ) → NewKey o.key o.lead spaces (put ++ (o.gap ++ 123 ∷ o.rest))
+        → IsUtf8 (replaced text rule.prelude (spaces ++ put))
+        → KeepsMedia i (rule.prelude.start + length (spaces ++ put)) (sheet_of (replaced text rule.prelude (spaces ++ put))).media
+    there o spaces n whole =
+        let v = o.gap ++ 123 ∷ o.rest in
+        let lead = (o.front ++ o.key) ++ o.lead in
+        let size : length lead ≡ rule.prelude.start =
+        omega (arith, length-append (o.front ++ o.key) o.lead, length-append o.front o.key, o.start) in
+        let one : text ≡ lead ++ (o.prelude ++ v) =
+        o.is ∙ sym (append_assoc (o.front ++ o.key) o.lead (o.prelude ++ v) ∙ append_assoc o.front o.key (o.lead ++ (o.prelude ++ v))) in
+        let size2 : length (lead ++ o.prelude) ≡ rule.prelude.end = omega (arith, length-append lead o.prelude, size, o.start, o.end) in
+        let before : take rule.prelude.start text ≡ lead = (λ x. take (sym size x) (one x)) ∙ take-append_seam lead (o.prelude ++ v) in
+        let behind : drop rule.prelude.end text ≡ v =
+        (λ x. drop (sym size2 x) ((one ∙ sym (append_assoc lead o.prelude v)) x)) ∙ drop-append_seam (lead ++ o.prelude) v in
+        let new_is : take rule.prelude.start text ++ ((spaces ++ put) ++ drop rule.prelude.end text)
+        ≡ o.front ++ (o.key ++ (o.lead ++ (spaces ++ (put ++ v)))) =
+        (λ x. before x ++ ((spaces ++ put) ++ behind x))
+        ∙ append_assoc (o.front ++ o.key) o.lead ((spaces ++ put) ++ v)
+        ∙ append_assoc o.front o.key (o.lead ++ ((spaces ++ put) ++ v))
+        ∙ ap (λ (t : List ℕ). o.front ++ (o.key ++ (o.lead ++ t))) (append_assoc spaces put v) in
+        let m = media_made_in text i rule o put spaces sealed n (subst IsUtf8 new_is whole) in
+        let place : length o.front + length o.key + length o.lead + (length spaces + length put)
+        ≡ rule.prelude.start + length (spaces ++ put) = omega (arith, o.start, length-append spaces put) in
+        subst (λ (t : List ℕ). KeepsMedia i (rule.prelude.start + length (spaces ++ put)) (sheet_of t).media) (sym new_is)
+        (subst (λ (p : ℕ). KeepsMedia i p (sheet_of (o.front ++ (o.key ++ (o.lead ++ (spaces ++ (put ++ v)))))).media) place
+        (record { there = subst (λ (x : Option MediaRule). IsSome x) (sym m.there) refl; last = m.last }))
