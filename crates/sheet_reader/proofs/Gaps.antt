@@ -269,7 +269,8 @@ facts_gap _ rest no_gap = facts_behind (123 ∷ rest) (at_stop 123 rest refl)
 facts_gap _ rest (gap_white c z w g) =
     let f = facts_gap z rest g in
     white_codes (λ (d : ℕ). begins is_quote (drop (white_run (d ∷ (z ++ 123 ∷ rest))) (d ∷ (z ++ 123 ∷ rest))) ≡ false
-    → Facts (d ∷ (z ++ 123 ∷ rest))) (facts_space (z ++ 123 ∷ rest)) (facts_tab (z ++ 123 ∷ rest)) (facts_line (z ++ 123 ∷ rest) f.name f.round)
+    → Facts (d ∷ (z ++ 123 ∷ rest))) (facts_space (z ++ 123 ∷ rest)) (facts_tab (z ++ 123 ∷ rest)) (facts_line
+    (z ++ 123 ∷ rest) f.name f.round)
     (facts_feed (z ++ 123 ∷ rest)) (facts_return (z ++ 123 ∷ rest)) c w (unquoted (c ∷ z) rest (gap_white c z w g))
 facts_gap all rest (gap_comment inner z _ is own g) =
     subst (λ (t : List ℕ). Facts (t ++ 123 ∷ rest)) (sym is) (facts_comment ((inner ++ z) ++ 123 ∷ rest))

@@ -31,7 +31,8 @@ use Rattle.sheet_reader.specs.Grammar.{is_at_keyword}
 -- ---- the row of at-keywords
 
 -- a predicate that holds of none of the kinds of marks
-pub mark_not : (p : TokenKind → Bool) → p tokens.Colon ≡ false → p tokens.Semicolon ≡ false → p tokens.Comma ≡ false → p tokens.OpenSquare ≡ false
+pub mark_not : (p : TokenKind → Bool) → p tokens.Colon ≡ false → p tokens.Semicolon ≡ false → p tokens.Comma ≡ false
+    → p tokens.OpenSquare ≡ false
     → p tokens.CloseSquare ≡ false → p tokens.OpenRound ≡ false → p tokens.CloseRound ≡ false → p tokens.OpenCurly ≡ false
     → p tokens.CloseCurly ≡ false → p tokens.Delim ≡ false → (c : ℕ) → p (mark_kind c) ≡ false
 mark_not p e1 e2 e3 e4 e5 e6 e7 e8 e9 e0 c =
@@ -76,7 +77,8 @@ at_row bad_url_row k front rest e f = absurd (kind_clash is_at_keyword k _ f.nam
 at_row ident_row k front rest e f =
     elim f.kinds [ inl a ↦ absurd (kind_clash is_at_keyword k _ a.0 refl e) | inr b ↦ absurd (kind_clash is_at_keyword k _ b.0 refl e) ]
 at_row cdo_row k front rest e f = absurd (kind_clash is_at_keyword k _ f.named refl e)
-at_row mark_row k front rest e f = absurd (kind_clash is_at_keyword k _ f.named (mark_not is_at_keyword refl refl refl refl refl refl refl refl refl refl f.character) e)
+at_row mark_row k front rest e f = absurd
+    (kind_clash is_at_keyword k _ f.named (mark_not is_at_keyword refl refl refl refl refl refl refl refl refl refl f.character) e)
 
 -- what begins with `@` and an ident start is an at-keyword
 at_first : (x : List ℕ) → starts_ident x ≡ true → first_piece (64 ∷ x) ≡ Some (piece AtKeyword (1 + name_len x))

@@ -66,3 +66,4 @@ pub mod NewMedia
 pub mod LineEnds
 pub mod SealedSeams
 pub mod MediaStarts
+pub mod MediaPreludes

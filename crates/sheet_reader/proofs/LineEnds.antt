@@ -86,7 +86,8 @@ unit_line unit rest (name_escape x) e = escape_line unit rest x e
 name_line : (name : List ℕ) → Units NameUnit name spaced → ends_return name ≡ true → unescaped (name ++ 10 ∷ []) ≡ unescaped name
 name_line _ no_units e = absurd (cc)
 name_line name (unit_and {first = first} {others = others} is unit more) e =
-    subst (λ (t : List ℕ). unescaped (t ++ 10 ∷ []) ≡ unescaped t) (sym is) (by others unit (sym (ap ends_return is) ∙ e) (name_line others more))
+    subst (λ (t : List ℕ). unescaped (t ++ 10 ∷ []) ≡ unescaped t) (sym is)
+    (by others unit (sym (ap ends_return is) ∙ e) (name_line others more))
   where
     by : (others : List ℕ) → NameUnit first (others ++ spaced) → ends_return (first ++ others) ≡ true
         → (ends_return others ≡ true → unescaped (others ++ 10 ∷ []) ≡ unescaped others)
@@ -109,7 +110,8 @@ is_hash : TokenKind → Bool
 is_hash (tokens.Hash flag) = true
 is_hash _ = false
 
-ident_units : (row : PieceRow) (k : TokenKind) (front rest : List ℕ) → is_plain k ≡ true → FormOf row k front rest → Units NameUnit front rest
+ident_units : (row : PieceRow) (k : TokenKind) (front rest : List ℕ) → is_plain k ≡ true → FormOf row k front rest
+    → Units NameUnit front rest
 unfolding is_plain
 ident_units ident_row k front rest e f = by f.kinds
   where
@@ -304,7 +306,8 @@ whole_near v b g place text _ (piece_and {ts = more} p front rest is len found w
           start = below_line n place (omega (arith, size, m.some)) i;
           end = below_line n (place + p.len) (omega (arith, size, len, m.some)) i;
         } in
-        let behind = subst (λ (k : ℕ). IsWholeBefore m.rest (place + p.len) (rest ++ 10 ∷ []) (map (raised (past_line k)) more)) at m.whole in
+        let behind =
+        subst (λ (k : ℕ). IsWholeBefore m.rest (place + p.len) (rest ++ 10 ∷ []) (map (raised (past_line k)) more)) at m.whole in
         record {
           rest = m.rest;
           is = m.is;

@@ -401,7 +401,8 @@ made_in text r o put gap ss size blank p utf8 =
     let v = o.gap ++ 123 ∷ o.rest in
     let new = o.front ++ (put ++ (gap ++ 123 ∷ o.rest)) in
     let n = length o.front in
-    let same = subst (λ (t : List ℕ). SamePart t new (λ x. x) 0 n) (sym o.is) (front_same o.front (o.prelude ++ v) (put ++ (gap ++ 123 ∷ o.rest))) in
+    let same = subst (λ (t : List ℕ). SamePart t new (λ x. x) 0 n) (sym o.is)
+    (front_same o.front (o.prelude ++ v) (put ++ (gap ++ 123 ∷ o.rest))) in
     let all = subst (λ (m : ℕ). AllTokens 0 m o.before) (omega arith) (whole_tokens (o.prelude ++ v) 0 o.front o.before o.whole) in
     let s =
     spot_of text new n same r o.q None 0 (parts Top (pieces text)) (laid_out text None 0 (pieces text)) o.rs o.xs o.more o.path o.flat

@@ -273,7 +273,8 @@ module _ (text : List ℕ) (core : List Token) (Own : Laid → Type 0) (place hi
       → ((rest : List Token) → AreValues (outside stops.BlockOrSemicolon) prelude (first ∷ rest)) → first.kind ≡ tokens.OpenCurly
       → length (xs ++ core) ≤ until stops.BlockEnd (xs ++ (core ++ zs))
       → AllTokens place hi zs
-      → ((others : List Token) → AllTokens place hi others → LedLaid text Own place (suc k) j (laid_out text (Some k) (suc k) (xs ++ (core ++ others))))
+      → ((others : List Token) → AllTokens place hi others
+      → LedLaid text Own place (suc k) j (laid_out text (Some k) (suc k) (xs ++ (core ++ others))))
       → LedLaid text Own place k j (laid_out text around k ((keyword ∷ (prelude ++ first ∷ xs)) ++ (core ++ zs)))
   laid_in around k keyword first prelude xs zs at named values curly fits all next =
       by (drop n whole) refl
@@ -315,7 +316,8 @@ module _ (text : List ℕ) (core : List Token) (Own : Laid → Type 0) (place hi
             ends = ends;
           }) in
           let is : media_form text p ≡ Some m = media_named text keyword prelude first inside last named in
-          let out = out_is text Own place hi around k p ((keyword ∷ (prelude ++ first ∷ xs)) ++ (core ++ zs)) rest (laid around p ∷ (within ++ ls))
+          let out = out_is text Own place hi around k p ((keyword ∷ (prelude ++ first ∷ xs)) ++ (core ++ zs)) rest
+          (laid around p ∷ (within ++ ls))
           (cut_is keyword first prelude xs (core ++ zs) inside (option_to_list last) rest cut) part
           (media_laid p m (parts Inner inside) (parts (level_of around) rest) within ls is (parts_spelled Inner inside)
           (laid_spelled text (Some k) (suc k) inside) (laid_spelled text around i rest)) in
@@ -359,7 +361,8 @@ module _ (text : List ℕ) (core : List Token) (Own : Laid → Type 0) (place hi
           (closing c.kind (subst (EndsBefore (outside stops.BlockEnd)) e s.stopped))) (rest_of (c ∷ rest) e).1
 
   -- What is laid out at the place is laid out there.
-  pub reads_laid : {around : Option ℕ} {k : ℕ} (rs : List RuleForm) (xs : List Token) → Spot text around k a j rs xs → (zs : List Token) → AllTokens place hi zs
+  pub reads_laid : {around : Option ℕ} {k : ℕ} (rs : List RuleForm) (xs : List Token) → Spot text around k a j rs xs → (zs : List Token)
+      → AllTokens place hi zs
       → LedLaid text Own place k j (laid_out text around k (xs ++ (core ++ zs)))
   reads_laid _ _ at_spot zs all = leads zs all
   reads_laid {around = around} {k = k} _ _ (past_part p rs xs part none spot) zs all =

@@ -399,7 +399,8 @@ put_pieces put gap rest ss sealed found blank = by (split_lead us)
                 ap (λ (xs : List Token). until stops.Block (xs ++ ys)) l.is ∙ ap (until stops.Block) (append_assoc l.lead ts ys) in
                 let size : length us ≡ length l.lead + length ts = ap (λ (xs : List Token). length xs) l.is ∙ length-append l.lead ts in
                 omega (arith, on, all, cut, size);
-            words = ap (λ (ws : List Word). selector_list_of (word_reading c.text ws)) (first_word c.text false l.first l.rest l.solid) ∙ list;
+            words = ap (λ (ws : List Word). selector_list_of (word_reading c.text ws)) (first_word c.text false l.first l.rest l.solid)
+                ∙ list;
             inside = widen (length w.front) (length w.front + length w.behind) 0 (length c.text) ts (omega arith)
                 (omega (arith, ap length parted, length-append w.front (w.behind ++ c.trail), length-append w.behind c.trail))
                 (whole_tokens (c.trail ++ v) (length w.front) w.behind ts second);

@@ -1,5 +1,6 @@
 -- A sealed text before white space, comments and a `{`: cut as it is before a space, alone or with the LF that stands behind it.
-use Rattle.std.proofs.Common.{◌≡◌, ◌⊎◌, inl, inr, ℕ, suc, ◌+◌, ◌-◌, ◌<◌, ◌≤◌, ◌==◌, Bool, true, false, List, [], ◌∷◌, ◌++◌, map, length, take}
+use Rattle.std.proofs.Common.{◌≡◌, ◌⊎◌, inl, inr, ℕ, suc, ◌+◌, ◌-◌, ◌<◌, ◌≤◌, ◌==◌, Bool, true, false, List, [], ◌∷◌, ◌++◌, map, length}
+use Rattle.std.proofs.Common.{take}
 use Rattle.std.proofs.Common.{drop, Option, Some, None, refl, sym, ap, subst, ◌∙◌, append_assoc, append-nil, length-append, arith}
 use Rattle.std.specs.List.{AllByRecursion}
 use Rattle.std.specs.Prelude.{slice_index, option_map}
@@ -102,9 +103,11 @@ last_word put spaced t some e l =
     let f_start : past_line n t.start ≡ t.start = below_line n t.start (omega (arith, some, e)) in
     let f_end : past_line n t.end ≡ length (put ++ 10 ∷ []) = at_line n t.end e ∙ omega (arith, length-append put (10 ∷ [])) in
     let old = tail_text l.before l.own put t.start t.end l.is start e in
-    let new = tail_text l.before (l.own ++ 10 ∷ []) (put ++ 10 ∷ []) (past_line n t.start) (past_line n t.end) long_is (f_start ∙ start) f_end in
+    let new = tail_text l.before (l.own ++ 10 ∷ []) (put ++ 10 ∷ []) (past_line n t.start) (past_line n t.end) long_is
+    (f_start ∙ start) f_end in
     let old_more = tail_more l.before l.own put t.start t.end l.is start e own_some in
-    let new_more = tail_more l.before (l.own ++ 10 ∷ []) (put ++ 10 ∷ []) (past_line n t.start) (past_line n t.end) long_is (f_start ∙ start) f_end
+    let new_more = tail_more l.before (l.own ++ 10 ∷ []) (put ++ 10 ∷ []) (past_line n t.start) (past_line n t.end) long_is
+    (f_start ∙ start) f_end
     (omega (arith, length-append l.own (10 ∷ []))) in
     record {
       value = λ k. ap unescaped old ∙ sym (l.says.value (ident_of t.kind _ k)) ∙ sym (ap unescaped new);

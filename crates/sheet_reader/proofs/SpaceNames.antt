@@ -18,7 +18,8 @@ use Rattle.sheet_reader.proofs.SpaceUnits.{over_seam, seam_line, seam_drop, Apar
 use Rattle.sheet_reader.proofs.SpaceRows.{Keeps, keeps_none, keeps_same, keeps_long, keeps_more, or_keeps, same_keeps, short_keeps, less}
 use Rattle.sheet_reader.proofs.SpaceRows.{closed_near}
 use Rattle.sheet_reader.proofs.SpaceRows.{longer, as_long}
-use Rattle.sheet_reader.proofs.SpaceRows.{comment_keeps, white_short, white_keeps, strings_keeps, name_near, ends_in_name, hash_keeps, at_keeps}
+use Rattle.sheet_reader.proofs.SpaceRows.{comment_keeps, white_short, white_keeps, strings_keeps, name_near, ends_in_name, hash_keeps}
+use Rattle.sheet_reader.proofs.SpaceRows.{at_keeps}
 use Rattle.sheet_reader.proofs.SpaceRows.{numeric_keeps, cdc_keeps, cdo_keeps, mark_keeps}
 
 -- what begins with a name: urls, bad urls, functions and idents, together
@@ -384,7 +385,8 @@ opened_keeps v f x n first second fits opens opens' =
                 ∙ ap (λ (k : ℕ). names true (closes_url (w ++ spaced)) s (begins (λ c. c == 40) (drop (name_len t) t)) (name_len t) k
                 (run bad_url_unit (w ++ v)) (length t')) (sym o_same) in
                 subst (λ (a : Option Piece). Keeps (over_seam x v) (length x) a (names_of t')) (sym left)
-                (subst (Keeps (over_seam x v) (length x) (names true (closes_url (w ++ spaced)) s (begins (λ c. c == 40) (drop (name_len t) t))
+                (subst (Keeps (over_seam x v) (length x)
+                (names true (closes_url (w ++ spaced)) s (begins (λ c. c == 40) (drop (name_len t) t))
                 (name_len t) o (run bad_url_unit (w ++ spaced)) (length t))) (sym right) here)
           ]
     ]

@@ -49,7 +49,8 @@ pub same_keeps : {s : Bool} (n : ℕ) (a b : Option Piece) → a ≡ b → Keeps
 same_keeps {s = s} n None b e = subst (Keeps s n None) e keeps_none
 same_keeps {s = s} n (Some p) b e = subst (Keeps s n (Some p)) e (keeps_same p)
 
-pub more_keeps : {s : Bool} (n : ℕ) (k : TokenKind) (a b : ℕ) → ends_in_name k ≡ true → s ≡ true → a ≡ n → b ≡ suc n → Keeps s n (Some (piece k a)) (Some (piece k b))
+pub more_keeps : {s : Bool} (n : ℕ) (k : TokenKind) (a b : ℕ) → ends_in_name k ≡ true → s ≡ true → a ≡ n → b ≡ suc n
+    → Keeps s n (Some (piece k a)) (Some (piece k b))
 more_keeps {s = s} n k a b name m e g =
     subst (λ (x : ℕ). Keeps s n (Some (piece k x)) (Some (piece k b))) (sym e)
     (subst (λ (x : ℕ). Keeps s n (Some (piece k n)) (Some (piece k x))) (sym g) (keeps_more k name m))
@@ -237,11 +238,13 @@ strings_by v f a x is_a =
             let here = strings_short n (1 + r) (length (a ∷ (x ++ spaced))) (length (a ∷ (x ++ v))) (is_quote a)
             (begins is_newline (drop (1 + r) (a ∷ (x ++ spaced)))) more further
             (λ is_a. let fits = string_fits a x is_a within in omega arith) in
-            subst (λ (k : ℕ). Keeps (over_seam (a ∷ x) v) n (strings (is_quote a) (begins is_newline (drop (1 + r) (a ∷ (x ++ spaced)))) (1 + r)
+            subst
+            (λ (k : ℕ). Keeps (over_seam (a ∷ x) v) n (strings (is_quote a) (begins is_newline (drop (1 + r) (a ∷ (x ++ spaced)))) (1 + r)
             (length (a ∷ (x ++ spaced))))
             (strings (is_quote a) (begins is_newline (drop (1 + s) (a ∷ (x ++ v)))) k
             (length (a ∷ (x ++ v))))) length_same
-            (subst (λ (b : Bool). Keeps (over_seam (a ∷ x) v) n (strings (is_quote a) (begins is_newline (drop (1 + r) (a ∷ (x ++ spaced)))) (1 + r)
+            (subst (λ (b : Bool). Keeps (over_seam (a ∷ x) v) n
+            (strings (is_quote a) (begins is_newline (drop (1 + r) (a ∷ (x ++ spaced)))) (1 + r)
             (length (a ∷ (x ++ spaced)))) (strings (is_quote a) b (1 + r) (length (a ∷ (x ++ v))))) line here)
       ]
     ]
@@ -251,7 +254,8 @@ pub strings_keeps : (v : List ℕ) → Facts v → (a : ℕ) (x : List ℕ)
     (string (a ∷ (x ++ v)) or bad_string (a ∷ (x ++ v)))
 unfolding string bad_string
 strings_keeps v f a x =
-    elim (is_quote a) as (λ b. is_quote a ≡ b → Keeps (over_seam (a ∷ x) v) (length (a ∷ x)) (string (a ∷ (x ++ spaced)) or bad_string (a ∷ (x ++ spaced)))
+    elim (is_quote a) as
+    (λ b. is_quote a ≡ b → Keeps (over_seam (a ∷ x) v) (length (a ∷ x)) (string (a ∷ (x ++ spaced)) or bad_string (a ∷ (x ++ spaced)))
     (string (a ∷ (x ++ v)) or bad_string (a ∷ (x ++ v)))) [
       | true ↦ λ e. strings_by v f a x e
       | false ↦ λ e. rw e keeps_none
@@ -288,7 +292,8 @@ hash_keeps v f a x = by (starts_at v f x)
     more m k s true over e g =
         let some = positive m 0 (omega (arith, e, seam_some v x over)) in
         let some_too = positive k 0 (omega (arith, g)) in
-        rw (some, some_too) (more_keeps (length (a ∷ x)) (Hash s) (1 + m) (1 + k) refl (seam_tail v a x over) (omega (arith, e)) (omega (arith, g)))
+        rw (some, some_too)
+        (more_keeps (length (a ∷ x)) (Hash s) (1 + m) (1 + k) refl (seam_tail v a x over) (omega (arith, e)) (omega (arith, g)))
 
     same : (m k : ℕ) (s t b : Bool) → Near (over_seam x v) (length x) m k → s ≡ t
         → Keeps seam (length (a ∷ x)) (when (b && nat_lt 0 m) (piece (Hash s) (1 + m))) (when (b && nat_lt 0 k) (piece (Hash t) (1 + k)))
@@ -517,7 +522,8 @@ second_none n true true p = keeps_none
 second_none n true false p = keeps_none
 second_none n false b p = keeps_none
 
-third_none : {s : Bool} (n : ℕ) (a b d : Bool) (p : Piece) → Keeps s n (when (a && (b && (d && false))) p) (when (a && (b && (d && false))) p)
+third_none : {s : Bool} (n : ℕ) (a b d : Bool) (p : Piece)
+    → Keeps s n (when (a && (b && (d && false))) p) (when (a && (b && (d && false))) p)
 third_none n true true true p = keeps_none
 third_none n true true false p = keeps_none
 third_none n true false d p = keeps_none

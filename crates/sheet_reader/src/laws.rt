@@ -104,8 +104,8 @@ pub fn joined_law()
 /// Where the prelude of a style rule is replaced by a sealed text that is a selector list, there is a rule with the new prelude: the
 /// first one whose body does not start before the new text, and its prelude starts in that text. And where that of a media rule is
 /// replaced by a sealed text with no `{` or `;` outside brackets, behind the spaces that it needs behind a keyword, the media rule with
-/// its number is the last one whose prelude does not start behind the new text. So it is inside media rules too. (A text that ends in a CR may stand before an LF: the two are one newline, and
-/// where they end an escape, the new prelude ends behind the new text.)
+/// its number is the last one whose prelude does not start behind the new text. So it is inside media rules too. (A text that ends in a
+/// CR may stand before an LF: the two are one newline, and where they end an escape, the new prelude ends behind the new text.)
 pub fn prelude_law()
     ensures rule { (text put : List ℕ) (k : ℕ) (r : RuleForm) (ss : List SelectorForm) → slice_get (sheet_of text).rules k ≡ Some r
         → is_sealed put ≡ true → selectors_of put ≡ Some ss → IsUtf8 (replaced text r.prelude put)

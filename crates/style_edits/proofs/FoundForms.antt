@@ -33,7 +33,7 @@ use Rattle.style_edits.specs.Edits.{HasText, Found, EditsOutcome, splice_at, pla
 use Rattle.style_edits.specs.Edits.{selector_by, selector_in, whole_range, text_in, put_by, added_by, rule_in, mutable, client_by}
 use Rattle.style_edits.specs.Edits.{client_sheet, found_by, style_splice, selector_splice, text_splice, rule_splice, edited, with_back}
 use Rattle.style_edits.specs.Edits.{go_on, styles_edited}
-use Rattle.sheet_reader.specs.Preludes.{ends_keyword, takes_space, spaces_behind, spaces_by, spaces_at}
+use Rattle.sheet_reader.specs.Preludes.{ends_keyword, takes_space, spaces_by, spaces_at}
 use Rattle.style_edits.specs.MediaEdits.{media_at, media_by, media_in, media_splice}
 use Rattle.style_edits.proofs.BookForms.{entry_again}
 use Rattle.style_edits.proofs.LineForms.{body_range, prelude_range, place_range, media_range, whole_usable}

@@ -1,9 +1,9 @@
 -- After an edit of a media rule's prelude that media rule is at the place that is answered.
-use Rattle.std.proofs.Common.{◌≡◌, ℕ, zero, suc, ◌+◌, ◌-◌, ◌<◌, ◌≤◌, nat_le, Bool, true, false, cond, All, List, [], ◌∷◌, ◌++◌, map, length}
+use Rattle.std.proofs.Common.{◌≡◌, ℕ, suc, ◌+◌, Bool, true, false, cond, All, List, [], ◌∷◌, ◌++◌, map, length}
 use Rattle.std.proofs.Common.{Option, Some, None, Ok, Err, refl, sym, ap, subst, ◌∙◌, arith}
 use Rattle.std.specs.Prelude.{slice_get, option_and_then, IsSome, IsSomeAnd}
 use Rattle.std.specs.Str.{IsUtf8}
-use Rattle.std.specs.List.{find, prefix_len}
+use Rattle.std.specs.List.{find}
 use Rattle.css_tokens.specs.declared.token.Range.{Range}
 use Rattle.sheet_reader.specs.declared.book.Origin.{Origin}
 use Rattle.sheet_reader.specs.declared.book.Origin.TheVariants as origins
@@ -20,7 +20,7 @@ use Rattle.style_edits.specs.declared.lines.LineRange.{LineRange}
 use Rattle.style_edits.specs.declared.splice.Splice.{Splice}
 use Rattle.style_edits.specs.Splices.{spliced, spliced_entry, back_in, after_splice}
 use Rattle.style_edits.specs.Edits.{Found, is_at, splice_at, mutable, client_by, found_by}
-use Rattle.style_edits.specs.MediaEdits.{media_at, media_by, media_in, media_splice, media_up_to, media_place_by, edited_media}
+use Rattle.style_edits.specs.MediaEdits.{media_at, media_by, media_in, media_splice, media_place_by, edited_media}
 use Rattle.style_edits.specs.MediaEdits.{media_rule_at}
 use Rattle.style_edits.specs.MediaEdits.{made_media, MakesMedia}
 use Rattle.style_edits.proofs.BookForms.{entry_again}

@@ -119,7 +119,8 @@ prelude_made id lines text utf8 book s all h =
     let next = after_splice s book in
     let new = stored_of s.sheet next (spliced_entry s m.sheet) (ap (entry_of s.sheet) d.after ∙ d.there) (stored_after s book takes all) in
     let there = subst (λ (part : Range). IsUtf8 (spliced m.sheet.text part.start part.end s.text)
-    → HasPreludeIn (range part.start (part.start + length s.text)) (sheet_of (spliced m.sheet.text part.start part.end s.text)).rules) m.prelude
+    → HasPreludeIn (range part.start (part.start + length s.text))
+    (sheet_of (spliced m.sheet.text part.start part.end s.text)).rules) m.prelude
     (subst (λ (put : List ℕ). IsUtf8 (spliced m.sheet.text m.rule.prelude.start m.rule.prelude.end put)
     → HasPreludeIn (range m.rule.prelude.start (m.rule.prelude.start + length put))
     (sheet_of (spliced m.sheet.text m.rule.prelude.start m.rule.prelude.end put)).rules) (sym m.own)
