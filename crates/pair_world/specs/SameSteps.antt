@@ -1,5 +1,5 @@
--- The step of two clients is defined twice: by messages, as the back end makes it, and by texts, as a run over any protocol has it. Both are
--- the same.
+-- The step of two clients is defined twice: by messages, as the back end makes it, and by texts, as a run over any protocol has it.
+-- Both are the same.
 use Rattle.std.specs.Prelude.{◌≡◌, ℕ, List, false}
 use Rattle.page_forms.specs.Pages.{LoadedPage}
 use Rattle.back_end.specs.Steps.{Turn}
