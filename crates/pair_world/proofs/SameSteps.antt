@@ -1,5 +1,5 @@
 -- The step of two clients by texts is that by messages.
-use Rattle.std.proofs.Common.{◌≡◌, ℕ, List, [], ◌++◌, map, false, Option, Some, None, Result, refl, sym, ap, subst, ◌∙◌}
+use Rattle.std.proofs.Common.{◌≡◌, ℕ, List, ◌++◌, false, Option, Some, None, Result, refl, sym, ap, subst, ◌∙◌}
 use Rattle.cdp_messages.specs.declared.command.Asked.{Asked}
 use Rattle.cdp_messages.specs.declared.command.Refused.{Refused}
 use Rattle.cdp_messages.specs.Asked.{json_of, asked}
@@ -9,11 +9,10 @@ use Rattle.client_views.specs.Moves.{Move, Course, frames_of_moves}
 use Rattle.session_mux.specs.declared.router.Routed.{Routed}
 use Rattle.session_mux.specs.declared.router.Routed.TheVariants.{Root, Attached, Answered}
 use Rattle.session_mux.specs.Sessions.{Sessions}
-use Rattle.session_mux.specs.Routes.{Request, Routing, routing}
+use Rattle.session_mux.specs.Routes.{routing}
 use Rattle.session_mux.proofs.RouteLemmas.{attached-by-name}
-use Rattle.back_end.specs.States.{Side, Client, State, view_of, new_client}
-use Rattle.back_end.specs.Steps.{Step, asked_step, Turn, turn_step}
-use Rattle.back_end.specs.Laws.{IsTurn}
+use Rattle.back_end.specs.States.{Side, Client, view_of, new_client}
+use Rattle.back_end.specs.Steps.{asked_step, turn_step}
 use Rattle.back_end.specs.Outside.{asked_outward, outside_step}
 use Rattle.back_end.specs.Pairs as clients
 use Rattle.back_end.specs.Pairs.{Pair, root_state, second_state, IsPair, PairHasRoom, attached_frames, attached_step, answered_step}
@@ -23,7 +22,7 @@ use Rattle.back_end.proofs.FrameLemmas.{frame-steps-well}
 use Rattle.back_end.proofs.StepLemmas.{turn-steps-well}
 use Rattle.back_end.proofs.OutsideSteps.{asked-outside}
 use Rattle.session_runs.specs.World.{Stepped}
-use Rattle.session_runs.specs.Pairs.{second_sent, second_client, root_step, second_step, pair_step, pair_act}
+use Rattle.session_runs.specs.Pairs.{second_sent, second_client, root_step, second_step, pair_step}
 use Rattle.pair_world.specs.SessionWays.{text_without_session}
 use Rattle.pair_world.specs.Clients.{pair_reads, RunClient, client_steps}
 use Rattle.pair_world.specs.FrameLaws.{sessions_of, IsUsual, second_after, AnswersAtOnce, StepsBy}
