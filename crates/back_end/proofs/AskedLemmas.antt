@@ -1,8 +1,8 @@
 -- What a frame asks has its parameters in their ranges, and a refusal an id in its range.
-use Rattle.std.proofs.Common.{◌≡◌, ℕ, Bool, true, List, Option, Some, None, refl, sym, ◌∙◌, ap, Result, Ok, Err}
+use Rattle.std.proofs.Common.{◌≡◌, ℕ, Bool, true, false, List, Option, Some, None, refl, sym, ◌∙◌, ap, Result, Ok, Err}
 use Rattle.serde_json.specs.Data.{Data, Num, unsigned, negative, float, Members}
 use Rattle.serde_json.specs.Find.{as_number, as_object}
-use Rattle.std.specs.Prelude.{codes}
+use Rattle.std.specs.Prelude.{codes, option_map}
 use Rattle.serde_json.specs.Find.{get_member}
 use Rattle.cdp_json.specs.Kinds.{is_counted, holds_of_some, as_whole, unsigned_from}
 use Rattle.cdp_json.specs.declared.fields.Field.{Field}
@@ -13,8 +13,10 @@ use Rattle.cdp_messages.specs.declared.command.Command.{Command}
 use Rattle.cdp_messages.specs.declared.command.Asked.{Asked}
 use Rattle.cdp_messages.specs.declared.command.Refused.{Refused}
 use Rattle.cdp_messages.specs.declared.command.Why.{Why}
+use Rattle.cdp_messages.specs.declared.command.Why.TheVariants.{NoId, NotJson}
 use Rattle.cdp_messages.specs.Asked.{json_of, fits_command, command_in, refusal, asked_by, with_id, asked_in, asked_value, asked}
-use Rattle.cdp_messages.proofs.Commands.{asks_fit}
+use Rattle.cdp_messages.specs.SessionFrames.{without_session, session_asked}
+use Rattle.cdp_messages.proofs.Commands.{answers_fit}
 
 -- ---- ids
 
@@ -71,9 +73,35 @@ abbrev pub AskedFits : Result Asked Refused → Type 0
 AskedFits (Ok a) = (is_counted a.id ≡ true) × (fits_command a.command ≡ true)
 AskedFits (Err r) = holds_of_some is_counted r.id ≡ true
 
+-- what is asked by any value has an id below 2^53
+asked-by-counted : (id : ℕ) (r : Result Command Why) (a : Asked) → is_counted id ≡ true → asked_by id r ≡ Ok a → is_counted a.id ≡ true
+asked-by-counted id (Ok c) a counted e = let same : id ≡ a.id = cc in ap is_counted (sym same) ∙ counted
+asked-by-counted id (Err why) a counted e = let no : ◌≡◌ {A = Result Asked Refused} (Err (refusal (Some id) why)) (Ok a) = e in absurd cc
+
+asked-field : (f : Field ℕ) (r : Result Command Why) (a : Asked) → ((id : ℕ) → f ≡ Is id → is_counted id ≡ true) → with_id f r ≡ Ok a
+    → is_counted a.id ≡ true
+asked-field Missing r a counted e = let no : ◌≡◌ {A = Result Asked Refused} (Err (refusal None NoId)) (Ok a) = e in absurd cc
+asked-field WrongKind r a counted e = let no : ◌≡◌ {A = Result Asked Refused} (Err (refusal None NoId)) (Ok a) = e in absurd cc
+asked-field (Is id) r a counted e = asked-by-counted id r a (counted id refl) e
+
+asked-object : (own : Bool) (o : Option Members) (a : Asked) → asked_in own o ≡ Ok a → is_counted a.id ≡ true
+asked-object own None a e = let no : ◌≡◌ {A = Result Asked Refused} (Err (refusal None NoId)) (Ok a) = e in absurd cc
+asked-object own (Some frame) a e =
+    asked-field (field_of as_whole (codes "id") frame) (command_in own frame) a (field-whole (get_member (codes "id") frame)) e
+
+asked-counted : (own : Bool) (o : Option Data) (a : Asked) → asked_value own o ≡ Ok a → is_counted a.id ≡ true
+asked-counted own None a e = let no : ◌≡◌ {A = Result Asked Refused} (Err (refusal None NotJson)) (Ok a) = e in absurd cc
+asked-counted own (Some d) a e = asked-object own (as_object d) a e
+
+pub value-fits : (own : Bool) (o : Option Data) → AskedFits (asked_value own o)
+value-fits own o = at (asked_value own o) refl where
+  at : (r : Result Asked Refused) → asked_value own o ≡ r → AskedFits r
+  at (Ok a) is = (asked-counted own o a is, answers_fit own o (Ok a) is)
+  at (Err r) is = refused-value own o r is
+
+-- the same of a frame, and of one of the attached session
 pub frame-fits : (own : Bool) (frame : List ℕ) → AskedFits (asked frame own)
-frame-fits own frame = at (asked frame own) refl
-  where
-    at : (r : Result Asked Refused) → asked frame own ≡ r → AskedFits r
-    at (Ok a) is = asks_fit own frame a is
-    at (Err r) is = refused-value own (json_of frame) r is
+frame-fits own frame = value-fits own (json_of frame)
+
+pub session-fits : (frame : List ℕ) → AskedFits (session_asked frame)
+session-fits frame = value-fits false (option_map without_session (json_of frame))

@@ -7,6 +7,7 @@ use Rattle.cdp_messages.specs.declared.command.Why.TheVariants.{DomOff, CssOff}
 use Rattle.cdp_messages.specs.declared.dom_ask.DomAsk.{DomAsk}
 use Rattle.back_end.specs.States.{State}
 use Rattle.back_end.specs.Steps.{Step, refusing, ask_needs_on, needs_on, needs_css, missing, served_step, command_step}
+use Rattle.back_end.specs.Outside.{Outward, unchanged, served_outward, command_outward}
 use Rattle.back_end.specs.declared.desk.Desk.{Desk}
 use Rattle.back_end.specs.declared.side.PageSide.{PageSide}
 use Rattle.back_end.specs.Seats.{DeskStandsFor}
@@ -31,6 +32,19 @@ pub missing-is : (d : Desk) (s : PageSide) (state : State) (id : ℕ) (command :
     → command_step id command state ≡ refusing (Some id) why state
 missing-is d s state id command why stands e =
     refused-by id state (served_step id command state) (needs_on command && not state.client.dom_on)
+    (needs_css command && not state.client.css_on) why (missing-as d s state command stands ∙ sym e)
+
+unchanged-by : (state : State) (done : Outward) (a b : Bool) (why : Why) → cond a (Some DomOff) (cond b (Some CssOff) None) ≡ Some why
+    → cond a (unchanged state) (cond b (unchanged state) done) ≡ unchanged state
+unchanged-by state done true b why e = refl
+unchanged-by state done false true why e = refl
+unchanged-by state done false false why e = absurd cc
+
+-- a command that misses a domain leaves the page alone
+pub missing-outward : (d : Desk) (s : PageSide) (state : State) (command : Command) (why : Why) → DeskStandsFor d s state
+    → Some why ≡ missing d.is_on d.css command → command_outward command state ≡ unchanged state
+missing-outward d s state command why stands e =
+    unchanged-by state (served_outward command state) (needs_on command && not state.client.dom_on)
     (needs_css command && not state.client.css_on) why (missing-as d s state command stands ∙ sym e)
 
 -- a test that no refusal follows

@@ -1,18 +1,16 @@
 -- A search of a client finds exactly the shown nodes that its query finds, each once, in document order, and keeps them.
-use Rattle.std.proofs.Common.{◌≡◌, ℕ, ◌≤◌, ◌==◌, Bool, true, false, cond, List, [], ◌∷◌, map, length, Option, Some, arith, refl, ap, ◌∙◌}
+use Rattle.std.proofs.Common.{◌≡◌, ℕ, ◌≤◌, ◌==◌, Bool, true, false, cond, List, [], ◌∷◌, map, length, Some, arith, refl, ap, ◌∙◌}
 use Rattle.std.specs.List.{filter}
 use Rattle.std.specs.Ordering.{nat_cmp}
 use Rattle.std.specs.Cmp.{nat_cmp_total, eq_by_cmp_equiv}
 use Rattle.std.specs.FinMap as table
-use Rattle.page_tree.specs.Members.{IsIn}
 use Rattle.page_tree.specs.Zippers.{serial_of, zippers}
 use Rattle.dom_search.specs.Found.{found_in}
 use Rattle.dom_search.specs.FoundLaws.{IsOutOf, at_end, passes, takes, FindsExactly}
 use Rattle.dom_search.specs.Searches.{next_search}
 use Rattle.dom_search.proofs.FoundLemmas.{passes-in, in-passes, finds-exactly}
-use Rattle.back_end.specs.States.{State, HoldsNow}
 use Rattle.back_end.specs.Steps.{found_now, is_shown_now}
-use Rattle.back_end.specs.SearchLaws.{IsFoundShown, FindsShown, SearchesFindShown, SearchesKeepFound}
+use Rattle.back_end.specs.SearchLaws.{SearchesFindShown, SearchesKeepFound}
 
 module _ (test : ℕ → Bool) where
   -- what passes a test is out of all that the list is out of

@@ -568,11 +568,15 @@ serves id (ReplayAct params) state fits texts is room small =
 
 -- ---- a frame
 
+-- what was asked, however it was read
+pub asked-steps-well : (r : Result Asked Refused) (state : State) → AskedFits r → AskedTexts r → IsState state → HasRoom state
+    → StepsWell state (asked_step r state) × IsAnswered r (asked_step r state).moves
+    × KeepsAtMost (edits_asked r) state (asked_step r state).state
+asked-steps-well (Ok a) state fits texts is room =
+    let s = serves a.id a.command state fits.1 texts is room fits.0 in
+    (s.well, (s.once, s.may, s.texts), s.few)
+asked-steps-well (Err r) state fits texts is room = let w = refusing-well r state is room fits in (w.0, refl, w.1)
+
 pub frame-steps-well : FramesStepWell
-frame-steps-well own state frame is room = at (asked frame own) (frame-fits own frame) (frame-texts own frame) where
-  at : (r : Result Asked Refused) → AskedFits r → AskedTexts r
-      → StepsWell state (asked_step r state) × IsAnswered r (asked_step r state).moves
-      × KeepsAtMost (edits_asked r) state (asked_step r state).state
-  at (Ok a) fits texts = let s = serves a.id a.command state fits.1 texts is room fits.0 in
-      (s.well, (s.once, s.may, s.texts), s.few)
-  at (Err r) fits texts = let w = refusing-well r state is room fits in (w.0, refl, w.1)
+frame-steps-well own state frame is room =
+    asked-steps-well (asked frame own) state (frame-fits own frame) (frame-texts own frame) is room

@@ -46,5 +46,13 @@ pub mod AskCounts
 pub mod StartLemmas
 pub mod KeptSearches
 pub mod FoundShown
+pub mod SeatRoom
+pub mod HeardLemmas
+pub mod PairLemmas
+pub mod PairSteps
+pub mod GuestSeats
+pub mod GuestSteps
+pub mod GuestUndo
+pub mod GuestSheets
 mod DomainLemmas
 pub mod LoadSpelt

@@ -24,6 +24,7 @@ use Rattle.page_forms.specs.Spelt.{ReadsAs}
 use Rattle.page_forms.proofs.PageLemmas.{can_load_page}
 use Rattle.back_end.specs.States.{State}
 use Rattle.back_end.specs.Steps.{asked_step, frame_step, command_step}
+use Rattle.back_end.specs.Outside.{command_outward, asked_outward, frame_outward}
 use Rattle.back_end.specs.OwnMethods.{load_form, load_why, unless_why}
 use Rattle.back_end.specs.LoadFrames.{load_tokens, load_members, SpellsLoad, AsksLoad}
 
@@ -106,3 +107,8 @@ module _ (frame text : List ℕ) (id : ℕ) (page : LoadedPage) (same : text ≡
 pub load_step_is : (own : Bool) (frame : List ℕ) (id : ℕ) (page : LoadedPage) → own ≡ true → (e : AsksLoad frame id page) → (state : State)
     → command_step id (ReplayLoad e.params) state ≡ frame_step own frame state
 load_step_is own frame id page is e state = sym (ap (λ a. asked_step a state) (ap (asked frame) is ∙ e.asks))
+
+-- and what the frame is to the page
+pub load_outward_is : (own : Bool) (frame : List ℕ) (id : ℕ) (page : LoadedPage) → own ≡ true → (e : AsksLoad frame id page)
+    → (state : State) → command_outward (ReplayLoad e.params) state ≡ frame_outward own frame state
+load_outward_is own frame id page is e state = sym (ap (λ a. asked_outward a state) (ap (asked frame) is ∙ e.asks))

@@ -38,7 +38,7 @@ use Rattle.back_end.specs.Steps.{Step, idle, with_page, pause_step, push_step, p
 use Rattle.back_end.specs.Steps.{edit_step, edit_steps, splice_step, splice_steps, kept_step, kept_steps, undo_edits}
 use Rattle.back_end.specs.Steps.{redo_edits, taken_step, edit_named, lowered, serial_now, put_answer, unless_fault, node_edit_step}
 use Rattle.back_end.specs.Steps.{restyled_step, watch_step, own_step, planned_step, sheet_steps, sheet_step}
-use Rattle.back_end.specs.Steps.{Turn, acts, loads, turn_step, needs_on, needs_css, served_step, command_step, asked_step, frame_step}
+use Rattle.back_end.specs.Steps.{Turn, acts, loads, turn_step, needs_on, needs_css, served_step, command_step, asked_step}
 use Rattle.back_end.specs.Steps.{refusing, answering, with_searches, results_asked, results_step, discard_step, search_step}
 use Rattle.cdp_messages.specs.declared.search_ask.SearchAsk.{SearchAsk}
 use Rattle.cdp_messages.specs.declared.search_ask.SearchAsk.TheVariants as search
@@ -55,7 +55,7 @@ use Rattle.dom_breakpoints.specs.Watched.{with_watch, without_watch}
 use Rattle.back_end.specs.Laws.{HasRoom, StepsWell, IsTurn, reply_ids}
 use Rattle.back_end.specs.Texts.{HasServedTexts, HasTreeTexts}
 use Rattle.back_end.specs.Outside.{Outward, made, turned, unchanged, plan_outward, tree_outward, sheet_outward, taken_outward, own_outward}
-use Rattle.back_end.specs.Outside.{served_outward, command_outward, asked_outward, frame_outward, outside_one, outside_all, crossing_by}
+use Rattle.back_end.specs.Outside.{served_outward, command_outward, asked_outward, outside_one, outside_all, crossing_by}
 use Rattle.back_end.specs.Outside.{outside_step, IsOutside, OutsideStepsWell, TurnsLeadAlike}
 use Rattle.back_end.proofs.OwnTexts.{AskedTexts, frame-texts}
 use Rattle.back_end.proofs.OwnLemmas.{load-turn, act-turn}
@@ -482,12 +482,10 @@ command-done id c state texts is room =
       at false true = done-none state state.side is refl
       at false false = served-done id c state texts is room
 
-pub frame-done : (own : Bool) (frame : List ℕ) (state : State) → IsState state → HasRoom state
-    → IsDone state (frame_outward own frame state) (frame_step own frame state).state.side
-frame-done own frame state is room = at (asked frame own) (frame-texts own frame) where
-  at : (r : Result Asked Refused) → AskedTexts r → IsDone state (asked_outward r state) (asked_step r state).state.side
-  at (Ok a) texts = command-done a.id a.command state texts is room
-  at (Err r) texts = done-none state state.side is refl
+pub asked-done : (r : Result Asked Refused) (state : State) → AskedTexts r → IsState state → HasRoom state
+    → IsDone state (asked_outward r state) (asked_step r state).state.side
+asked-done (Ok a) state texts is room = command-done a.id a.command state texts is room
+asked-done (Err r) state texts is room = done-none state state.side is refl
 
 -- ---- for another client
 
@@ -501,7 +499,13 @@ outside-done (turned x) first other after done is room same =
     subst (λ (side : Side). IsOutside side other (outside_step (turned x) other)) (done.led other same)
     (turned-outside x other is room done.can)
 
+-- what was asked, however it was read
+pub asked-outside : (r : Result Asked Refused) (first other : State) → AskedTexts r → IsState first → HasRoom first → IsState other
+    → HasRoom other → other.side ≡ first.side
+    → IsOutside (asked_step r first).state.side other (outside_step (asked_outward r first) other)
+asked-outside r first other texts is room is2 room2 same =
+    outside-done (asked_outward r first) first other (asked_step r first).state.side (asked-done r first texts is room) is2 room2 same
+
 pub outside-steps-well : OutsideStepsWell
 outside-steps-well own frame first other is room is2 room2 same =
-    outside-done (frame_outward own frame first) first other (frame_step own frame first).state.side (frame-done own frame first is room)
-    is2 room2 same
+    asked-outside (asked frame own) first other (frame-texts own frame) is room is2 room2 same

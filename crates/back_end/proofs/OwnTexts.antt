@@ -1,9 +1,9 @@
 -- What our own two methods are given has UTF-8 texts, as each frame that is read has.
-use Rattle.std.proofs.Common.{◌≡◌, List, ℕ, Bool, true, false, cond, Option, Some, None, Result, Ok, Err, refl, codes}
-use Rattle.std.specs.Prelude.{⊤}
+use Rattle.std.proofs.Common.{◌≡◌, List, ℕ, Bool, true, false, cond, Option, Some, None, Result, Ok, Err, refl, subst, codes}
+use Rattle.std.specs.Prelude.{⊤, bytes_eq, option_map, IfOk}
 use Rattle.std.specs.Str.{is_utf8}
 use Rattle.std.proofs.lemmas.Str.{IsUtf8-from_is_utf8}
-use Rattle.serde_json.specs.Data.{Data, Members}
+use Rattle.serde_json.specs.Data.{Data, null, boolean, number, string, array, object, Members, no_members, member}
 use Rattle.serde_json.specs.Find.{get_member, as_str, as_object}
 use Rattle.serde_json.specs.Read.{read}
 use Rattle.std.specs.List.{All}
@@ -16,7 +16,10 @@ use Rattle.cdp_json.specs.Lookups.{then_ok, Lookups, no_lookups}
 use Rattle.cdp_json.specs.Plain.{HasUtf8, MembersHaveUtf8}
 use Rattle.cdp_json.proofs.ReadTexts.{IfSome, read_utf8}
 use Rattle.page_forms.proofs.NodeTexts.{object_utf8}
+use Rattle.cdp_messages.specs.Answers.{ReadsAsked}
+use Rattle.cdp_messages.specs.declared.command.ReadErr.{ReadErr}
 use Rattle.cdp_messages.specs.declared.command.Asked.{Asked}
+use Rattle.cdp_messages.specs.SessionFrames.{session_name, without, without_session, session_asked}
 use Rattle.cdp_messages.specs.declared.command.Command.{Command}
 use Rattle.cdp_messages.specs.declared.command.Command.TheVariants.{DomEnable, AskDom, EditDom, AskCss, EditCss, SetBreakpoint}
 use Rattle.cdp_messages.specs.declared.command.Command.TheVariants.{RemoveBreakpoint}
@@ -220,11 +223,11 @@ object-texts : (own : Bool) (o : Option Members) → IfSome MembersHaveUtf8 o �
 object-texts own None u = tt
 object-texts own (Some frame) u = with-id (field_of as_whole (codes "id") frame) (command_in own frame) (in-frame own frame u)
 
-value-texts : (own : Bool) (o : Option Data) → IfSome HasUtf8 o → AskedTexts (asked_value own o)
+pub value-texts : (own : Bool) (o : Option Data) → IfSome HasUtf8 o → AskedTexts (asked_value own o)
 value-texts own None u = tt
 value-texts own (Some d) u = object-texts own (as_object d) (object_utf8 d u)
 
-json-texts : (bytes : List ℕ) → IfSome HasUtf8 (json_of bytes)
+pub json-texts : (bytes : List ℕ) → IfSome HasUtf8 (json_of bytes)
 json-texts bytes = at (is_utf8 bytes) refl where
   read-texts : (o : Option Data) → is_utf8 bytes ≡ true → read bytes ≡ o → IfSome HasUtf8 o
   read-texts None is e = tt
@@ -237,3 +240,35 @@ json-texts bytes = at (is_utf8 bytes) refl where
 -- what is asked of a frame has UTF-8 texts
 pub frame-texts : (own : Bool) (frame : List ℕ) → AskedTexts (asked frame own)
 frame-texts own frame = value-texts own (json_of frame) (json-texts frame)
+
+-- ---- a frame of the attached session
+
+without-one : (b : Bool) (l : List ℕ) (d : Data) (ms rest : Members) → MembersHaveUtf8 (member l d ms) → MembersHaveUtf8 rest
+    → MembersHaveUtf8 (cond b ms (member l d rest))
+without-one true l d ms rest u v = u.2
+without-one false l d ms rest u v = (u.0, u.1, v)
+
+without-utf8 : (name : List ℕ) (ms : Members) → MembersHaveUtf8 ms → MembersHaveUtf8 (without name ms)
+without-utf8 name no_members u = tt
+without-utf8 name (member l d ms) u = without-one (bytes_eq name l) l d ms (without name ms) u (without-utf8 name ms u.2)
+
+session-utf8 : (d : Data) → HasUtf8 d → HasUtf8 (without_session d)
+session-utf8 null u = u
+session-utf8 (boolean b) u = u
+session-utf8 (number n) u = u
+session-utf8 (string s) u = u
+session-utf8 (array ds) u = u
+session-utf8 (object ms) u = without-utf8 session_name ms u
+
+-- what is asked by it has UTF-8 texts
+pub session-texts : (frame : List ℕ) → AskedTexts (session_asked frame)
+session-texts frame = value-texts false (option_map without_session (json_of frame)) (at (json_of frame) (json-texts frame)) where
+  at : (o : Option Data) → IfSome HasUtf8 o → IfSome HasUtf8 (option_map without_session o)
+  at None u = tt
+  at (Some d) u = session-utf8 d u
+
+-- what was read of it has such texts too
+pub read-texts : (result : Result Asked ReadErr) (r : Result Asked Refused) → ReadsAsked result r → AskedTexts r
+    → IfOk result (λ (a : Asked). HasServedTexts a.command)
+read-texts (Ok a) r is texts = subst AskedTexts is texts
+read-texts (Err e) r is texts = tt

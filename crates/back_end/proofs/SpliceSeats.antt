@@ -19,7 +19,7 @@ use Rattle.cdp_messages.specs.declared.command.Why.{Why}
 use Rattle.client_views.specs.Moves.{Move, replied, frames_of_moves}
 use Rattle.cdp_messages.specs.declared.css_edit.CssEdit.{CssEdit}
 use Rattle.css_agent.specs.Edits.{CssDone, CssEdited, css_edited, css_splices, splice_moves, moves_with_reply, edit_moves, edit_splices}
-use Rattle.css_agent.specs.EditLaws.{HasEditTexts}
+use Rattle.css_agent.specs.EditLaws.{HasEditTexts, AllTake, back_splices}
 use Rattle.css_agent.proofs.DoneLemmas.{css-leads, stored-all}
 use Rattle.back_end.specs.declared.desk.Desk.{Desk}
 use Rattle.back_end.specs.declared.side.PageSide.{PageSide}
@@ -123,6 +123,49 @@ edited-here : (s : PageSide) (book : List SheetEntry) (x : CssEdit) (r : CssEdit
     → css_edited s.sheets.entries x ≡ r → css_edited book x ≡ r
 edited-here s book x r same is = ap (λ (es : List SheetEntry). css_edited es x) (sym same) ∙ is
 
+-- what becomes of a state by an edit of sheets that was carried out
+pub record Restyles (x : CssEdit) (s1 : PageSide) (state : State) (backs : List Splice) (d : Desk) : Type 0 where
+  pub done : CssDone
+  pub is : css_edited (book_in state) x ≡ Ok done
+  pub taken : AllTake (css_splices (book_in state) x) (book_in state)
+  pub backs_are : backs ≡ back_splices (css_splices (book_in state) x) (book_in state)
+  pub stands : DeskStandsFor d s1 (splice_steps (css_splices (book_in state) x) state).state
+
+-- a desk stands for the state after the splices
+pub restyled-desk : (d : Desk) (s s1 : PageSide) (state : State) (x : CssEdit) (backs : List Splice) → DeskStandsFor d s state
+    → s.sheets.next < 2 ^ 50 → HasEditTexts x → edit_splices (css_edited s.sheets.entries x) ≡ Ok (s1.sheets.entries, backs)
+    → s1.page ≡ s.page → s1.sheets.next ≡ s.sheets.next → s1.sheets.medium ≡ s.sheets.medium
+    → Restyles x s1 state backs d
+restyled-desk d s s1 state x backs stands room texts edited page_is next_is medium_is =
+    let made = did s.sheets.entries x s1.sheets.entries backs edited in
+    let here : css_edited (book_in state) x ≡ Ok made.done = edited-here s (book_in state) x (Ok made.done) stands.sheets_are made.is in
+    let ss = css_splices (book_in state) x in
+    let low : state.side.next_sheet < 2 ^ 50 = subst (λ (n : ℕ). n < 2 ^ 50) stands.next_is room in
+    let done = edit-done x made.done state stands.now (omega (arith, low)) texts here in
+    let after = restyled ss state stands.now done.taken in
+    record {
+      done = made.done;
+      is = here;
+      taken = done.taken;
+      backs_are = sym made.answers ∙ done.backs;
+      stands = record {
+        now = after.now;
+        page_is = page_is ∙ stands.page_is ∙ sym after.page;
+        sheets_are = sym made.leads ∙ done.leads ∙ sym after.book;
+        next_is = next_is ∙ stands.next_is ∙ sym after.next;
+        medium_is = medium_is ∙ stands.medium_is ∙ sym after.medium;
+        on_is = stands.on_is ∙ ap (λ (c : Client). c.dom_on) (sym after.client);
+        css_is = stands.css_is ∙ ap (λ (c : Client). c.css_on) (sym after.client);
+        mode_is = stands.mode_is ∙ ap (λ (c : Client). c.mode) (sym after.client);
+        stands = subst (λ (p : PageValue). Stands (alone (shown_page (splice_steps ss state).state.client.mode p).tree)
+            (splice_steps ss state).state.client.session d.agent) (sym after.page)
+            (subst (λ (c : Client). Stands (alone (shown_page c.mode state.side.page).tree) c.session d.agent)
+            (sym after.client) stands.stands);
+        watches_are = stands.watches_are ∙ ap (λ (c : Client). c.watched) (sym after.client);
+        searches_are = stands.searches_are ∙ ap (λ (c : Client). c.searches) (sym after.client);
+      };
+    }
+
 pub restyled-both : (d : Desk) (h h1 : Marks Inverse) (s s1 : PageSide) (state : State) (id : ℕ) (x : CssEdit) (backs : List Splice)
     → BothStandFor d h s state → HasNumbersLeft d s → HasEditTexts x
     → d.is_on ≡ true → d.css ≡ true → edit_splices (css_edited s.sheets.entries x) ≡ Ok (s1.sheets.entries, backs) → s1.page ≡ s.page
@@ -130,33 +173,13 @@ pub restyled-both : (d : Desk) (h h1 : Marks Inverse) (s s1 : PageSide) (state :
     → h1 ≡ noted_singly (map (λ s. Sheet s) backs) h → BothStandFor d h1 s1 (command_step id (EditCss x) state).state
 restyled-both d h h1 s s1 state id x backs both room texts on css edited page_is next_is medium_is noted =
     let stands = both.stands in
-    let made = did s.sheets.entries x s1.sheets.entries backs edited in
-    let here : css_edited (book_in state) x ≡ Ok made.done = edited-here s (book_in state) x (Ok made.done) stands.sheets_are made.is in
+    let r = restyled-desk d s s1 state x backs stands room.sheets texts edited page_is next_is medium_is in
     let ss = css_splices (book_in state) x in
-    let low : state.side.next_sheet < 2 ^ 50 = subst (λ (n : ℕ). n < 2 ^ 50) stands.next_is room.sheets in
-    let done = edit-done x made.done state stands.now (omega (arith, low)) texts here in
-    let after = restyled ss state stands.now done.taken in
-    let own : DeskStandsFor d s1 (splice_steps ss state).state = record {
-      now = after.now;
-      page_is = page_is ∙ stands.page_is ∙ sym after.page;
-      sheets_are = sym made.leads ∙ done.leads ∙ sym after.book;
-      next_is = next_is ∙ stands.next_is ∙ sym after.next;
-      medium_is = medium_is ∙ stands.medium_is ∙ sym after.medium;
-      on_is = stands.on_is ∙ ap (λ (c : Client). c.dom_on) (sym after.client);
-      css_is = stands.css_is ∙ ap (λ (c : Client). c.css_on) (sym after.client);
-      mode_is = stands.mode_is ∙ ap (λ (c : Client). c.mode) (sym after.client);
-      stands = subst (λ (p : PageValue). Stands (alone (shown_page (splice_steps ss state).state.client.mode p).tree)
-          (splice_steps ss state).state.client.session d.agent) (sym after.page)
-          (subst (λ (c : Client). Stands (alone (shown_page c.mode state.side.page).tree) c.session d.agent)
-          (sym after.client) stands.stands);
-      watches_are = stands.watches_are ∙ ap (λ (c : Client). c.watched) (sym after.client);
-      searches_are = stands.searches_are ∙ ap (λ (c : Client). c.searches) (sym after.client);
-    } in
-    let kept = restyled-kept h h1 state ss backs both.kept stands.now done.taken (sym made.answers ∙ done.backs) noted in
+    let kept = restyled-kept h h1 state ss backs both.kept stands.now r.taken r.backs_are noted in
     let all = keeping (map (λ s. Sheet s) ss) state (splice_steps ss state) in
     subst (λ (x : Step). BothStandFor d h1 s1 x.state)
-    (sym (step-is d s state id x stands on css ∙ ap (λ (r : CssEdited). restyled_step id r ss state) here))
-    (record { stands = marks-stands all.state.client.marks d s1 (splice_steps ss state).state own; kept = kept })
+    (sym (step-is d s state id x stands on css ∙ ap (λ (r : CssEdited). restyled_step id r ss state) r.is))
+    (record { stands = marks-stands all.state.client.marks d s1 (splice_steps ss state).state r.stands; kept = kept })
 
 pub restyled-sent : (d : Desk) (s : PageSide) (state : State) (id : ℕ) (x : CssEdit) (new : List SheetEntry) (backs : List Splice)
     (before after : List ℕ)

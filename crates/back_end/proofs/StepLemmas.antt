@@ -393,7 +393,7 @@ plan-well state plan is room p =
     }
 
 -- a page that is shown on another medium
-medium-is : (state : State) (medium : Medium) → HoldsNow state → HoldsNow (on_medium medium state)
+pub medium-is : (state : State) (medium : Medium) → HoldsNow state → HoldsNow (on_medium medium state)
 medium-is state medium is = record {
   page = is.page;
   texts = is.texts;

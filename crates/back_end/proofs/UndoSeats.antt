@@ -113,8 +113,8 @@ pub record Turned (e back : Inverse) (d d1 : Desk) (s s1 : PageSide) (out new : 
   pub sent : (state : State) → DeskStandsFor d s state → new ≡ out ++ frames_of_moves (kept_step e state).moves
 
 -- the rest is taken then
-rest-taken : (e back : Inverse) (rest : List Inverse) (d d1 : Desk) (s s1 : PageSide) (out new : List ℕ) → Turned e back d d1 s s1 out new
-    → TakesAll s (e ∷ rest) → TakesAll s1 rest
+pub rest-taken : (e back : Inverse) (rest : List Inverse) (d d1 : Desk) (s s1 : PageSide) (out new : List ℕ)
+    → Turned e back d d1 s s1 out new → TakesAll s (e ∷ rest) → TakesAll s1 rest
 rest-taken e back rest d d1 s s1 out new t takes =
     subst (λ (n : ℕ). AllTaken page_after (TakesWell n) rest (saved_at s1)) (sym t.next)
     (subst (λ (p : Saved). AllTaken page_after (TakesWell s.page.next) rest p) (sym t.saved) takes.1)

@@ -10,3 +10,7 @@ pub mod Outside
 pub mod Seats
 pub mod Starts
 pub mod SearchLaws
+pub mod Guests
+pub mod Pairs
+pub mod PairSeats
+pub mod PairLaws

@@ -16,16 +16,16 @@ impl Desk {
     /// `DOMDebugger.setDOMBreakpoint`
     pub(crate) fn watch(
         &mut self,
-        side: &mut PageSide,
+        side: &PageSide,
         id: u64,
         node: u64,
         kind: WatchKind,
         out: &mut Vec<u8>,
     ) -> Result<(), AllocError>
         requires on { self.old.is_on ≡ true }
-        ensures stands { (state : State) → DeskStandsFor self.old side.old state
-            → OnOk result (DeskStandsFor self.new side.new (command_step id (commands.SetBreakpoint node kind) state).state) }
-        ensures sent { (state : State) → DeskStandsFor self.old side.old state
+        ensures stands { (state : State) → DeskStandsFor self.old side.now state
+            → OnOk result (DeskStandsFor self.new side.now (command_step id (commands.SetBreakpoint node kind) state).state) }
+        ensures sent { (state : State) → DeskStandsFor self.old side.now state
             → OnOk result (out.new.items ≡ out.old.items
             ++ frames_of_moves (command_step id (commands.SetBreakpoint node kind) state).moves) }
     {
@@ -41,16 +41,16 @@ impl Desk {
     /// `DOMDebugger.removeDOMBreakpoint`
     pub(crate) fn unwatch(
         &mut self,
-        side: &mut PageSide,
+        side: &PageSide,
         id: u64,
         node: u64,
         kind: WatchKind,
         out: &mut Vec<u8>,
     ) -> Result<(), AllocError>
         requires on { self.old.is_on ≡ true }
-        ensures stands { (state : State) → DeskStandsFor self.old side.old state
-            → OnOk result (DeskStandsFor self.new side.new (command_step id (commands.RemoveBreakpoint node kind) state).state) }
-        ensures sent { (state : State) → DeskStandsFor self.old side.old state
+        ensures stands { (state : State) → DeskStandsFor self.old side.now state
+            → OnOk result (DeskStandsFor self.new side.now (command_step id (commands.RemoveBreakpoint node kind) state).state) }
+        ensures sent { (state : State) → DeskStandsFor self.old side.now state
             → OnOk result (out.new.items ≡ out.old.items
             ++ frames_of_moves (command_step id (commands.RemoveBreakpoint node kind) state).moves) }
     {

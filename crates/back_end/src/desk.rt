@@ -1,4 +1,4 @@
-ghost use Rattle.std.specs.Prelude.{◌≡◌, ◌<◌, ◌++◌, ◌&&◌, ◌||◌, not, false, true, Some, None, OnOk};
+ghost use Rattle.std.specs.Prelude.{◌≡◌, ◌<◌, ◌++◌, ◌&&◌, ◌||◌, not, false, true, Some, None, Result, IfOk, OnOk};
 ghost use Rattle.node_tree.specs.Numbers.{kept_before_step};
 ghost use Rattle.node_binding.specs.Bindings.{empty_from, KnowsNothing};
 ghost use Rattle.dom_breakpoints.specs.Watched.{unwatched};
@@ -9,15 +9,21 @@ ghost use Rattle.client_views.specs.Moves.{frames_of_moves};
 ghost use Rattle.back_end.specs.States.{State};
 ghost use Rattle.back_end.specs.Texts.{HasServedTexts};
 ghost use Rattle.cdp_messages.specs.declared.command.Command.TheVariants as commands;
-ghost use Rattle.back_end.specs.Steps.{ask_needs_on, command_step, frame_step, missing, mode_asked, refusing, served_step};
+ghost use Rattle.cdp_messages.specs.Answers.{ReadsAsked};
+ghost use Rattle.cdp_messages.specs.declared.command.Asked.{Asked as AskedValue};
+ghost use Rattle.cdp_messages.specs.declared.command.Refused.{Refused as RefusedValue};
+ghost use Rattle.back_end.specs.Steps.{ask_needs_on, asked_step, command_step, frame_step, missing, mode_asked, refusing, served_step};
 ghost use Rattle.back_end.specs.Steps as steps;
 ghost use Rattle.back_end.specs.Seats.{BothStandFor, DeskStandsFor, HasNumbersLeft, edits_in, enabled_agent};
+ghost use Rattle.back_end.specs.Outside.{command_outward, asked_outward, frame_outward};
+ghost use Rattle.back_end.specs.Guests.{CanHear, GuestStands, Hears, heard_step};
 
+use crate::guest::Guest;
 use crate::load_scan::{LoadFrame, scan_load};
 use crate::side::PageSide;
 use cdp_messages::{
-    Command, DomAsk, ReadErr, Refused, ReplyBody, WhitespaceWord, Why, read_command, write_refused,
-    write_reply,
+    Asked, Command, DomAsk, ReadErr, Refused, ReplyBody, WhitespaceWord, Why, read_command,
+    write_refused, write_reply,
 };
 use css_agent::CssAgent;
 use dom_agent::DomAgent;
@@ -78,11 +84,13 @@ impl Desk {
         }
     }
 
-    /// Answers one frame: a long one that loads a page in its usual form is read token by token.
+    /// Answers one frame: a long one that loads a page in its usual form is read token by token. The guest is told what becomes of the
+    /// page by it.
     pub(crate) fn answer_frame(
         &mut self,
         history: &mut History,
         side: &mut PageSide,
+        guest: &mut Option<Guest>,
         frame: &[u8],
         own: bool,
         out: &mut Vec<u8>,
@@ -90,41 +98,55 @@ impl Desk {
         requires room { HasNumbersLeft self.old side.old }
         requires few { edits_in history.old < kept_before_step }
         requires standing { ∥ ((state : State) × BothStandFor self.old history.old side.old state) ∥₁ }
+        requires can_hear { CanHear kept_before_step guest.old side.old }
         ensures stands { (state : State) → BothStandFor self.old history.old side.old state
             → OnOk result (BothStandFor self.new history.new side.new (frame_step own frame.now state).state) }
         ensures sent { (state : State) → BothStandFor self.old history.old side.old state
             → OnOk result (out.new.items ≡ out.old.items ++ frames_of_moves (frame_step own frame.now state).moves) }
+        ensures told { (state other : State) → BothStandFor self.old history.old side.old state → GuestStands guest.old side.old other
+            → OnOk result (Hears guest.old guest.new side.new (heard_step (frame_outward own frame.now state) other)) }
     {
         if own {
             if let Ok(load) = scan_load(self.alloc, frame) {
                 let LoadFrame { id, page } = load;
-                return self.answer_loaded(history, side, id, page, out);
+                return self.answer_loaded(history, side, guest, id, page, out);
             }
         }
-        self.answer_read(history, side, frame, own, out)
+        let asked = read_command(self.alloc, frame, own);
+        self.answer_asked(history, side, guest, asked, out)
     }
 
-    /// The same by way of a value.
-    fn answer_read(
+    /// Answers a frame, which asks this or is refused. The guest is told what becomes of the page by it.
+    pub(crate) fn answer_asked(
         &mut self,
         history: &mut History,
         side: &mut PageSide,
-        frame: &[u8],
-        own: bool,
+        guest: &mut Option<Guest>,
+        asked: Result<Asked, ReadErr>,
         out: &mut Vec<u8>,
     ) -> Result<(), AllocError>
+        requires fits { IfOk asked (λ a. fits_command a.command ≡ true) }
+        requires texts { IfOk asked (λ a. HasServedTexts a.command) }
         requires room { HasNumbersLeft self.old side.old }
         requires few { edits_in history.old < kept_before_step }
         requires standing { ∥ ((state : State) × BothStandFor self.old history.old side.old state) ∥₁ }
-        ensures stands { (state : State) → BothStandFor self.old history.old side.old state
-            → OnOk result (BothStandFor self.new history.new side.new (frame_step own frame.now state).state) }
-        ensures sent { (state : State) → BothStandFor self.old history.old side.old state
-            → OnOk result (out.new.items ≡ out.old.items ++ frames_of_moves (frame_step own frame.now state).moves) }
+        requires can_hear { CanHear kept_before_step guest.old side.old }
+        ensures stands { (r : Result AskedValue RefusedValue) (state : State) → ReadsAsked asked r
+            → BothStandFor self.old history.old side.old state
+            → OnOk result (BothStandFor self.new history.new side.new (asked_step r state).state) }
+        ensures sent { (r : Result AskedValue RefusedValue) (state : State) → ReadsAsked asked r
+            → BothStandFor self.old history.old side.old state
+            → OnOk result (out.new.items ≡ out.old.items ++ frames_of_moves (asked_step r state).moves) }
+        ensures told { (r : Result AskedValue RefusedValue) (state other : State) → ReadsAsked asked r
+            → BothStandFor self.old history.old side.old state → GuestStands guest.old side.old other
+            → OnOk result (Hears guest.old guest.new side.new (heard_step (asked_outward r state) other)) }
     {
-        match read_command(self.alloc, frame, own) {
-            Ok(asked) => self.answer(history, side, asked.id, asked.command, out),
-            Err(ReadErr::Refused(refused)) => write_refused(self.alloc, &refused, out),
-            Err(ReadErr::Memory) => Err(AllocError),
+        match asked {
+            Ok(asked) => self.answer(history, side, guest, asked.id, asked.command, out),
+            Err(fault) => match fault {
+                ReadErr::Refused(refused) => write_refused(self.alloc, &refused, out),
+                ReadErr::Memory => Err(AllocError),
+            },
         }
     }
 
@@ -150,6 +172,7 @@ impl Desk {
         &mut self,
         history: &mut History,
         side: &mut PageSide,
+        guest: &mut Option<Guest>,
         id: u64,
         command: Command,
         out: &mut Vec<u8>,
@@ -159,14 +182,17 @@ impl Desk {
         requires room { HasNumbersLeft self.old side.old }
         requires few { edits_in history.old < kept_before_step }
         requires standing { ∥ ((state : State) × BothStandFor self.old history.old side.old state) ∥₁ }
+        requires can_hear { CanHear kept_before_step guest.old side.old }
         ensures stands { (state : State) → BothStandFor self.old history.old side.old state
             → OnOk result (BothStandFor self.new history.new side.new (command_step id command state).state) }
         ensures sent { (state : State) → BothStandFor self.old history.old side.old state
             → OnOk result (out.new.items ≡ out.old.items ++ frames_of_moves (command_step id command state).moves) }
+        ensures told { (state other : State) → BothStandFor self.old history.old side.old state → GuestStands guest.old side.old other
+            → OnOk result (Hears guest.old guest.new side.new (heard_step (command_outward command state) other)) }
     {
         match self.missing(&command) {
             Some(why) => self.refuse(id, why, out),
-            None => self.serve(history, side, id, command, out),
+            None => self.serve(history, side, guest, id, command, out),
         }
     }
 
@@ -175,6 +201,7 @@ impl Desk {
         &mut self,
         history: &mut History,
         side: &mut PageSide,
+        guest: &mut Option<Guest>,
         id: u64,
         command: Command,
         out: &mut Vec<u8>,
@@ -185,10 +212,13 @@ impl Desk {
         requires room { HasNumbersLeft self.old side.old }
         requires few { edits_in history.old < kept_before_step }
         requires standing { ∥ ((state : State) × BothStandFor self.old history.old side.old state) ∥₁ }
+        requires can_hear { CanHear kept_before_step guest.old side.old }
         ensures stands { (state : State) → BothStandFor self.old history.old side.old state
             → OnOk result (BothStandFor self.new history.new side.new (command_step id command state).state) }
         ensures sent { (state : State) → BothStandFor self.old history.old side.old state
             → OnOk result (out.new.items ≡ out.old.items ++ frames_of_moves (command_step id command state).moves) }
+        ensures told { (state other : State) → BothStandFor self.old history.old side.old state → GuestStands guest.old side.old other
+            → OnOk result (Hears guest.old guest.new side.new (heard_step (command_outward command state) other)) }
     {
         match command {
             Command::DomEnable { include_whitespace } => {
@@ -196,22 +226,22 @@ impl Desk {
             }
             Command::DomDisable => self.disable(history, side, id, out),
             Command::AskDom(ask) => self.ask_agent(side, id, &ask, out),
-            Command::EditDom(edit) => self.answer_tree_edit(history, side, id, edit, out),
+            Command::EditDom(edit) => self.answer_tree_edit(history, side, guest, id, edit, out),
             Command::AskSearch(ask) => self.answer_search(side, id, &ask, out),
             Command::MarkUndoableState => self.end_group(history, side, id, out),
-            Command::Undo => self.undo(history, side, id, out),
-            Command::Redo => self.redo(history, side, id, out),
+            Command::Undo => self.undo(history, side, guest, id, out),
+            Command::Redo => self.redo(history, side, guest, id, out),
             Command::CssEnable => self.enable_css(side, id, out),
             Command::CssDisable => self.disable_css(side, id, out),
             Command::AskCss(ask) => self.answer_styles(side, id, &ask, out),
-            Command::EditCss(edit) => self.answer_sheet_edit(history, side, id, &edit, out),
+            Command::EditCss(edit) => self.answer_sheet_edit(history, side, guest, id, &edit, out),
             Command::SetBreakpoint { node, kind } => self.watch(side, id, node, kind, out),
             Command::RemoveBreakpoint { node, kind } => self.unwatch(side, id, node, kind, out),
             Command::ReplayLoad { params } => {
-                self.answer_load(history, side, id, params.as_value(), out)
+                self.answer_load(history, side, guest, id, params.as_value(), out)
             }
             Command::ReplayAct { params } => {
-                self.answer_act(history, side, id, params.as_value(), out)
+                self.answer_act(history, side, guest, id, params.as_value(), out)
             }
         }
     }
@@ -226,14 +256,14 @@ impl Desk {
     /// `DOM.enable`: where DOM is off, the client is shown what it asks for from now on.
     fn enable(
         &mut self,
-        side: &mut PageSide,
+        side: &PageSide,
         id: u64,
         word: Option<WhitespaceWord>,
         out: &mut Vec<u8>,
     ) -> Result<(), AllocError>
-        requires standing { ∥ ((state : State) × DeskStandsFor self.old side.old state) ∥₁ }
-        ensures stands { (state : State) → DeskStandsFor self.old side.old state
-            → OnOk result (DeskStandsFor self.new side.new (served_step id (commands.DomEnable word) state).state) }
+        requires standing { ∥ ((state : State) × DeskStandsFor self.old side.now state) ∥₁ }
+        ensures stands { (state : State) → DeskStandsFor self.old side.now state
+            → OnOk result (DeskStandsFor self.new side.now (served_step id (commands.DomEnable word) state).state) }
         ensures sent { (state : State)
             → OnOk result (out.new.items ≡ out.old.items
             ++ frames_of_moves (served_step id (commands.DomEnable word) state).moves) }
@@ -250,14 +280,14 @@ impl Desk {
     fn disable(
         &mut self,
         history: &mut History,
-        side: &mut PageSide,
+        side: &PageSide,
         id: u64,
         out: &mut Vec<u8>,
     ) -> Result<(), AllocError>
         requires on { self.old.is_on ≡ true }
-        ensures stands { (state : State) → BothStandFor self.old history.old side.old state
-            → OnOk result (BothStandFor self.new history.new side.new (command_step id commands.DomDisable state).state) }
-        ensures sent { (state : State) → DeskStandsFor self.old side.old state
+        ensures stands { (state : State) → BothStandFor self.old history.old side.now state
+            → OnOk result (BothStandFor self.new history.new side.now (command_step id commands.DomDisable state).state) }
+        ensures sent { (state : State) → DeskStandsFor self.old side.now state
             → OnOk result (out.new.items ≡ out.old.items ++ frames_of_moves (command_step id commands.DomDisable state).moves) }
     {
         write_reply(self.alloc, id, &ReplyBody::Nothing, out)?;
@@ -281,18 +311,18 @@ impl Desk {
 
     fn ask_agent(
         &mut self,
-        side: &mut PageSide,
+        side: &PageSide,
         id: u64,
         ask: &DomAsk,
         out: &mut Vec<u8>,
     ) -> Result<(), AllocError>
         requires ask { fits_ask ask.now ≡ true }
         requires on { (ask_needs_on ask.now && not self.old.is_on) ≡ false }
-        requires room { HasNumbersLeft self.old side.old }
-        requires standing { ∥ ((state : State) × DeskStandsFor self.old side.old state) ∥₁ }
-        ensures stands { (state : State) → DeskStandsFor self.old side.old state
-            → OnOk result (DeskStandsFor self.new side.new (command_step id (commands.AskDom ask.now) state).state) }
-        ensures sent { (state : State) → DeskStandsFor self.old side.old state
+        requires room { HasNumbersLeft self.old side.now }
+        requires standing { ∥ ((state : State) × DeskStandsFor self.old side.now state) ∥₁ }
+        ensures stands { (state : State) → DeskStandsFor self.old side.now state
+            → OnOk result (DeskStandsFor self.new side.now (command_step id (commands.AskDom ask.now) state).state) }
+        ensures sent { (state : State) → DeskStandsFor self.old side.now state
             → OnOk result (out.new.items ≡ out.old.items ++ frames_of_moves (command_step id (commands.AskDom ask.now) state).moves) }
     {
         self.agent.ask(side.page(), id, ask, out)?;

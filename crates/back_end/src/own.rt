@@ -6,14 +6,17 @@ ghost use Rattle.page_forms.specs.Acts.{IsInsertable};
 ghost use Rattle.page_forms.specs.Pages.{loaded_page, CanLoadPage};
 ghost use Rattle.cdp_messages.specs.Answers.{Commands};
 ghost use Rattle.client_views.specs.Moves.{frames_of_moves};
-ghost use Rattle.back_end.specs.OwnMethods.{act_why, edit_why, sheet_why, load_why, load_asked, act_read, Finds};
+ghost use Rattle.back_end.specs.OwnMethods.{act_judged, act_why, edit_why, sheet_why, load_why, load_asked, act_read, Finds};
 ghost use Rattle.cdp_messages.specs.declared.command.Command.TheVariants as commands;
 ghost use Rattle.back_end.specs.States.{State};
-ghost use Rattle.back_end.specs.Steps.{command_step, judged_step};
+ghost use Rattle.back_end.specs.Steps.{acts, command_step, judged_step};
 ghost use Rattle.back_end.specs.Seats.{BothStandFor, DeskStandsFor, HasNumbersLeft};
+ghost use Rattle.back_end.specs.Outside.{command_outward, own_outward};
+ghost use Rattle.back_end.specs.Guests.{CanHear, GuestStands, Hears, heard_step};
 
 use crate::desk::Desk;
 use crate::faults::ActFault;
+use crate::guest::Guest;
 use crate::side::PageSide;
 use cdp_json::all_whole;
 use cdp_messages::{CommandErr, Param, ReplyBody, Why, write_reply};
@@ -116,6 +119,7 @@ impl Desk {
         &mut self,
         history: &mut History,
         side: &mut PageSide,
+        guest: &mut Option<Guest>,
         id: u64,
         params: &Value,
         out: &mut Vec<u8>,
@@ -127,10 +131,13 @@ impl Desk {
         ensures sent { (state : State) → DeskStandsFor self.old side.old state
             → OnOk result (out.new.items ≡ out.old.items
             ++ frames_of_moves (command_step id (commands.ReplayLoad (view params.now)) state).moves) }
+        ensures told { (state other : State) → DeskStandsFor self.old side.old state → GuestStands guest.old side.old other
+            → OnOk result (Hears guest.old guest.new side.new
+            (heard_step (command_outward (commands.ReplayLoad (view params.now)) state) other)) }
     {
         match asked_page(self.alloc, params) {
             Ok(page) => {
-                self.load(side, page, out)?;
+                self.load(side, guest, page, out)?;
                 history.clear();
                 write_reply(self.alloc, id, &ReplyBody::Nothing, out)
             }
@@ -144,6 +151,7 @@ impl Desk {
         &mut self,
         history: &mut History,
         side: &mut PageSide,
+        guest: &mut Option<Guest>,
         id: u64,
         page: PageForm,
         out: &mut Vec<u8>,
@@ -157,8 +165,11 @@ impl Desk {
             → DeskStandsFor self.old side.old state
             → OnOk result (out.new.items ≡ out.old.items
             ++ frames_of_moves (command_step id (commands.ReplayLoad params) state).moves) }
+        ensures told { (state other : State) (params : Data) → load_asked params ≡ Ok (loaded_page page)
+            → GuestStands guest.old side.old other
+            → OnOk result (Hears guest.old guest.new side.new (heard_step (command_outward (commands.ReplayLoad params) state) other)) }
     {
-        self.load(side, page, out)?;
+        self.load(side, guest, page, out)?;
         history.clear();
         write_reply(self.alloc, id, &ReplyBody::Nothing, out)
     }
@@ -168,20 +179,25 @@ impl Desk {
         &mut self,
         history: &mut History,
         side: &mut PageSide,
+        guest: &mut Option<Guest>,
         id: u64,
         params: &Value,
         out: &mut Vec<u8>,
     ) -> Result<(), AllocError>
         requires room { HasNumbersLeft self.old side.old }
+        requires can_hear { CanHear 2 guest.old side.old }
         ensures stands { (state : State) → BothStandFor self.old history.old side.old state
             → OnOk result (BothStandFor self.new history.new side.new
             (command_step id (commands.ReplayAct (view params.now)) state).state) }
         ensures sent { (state : State) → DeskStandsFor self.old side.old state
             → OnOk result (out.new.items ≡ out.old.items
             ++ frames_of_moves (command_step id (commands.ReplayAct (view params.now)) state).moves) }
+        ensures told { (state other : State) → DeskStandsFor self.old side.old state → GuestStands guest.old side.old other
+            → OnOk result (Hears guest.old guest.new side.new
+            (heard_step (command_outward (commands.ReplayAct (view params.now)) state) other)) }
     {
         match asked_act(self.alloc, params) {
-            Ok(act) => self.answer_changed(history, side, id, act, out),
+            Ok(act) => self.answer_changed(history, side, guest, id, act, out),
             Err(CommandErr::Refused(why)) => self.refuse(id, why, out),
             Err(CommandErr::Memory) => Err(AllocError),
         }
@@ -192,18 +208,23 @@ impl Desk {
         &mut self,
         history: &mut History,
         side: &mut PageSide,
+        guest: &mut Option<Guest>,
         id: u64,
         act: Act,
         out: &mut Vec<u8>,
     ) -> Result<(), AllocError>
         requires form { IsInsertable act }
         requires room { HasNumbersLeft self.old side.old }
+        requires can_hear { CanHear 2 guest.old side.old }
         ensures stands { (state : State) → BothStandFor self.old history.old side.old state
             → OnOk result (BothStandFor self.new history.new side.new (judged_step id act state).state) }
         ensures sent { (state : State) → DeskStandsFor self.old side.old state
             → OnOk result (out.new.items ≡ out.old.items ++ frames_of_moves (judged_step id act state).moves) }
+        ensures told { (other : State) → GuestStands guest.old side.old other
+            → OnOk result (Hears guest.old guest.new side.new
+            (heard_step (own_outward acts (act_judged side.old.page side.old.sheets.entries act) other) other)) }
     {
-        if let Some(fault) = self.script(side, act, out)? {
+        if let Some(fault) = self.script(side, guest, act, out)? {
             return self.refuse(id, act_why(fault), out);
         }
         history.cross();

@@ -7,9 +7,12 @@ ghost use Rattle.client_views.specs.Moves.{met, frames_of_moves};
 ghost use Rattle.back_end.specs.States.{State, page_nodes};
 ghost use Rattle.back_end.specs.Steps.{pause_before, pause_step, script_step};
 ghost use Rattle.back_end.specs.Texts.{EditHasTexts};
+ghost use Rattle.undo_marks.specs.declared.inverse_lists.Inverse.TheVariants as kept;
+ghost use Rattle.back_end.specs.Guests.{CanHear, GuestHasTexts, GuestStands, Hears, heard_one};
 ghost use Rattle.back_end.specs.Seats.{HasBegun, IsPause, attribute_pause, removal_pause, subtree_watch_pause, DeskStandsFor};
 
 use crate::desk::Desk;
+use crate::guest::Guest;
 use crate::side::PageSide;
 use cdp_messages::{Event, PauseData, write_event};
 use dom_breakpoints::{Pause, WatchKind};
@@ -112,7 +115,7 @@ impl Desk {
     }
 
     /// Tells the pause that an edit by a script comes to, if it comes to one.
-    fn pause(
+    pub(crate) fn pause(
         &mut self,
         side: &PageSide,
         edit: &TreeEdit,
@@ -136,6 +139,7 @@ impl Desk {
     pub(crate) fn apply_by_script(
         &mut self,
         side: &mut PageSide,
+        guest: &mut Option<Guest>,
         edit: TreeEdit,
         out: &mut Vec<u8>,
     ) -> Result<TreeEdit, AllocError>
@@ -143,6 +147,7 @@ impl Desk {
         requires ids { self.old.agent.next < drawn_amid_act }
         requires serials { side.old.page.next < drawn_before_edit }
         requires sheets { side.old.sheets.next < drawn_before_edit }
+        requires can_hear { CanHear 1 guest.old side.old }
         ensures page { OnOk result (side.new.page ≡ after edit side.old.page) }
         ensures kept { side.new.sheets ≡ side.old.sheets }
         ensures few { OnOk result (self.new.agent.next ≤ self.old.agent.next + drawn_by_edit) }
@@ -151,8 +156,10 @@ impl Desk {
             → OnOk result (DeskStandsFor self.new side.new (script_step edit state).state) }
         ensures sent { (state : State) → DeskStandsFor self.old side.old state
             → OnOk result (out.new.items ≡ out.old.items ++ frames_of_moves (script_step edit state).moves) }
+        ensures told { (other : State) → GuestStands guest.old side.old other → GuestHasTexts guest.old edit
+            → OnOk result (Hears guest.old guest.new side.new (heard_one (kept.Tree edit) other)) }
     {
         self.pause(side, &edit, out)?;
-        self.apply(side, edit, out)
+        self.apply(side, guest, edit, out)
     }
 }

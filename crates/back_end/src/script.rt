@@ -11,15 +11,19 @@ ghost use Rattle.back_end.specs.States.{State};
 ghost use Rattle.back_end.specs.Plans.{edit_fault, act_fault};
 ghost use Rattle.back_end.specs.Steps.{act_step, edit_step, load_step, lone_step, watches_left, watches_of_text};
 ghost use Rattle.back_end.specs.Texts.{FormHasTexts, EditHasTexts};
-ghost use Rattle.back_end.specs.Seats.{DeskStandsFor, HasNumbersLeft};
+ghost use Rattle.undo_marks.specs.declared.inverse_lists.Inverse.TheVariants as kept;
+ghost use Rattle.back_end.specs.Seats.{DeskStandsFor, HasNumbersLeft, StandsFor};
+ghost use Rattle.back_end.specs.Guests.{CanHear, GuestHasTexts, GuestStands, Hears, HasLeft, drawn_by_outside, heard_one, leaving};
 
 use crate::desk::Desk;
 use crate::faults::ActFault;
+use crate::guest::{Guest, cross_guest, leave_guest, welcome_guest};
 use crate::side::PageSide;
 use cdp_messages::{Event, write_event};
 use dom_breakpoints::Watches;
 use page_forms::{Act, PageForm};
 use page_tree::{EditErr, NodeForm, Page, TreeEdit};
+use sheet_reader::SheetBook;
 use shown_pages::{Mode, TextSight, text_sight};
 use std::alloc::AllocError;
 
@@ -50,8 +54,8 @@ fn forget_gone(watches: &mut Watches, page: &Page, edit: &TreeEdit, mode: Mode)
 }
 
 impl Desk {
-    /// Carries out an edit that the page takes, and tells it. Gives the edit that leads back.
-    pub(crate) fn apply(
+    /// Carries out an edit that the page takes, where the client is alone with the page. Gives the edit that leads back.
+    fn apply_alone(
         &mut self,
         side: &mut PageSide,
         edit: TreeEdit,
@@ -79,26 +83,104 @@ impl Desk {
         }
     }
 
+    /// Carries out an edit that the page takes, and tells it to the client and to the guest, for whom it is as a script's: its pause is
+    /// told first. Gives the edit that leads back.
+    fn apply_both(
+        &mut self,
+        side: &mut PageSide,
+        guest: &mut Guest,
+        edit: TreeEdit,
+        out: &mut Vec<u8>,
+    ) -> Result<TreeEdit, AllocError>
+        requires can { CanApply side.old.page.next edit side.old.page.tree }
+        requires ids { self.old.agent.next < drawn_before_edit }
+        requires guest_ids { guest.old.seat.desk.agent.next + drawn_by_outside < drawn_before_edit }
+        requires serials { side.old.page.next < drawn_before_edit }
+        requires sheets { side.old.sheets.next < drawn_before_edit }
+        ensures page { OnOk result (side.new.page ≡ after edit side.old.page) }
+        ensures kept { side.new.sheets ≡ side.old.sheets }
+        ensures few { OnOk result (self.new.agent.next < self.old.agent.next + 2) }
+        ensures back { IfOk result (λ back. back ≡ back_tree edit side.old.page.tree) }
+        ensures stands { (state : State) → DeskStandsFor self.old side.old state → EditHasTexts edit
+            → OnOk result (DeskStandsFor self.new side.new (edit_step edit state).state) }
+        ensures sent { (state : State) → DeskStandsFor self.old side.old state
+            → OnOk result (out.new.items ≡ out.old.items ++ frames_of_moves (edit_step edit state).moves) }
+        ensures guest_stands { (other : State) → StandsFor guest.old.seat side.old other → EditHasTexts edit
+            → OnOk result (StandsFor guest.new.seat side.new (heard_one (kept.Tree edit) other).state) }
+        ensures guest_sent { (other : State) → DeskStandsFor guest.old.seat.desk side.old other
+            → OnOk result (guest.new.out.items ≡ guest.old.out.items ++ frames_of_moves (heard_one (kept.Tree edit) other).moves) }
+    {
+        guest.seat.desk.pause(side, &edit, &mut guest.out)?;
+        let mode = self.agent.mode();
+        forget_gone(&mut self.watches, &side.page, &edit, mode);
+        let guest_mode = guest.seat.desk.agent.mode();
+        forget_gone(&mut guest.seat.desk.watches, &side.page, &edit, guest_mode);
+        guest.seat.history.cross();
+        let agent = &mut guest.seat.desk.agent;
+        match self
+            .agent
+            .edit_both(agent, &mut side.page, edit, out, &mut guest.out)
+        {
+            Ok(back) => Ok(back),
+            Err(EditErr::Fault(_)) => unreachable!(),
+            Err(EditErr::Memory) => Err(AllocError),
+        }
+    }
+
+    /// Carries out an edit that the page takes, and tells it to the client and to the guest. Gives the edit that leads back.
+    pub(crate) fn apply(
+        &mut self,
+        side: &mut PageSide,
+        guest: &mut Option<Guest>,
+        edit: TreeEdit,
+        out: &mut Vec<u8>,
+    ) -> Result<TreeEdit, AllocError>
+        requires can { CanApply side.old.page.next edit side.old.page.tree }
+        requires ids { self.old.agent.next < drawn_before_edit }
+        requires serials { side.old.page.next < drawn_before_edit }
+        requires sheets { side.old.sheets.next < drawn_before_edit }
+        requires can_hear { CanHear 1 guest.old side.old }
+        ensures page { OnOk result (side.new.page ≡ after edit side.old.page) }
+        ensures kept { side.new.sheets ≡ side.old.sheets }
+        ensures few { OnOk result (self.new.agent.next < self.old.agent.next + 2) }
+        ensures back { IfOk result (λ back. back ≡ back_tree edit side.old.page.tree) }
+        ensures stands { (state : State) → DeskStandsFor self.old side.old state → EditHasTexts edit
+            → OnOk result (DeskStandsFor self.new side.new (edit_step edit state).state) }
+        ensures sent { (state : State) → DeskStandsFor self.old side.old state
+            → OnOk result (out.new.items ≡ out.old.items ++ frames_of_moves (edit_step edit state).moves) }
+        ensures told { (other : State) → GuestStands guest.old side.old other → GuestHasTexts guest.old edit
+            → OnOk result (Hears guest.old guest.new side.new (heard_one (kept.Tree edit) other)) }
+    {
+        match guest {
+            Some(guest) => self.apply_both(side, guest, edit, out),
+            None => self.apply_alone(side, edit, out),
+        }
+    }
+
     /// Carries an edit out, unless the page refuses it: then it gives the fault.
     fn edit(
         &mut self,
         side: &mut PageSide,
+        guest: &mut Option<Guest>,
         edit: TreeEdit,
         out: &mut Vec<u8>,
     ) -> Result<Option<ActFault>, AllocError>
         requires ready { IsReady side.old.page.next edit side.old.page.tree }
         requires texts { EditHasTexts edit }
         requires room { HasNumbersLeft self.old side.old }
+        requires can_hear { CanHear 2 guest.old side.old }
         ensures fault { IfOk result (λ fault. fault ≡ edit_fault (first_fault edit side.old.page.tree)) }
         ensures stands { (state : State) → DeskStandsFor self.old side.old state
             → OnOk result (DeskStandsFor self.new side.new (lone_step edit state).state) }
         ensures sent { (state : State) → DeskStandsFor self.old side.old state
             → OnOk result (out.new.items ≡ out.old.items ++ frames_of_moves (lone_step edit state).moves) }
+        ensures told { (other : State) → GuestStands guest.old side.old other
+            → OnOk result (Hears guest.old guest.new side.new (lone_step edit other)) }
     {
         if let Some(fault) = side.page.fault(&edit) {
             return Ok(Some(ActFault::Edit(fault)));
         }
-        self.apply_by_script(side, edit, out)?;
+        self.apply_by_script(side, guest, edit, out)?;
         Ok(None)
     }
 
@@ -106,6 +188,7 @@ impl Desk {
     fn insert(
         &mut self,
         side: &mut PageSide,
+        guest: &mut Option<Guest>,
         parent: u64,
         before: u64,
         form: NodeForm,
@@ -114,11 +197,14 @@ impl Desk {
         requires form { CanInsert form }
         requires texts { FormHasTexts form }
         requires room { HasNumbersLeft self.old side.old }
+        requires can_hear { CanHear 2 guest.old side.old }
         ensures fault { IfOk result (λ fault. fault ≡ edit_fault (insert_fault parent before form side.old.page.tree)) }
         ensures stands { (state : State) → DeskStandsFor self.old side.old state
             → OnOk result (DeskStandsFor self.new side.new (act_step (Act.Insert parent before form) state).state) }
         ensures sent { (state : State) → DeskStandsFor self.old side.old state
             → OnOk result (out.new.items ≡ out.old.items ++ frames_of_moves (act_step (Act.Insert parent before form) state).moves) }
+        ensures told { (other : State) → GuestStands guest.old side.old other
+            → OnOk result (Hears guest.old guest.new side.new (act_step (Act.Insert parent before form) other)) }
     {
         side.page.valid();
         if let Some(fault) = side.page.insert_fault(parent, before, &form) {
@@ -130,7 +216,7 @@ impl Desk {
             before,
             tree,
         };
-        self.apply_by_script(side, attach, out)?;
+        self.apply_by_script(side, guest, attach, out)?;
         Ok(None)
     }
 
@@ -138,24 +224,28 @@ impl Desk {
     fn move_node(
         &mut self,
         side: &mut PageSide,
+        guest: &mut Option<Guest>,
         node: u64,
         parent: u64,
         before: u64,
         out: &mut Vec<u8>,
     ) -> Result<Option<ActFault>, AllocError>
         requires room { HasNumbersLeft self.old side.old }
+        requires can_hear { CanHear 2 guest.old side.old }
         ensures fault { IfOk result (λ fault. fault ≡ edit_fault (move_fault node parent before side.old.page.tree)) }
         ensures stands { (state : State) → DeskStandsFor self.old side.old state
             → OnOk result (DeskStandsFor self.new side.new (act_step (Act.Move node parent before) state).state) }
         ensures sent { (state : State) → DeskStandsFor self.old side.old state
             → OnOk result (out.new.items ≡ out.old.items ++ frames_of_moves (act_step (Act.Move node parent before) state).moves) }
+        ensures told { (other : State) → GuestStands guest.old side.old other
+            → OnOk result (Hears guest.old guest.new side.new (act_step (Act.Move node parent before) other)) }
     {
         side.page.valid();
         if let Some(fault) = side.page.move_fault(node, parent, before) {
             return Ok(Some(ActFault::Edit(fault)));
         }
         let before = side.page.moved_before(node, parent, before);
-        let back = self.apply_by_script(side, TreeEdit::Detach { node }, out)?;
+        let back = self.apply_by_script(side, guest, TreeEdit::Detach { node }, out)?;
         let TreeEdit::Attach { tree, .. } = back else {
             unreachable!()
         };
@@ -164,7 +254,7 @@ impl Desk {
             before,
             tree,
         };
-        self.apply_by_script(side, attach, out)?;
+        self.apply_by_script(side, guest, attach, out)?;
         Ok(None)
     }
 
@@ -172,42 +262,53 @@ impl Desk {
     pub(crate) fn script(
         &mut self,
         side: &mut PageSide,
+        guest: &mut Option<Guest>,
         act: Act,
         out: &mut Vec<u8>,
     ) -> Result<Option<ActFault>, AllocError>
         requires form { IsInsertable act }
         requires room { HasNumbersLeft self.old side.old }
+        requires can_hear { CanHear 2 guest.old side.old }
         ensures fault { IfOk result (λ fault. fault ≡ act_fault act side.old.page side.old.sheets.entries) }
         ensures stands { (state : State) → DeskStandsFor self.old side.old state
             → OnOk result (DeskStandsFor self.new side.new (act_step act state).state) }
         ensures sent { (state : State) → DeskStandsFor self.old side.old state
             → OnOk result (out.new.items ≡ out.old.items ++ frames_of_moves (act_step act state).moves) }
+        ensures told { (other : State) → GuestStands guest.old side.old other
+            → OnOk result (Hears guest.old guest.new side.new (act_step act other)) }
     {
         act.valid();
         match act {
             Act::SetAttr { node, name, value } => {
-                self.edit(side, TreeEdit::SetAttr { node, name, value }, out)
+                self.edit(side, guest, TreeEdit::SetAttr { node, name, value }, out)
             }
-            Act::DropAttr { node, name } => self.edit(side, TreeEdit::DropAttr { node, name }, out),
-            Act::SetText { node, value } => self.edit(side, TreeEdit::SetText { node, value }, out),
+            Act::DropAttr { node, name } => {
+                self.edit(side, guest, TreeEdit::DropAttr { node, name }, out)
+            }
+            Act::SetText { node, value } => {
+                self.edit(side, guest, TreeEdit::SetText { node, value }, out)
+            }
             Act::Insert {
                 parent,
                 before,
                 form,
-            } => self.insert(side, parent, before, form, out),
-            Act::Remove { node } => self.edit(side, TreeEdit::Detach { node }, out),
+            } => self.insert(side, guest, parent, before, form, out),
+            Act::Remove { node } => self.edit(side, guest, TreeEdit::Detach { node }, out),
             Act::Move {
                 node,
                 parent,
                 before,
-            } => self.move_node(side, node, parent, before, out),
-            Act::AddSheet { origin, text } => self.add_sheet(side, origin, text.as_str(), out),
-            Act::DropSheet { sheet } => self.drop_sheet(side, sheet.as_str(), out),
+            } => self.move_node(side, guest, node, parent, before, out),
+            Act::AddSheet { origin, text } => {
+                self.add_sheet(side, guest, origin, text.as_str(), out)
+            }
+            Act::DropSheet { sheet } => self.drop_sheet(side, guest, sheet.as_str(), out),
             Act::ReplaceSheet { sheet, text } => {
-                self.replace_sheet(side, sheet.as_str(), text.as_str(), out)
+                self.replace_sheet(side, guest, sheet.as_str(), text.as_str(), out)
             }
             Act::Medium { medium } => {
                 side.sheets.show_on(medium);
+                cross_guest(guest);
                 Ok(None)
             }
         }
@@ -217,6 +318,7 @@ impl Desk {
     pub(crate) fn load(
         &mut self,
         side: &mut PageSide,
+        guest: &mut Option<Guest>,
         form: PageForm,
         out: &mut Vec<u8>,
     ) -> Result<(), AllocError>
@@ -226,18 +328,31 @@ impl Desk {
             → OnOk result (DeskStandsFor self.new side.new (load_step (loaded_page form) state).state) }
         ensures sent { (state : State) → DeskStandsFor self.old side.old state
             → OnOk result (out.new.items ≡ out.old.items ++ frames_of_moves (load_step (loaded_page form) state).moves) }
+        ensures told { (other : State) → GuestStands guest.old side.old other
+            → OnOk result (Hears guest.old guest.new side.new (load_step (loaded_page form) other)) }
     {
         side.page.valid();
         form.valid();
         let serial = side.page.next_serial();
         let loaded = PageSide::loaded(self.alloc, serial, side.sheets.next_number(), form)?;
+        self.leave(side.book(), out)?;
+        leave_guest(guest, side.book())?;
+        *side = loaded;
+        self.tell_come(side.book(), out)?;
+        welcome_guest(guest, side.book())
+    }
+
+    /// The page goes: the client is told, and nothing is known any more.
+    pub(crate) fn leave(&mut self, book: &SheetBook, out: &mut Vec<u8>) -> Result<(), AllocError>
+        ensures left { OnOk result (HasLeft self.old self.new) }
+        ensures sent { OnOk result (out.new.items ≡ out.old.items ++ frames_of_moves (leaving self.old book.now)) }
+    {
         self.tell_load(out)?;
-        self.tell_gone(side.book(), out)?;
+        self.tell_gone(book, out)?;
         self.agent.reset();
         self.watches.clear();
         self.searches.clear();
-        *side = loaded;
-        self.tell_come(side.book(), out)
+        Ok(())
     }
 
     /// Tells a load, while DOM is on.

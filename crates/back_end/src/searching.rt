@@ -165,17 +165,17 @@ impl Desk {
     /// What is asked of searches.
     pub(crate) fn answer_search(
         &mut self,
-        side: &mut PageSide,
+        side: &PageSide,
         id: u64,
         ask: &SearchAsk,
         out: &mut Vec<u8>,
     ) -> Result<(), AllocError>
         requires on { self.old.is_on ≡ true }
-        requires room { HasNumbersLeft self.old side.old }
-        requires standing { ∥ ((state : State) × DeskStandsFor self.old side.old state) ∥₁ }
-        ensures stands { (state : State) → DeskStandsFor self.old side.old state
-            → OnOk result (DeskStandsFor self.new side.new (command_step id (commands.AskSearch ask.now) state).state) }
-        ensures sent { (state : State) → DeskStandsFor self.old side.old state
+        requires room { HasNumbersLeft self.old side.now }
+        requires standing { ∥ ((state : State) × DeskStandsFor self.old side.now state) ∥₁ }
+        ensures stands { (state : State) → DeskStandsFor self.old side.now state
+            → OnOk result (DeskStandsFor self.new side.now (command_step id (commands.AskSearch ask.now) state).state) }
+        ensures sent { (state : State) → DeskStandsFor self.old side.now state
             → OnOk result (out.new.items ≡ out.old.items
             ++ frames_of_moves (command_step id (commands.AskSearch ask.now) state).moves) }
     {

@@ -1,4 +1,4 @@
-ghost use Rattle.std.specs.Prelude.{◌≡◌, ◌++◌, ◌↔◌, IsTrue, true, false, IfOk, OnOk, OnErr, IsErr};
+ghost use Rattle.std.specs.Prelude.{◌≡◌, ◌++◌, ◌↔◌, IsTrue, true, false, Result, IfOk, OnOk, OnErr, IsErr};
 ghost use Rattle.undo_marks.specs.Marks.{no_marks};
 ghost use Rattle.node_binding.specs.Bindings.{empty_from};
 ghost use Rattle.dom_breakpoints.specs.Watched.{unwatched};
@@ -8,12 +8,22 @@ ghost use Rattle.page_forms.specs.Pages.{loaded_page, CanLoadPage};
 ghost use Rattle.client_views.specs.Moves.{frames_of_moves};
 ghost use Rattle.back_end.specs.States.{State};
 ghost use Rattle.back_end.specs.Plans.{act_fault};
-ghost use Rattle.back_end.specs.Steps.{act_step, frame_step, load_step};
+ghost use Rattle.node_tree.specs.Numbers.{kept_before_step};
+ghost use Rattle.cdp_messages.specs.Answers.{ReadsAsked};
+ghost use Rattle.cdp_messages.specs.Asked.{fits_command};
+ghost use Rattle.cdp_messages.specs.declared.command.Asked.{Asked as AskedValue};
+ghost use Rattle.cdp_messages.specs.declared.command.Refused.{Refused as RefusedValue};
+ghost use Rattle.back_end.specs.Steps.{act_step, asked_step, frame_step, load_step};
+ghost use Rattle.back_end.specs.Outside.{asked_outward, frame_outward};
+ghost use Rattle.back_end.specs.Texts.{HasServedTexts};
 ghost use Rattle.back_end.specs.Seats.{StandsFor, IsSeated, HasRoomLeft};
+ghost use Rattle.back_end.specs.Guests.{CanHear, GuestStands, Hears, heard_step};
 
 use crate::desk::Desk;
 use crate::faults::ActFault;
+use crate::guest::Guest;
 use crate::side::PageSide;
+use cdp_messages::{Asked, ReadErr};
 use page_forms::{Act, PageForm};
 use std::alloc::{AllocError, Global};
 use undo_marks::History;
@@ -89,12 +99,74 @@ impl Seat {
         ensures memory { OnErr result (self.new.is_dead ≡ true) }
         ensures dead { self.old.is_dead ≡ true → IsErr result }
     {
+        self.serve_frame(side, &mut None, frame, own, out)
+    }
+
+    /// Answers one frame, as `take_message` does. The guest, if there is one, is told what becomes of the page by it.
+    pub(crate) fn serve_frame(
+        &mut self,
+        side: &mut PageSide,
+        guest: &mut Option<Guest>,
+        frame: &[u8],
+        own: bool,
+        out: &mut Vec<u8>,
+    ) -> Result<(), AllocError>
+        requires room { HasRoomLeft self.old side.old }
+        requires seated { IsSeated self.old side.old }
+        requires can_hear { CanHear kept_before_step guest.old side.old }
+        ensures seated { IsSeated self.new side.new }
+        ensures stands { (state : State) → StandsFor self.old side.old state
+            → OnOk result (StandsFor self.new side.new (frame_step own frame.now state).state) }
+        ensures sent { (state : State) → StandsFor self.old side.old state
+            → OnOk result (out.new.items ≡ out.old.items ++ frames_of_moves (frame_step own frame.now state).moves) }
+        ensures told { (state other : State) → StandsFor self.old side.old state → GuestStands guest.old side.old other
+            → OnOk result (Hears guest.old guest.new side.new (heard_step (frame_outward own frame.now state) other)) }
+        ensures alive { OnOk result (self.new.is_dead ≡ false) }
+        ensures memory { OnErr result (self.new.is_dead ≡ true) }
+        ensures dead { self.old.is_dead ≡ true → IsErr result }
+    {
         if self.is_dead {
             return Err(AllocError);
         }
         self.is_dead = true;
         self.desk
-            .answer_frame(&mut self.history, side, frame, own, out)?;
+            .answer_frame(&mut self.history, side, guest, frame, own, out)?;
+        self.is_dead = false;
+        Ok(())
+    }
+
+    /// Answers a frame, which asks this or is refused, as `take_message` does. The guest, if there is one, is told what becomes of the
+    /// page by it.
+    pub(crate) fn serve_asked(
+        &mut self,
+        side: &mut PageSide,
+        guest: &mut Option<Guest>,
+        asked: Result<Asked, ReadErr>,
+        out: &mut Vec<u8>,
+    ) -> Result<(), AllocError>
+        requires fits { IfOk asked (λ a. fits_command a.command ≡ true) }
+        requires texts { IfOk asked (λ a. HasServedTexts a.command) }
+        requires room { HasRoomLeft self.old side.old }
+        requires seated { IsSeated self.old side.old }
+        requires can_hear { CanHear kept_before_step guest.old side.old }
+        ensures seated { (r : Result AskedValue RefusedValue) → ReadsAsked asked r → IsSeated self.new side.new }
+        ensures stands { (r : Result AskedValue RefusedValue) (state : State) → ReadsAsked asked r → StandsFor self.old side.old state
+            → OnOk result (StandsFor self.new side.new (asked_step r state).state) }
+        ensures sent { (r : Result AskedValue RefusedValue) (state : State) → ReadsAsked asked r → StandsFor self.old side.old state
+            → OnOk result (out.new.items ≡ out.old.items ++ frames_of_moves (asked_step r state).moves) }
+        ensures told { (r : Result AskedValue RefusedValue) (state other : State) → ReadsAsked asked r
+            → StandsFor self.old side.old state → GuestStands guest.old side.old other
+            → OnOk result (Hears guest.old guest.new side.new (heard_step (asked_outward r state) other)) }
+        ensures alive { OnOk result (self.new.is_dead ≡ false) }
+        ensures memory { OnErr result (self.new.is_dead ≡ true) }
+        ensures dead { self.old.is_dead ≡ true → IsErr result }
+    {
+        if self.is_dead {
+            return Err(AllocError);
+        }
+        self.is_dead = true;
+        self.desk
+            .answer_asked(&mut self.history, side, guest, asked, out)?;
         self.is_dead = false;
         Ok(())
     }
@@ -119,11 +191,37 @@ impl Seat {
         ensures memory { OnErr result (self.new.is_dead ≡ true) }
         ensures dead { self.old.is_dead ≡ true → IsErr result }
     {
+        self.serve_script(side, &mut None, act, out)
+    }
+
+    /// A script changes the page, as `script` does. The guest, if there is one, is told of it as this client is.
+    pub(crate) fn serve_script(
+        &mut self,
+        side: &mut PageSide,
+        guest: &mut Option<Guest>,
+        act: Act,
+        out: &mut Vec<u8>,
+    ) -> Result<Option<ActFault>, AllocError>
+        requires form { IsInsertable act }
+        requires room { HasRoomLeft self.old side.old }
+        requires can_hear { CanHear 2 guest.old side.old }
+        ensures fault { IfOk result (λ fault. fault ≡ act_fault act side.old.page side.old.sheets.entries) }
+        ensures seated { IsSeated self.old side.old → IsSeated self.new side.new }
+        ensures stands { (state : State) → StandsFor self.old side.old state
+            → OnOk result (StandsFor self.new side.new (act_step act state).state) }
+        ensures sent { (state : State) → StandsFor self.old side.old state
+            → OnOk result (out.new.items ≡ out.old.items ++ frames_of_moves (act_step act state).moves) }
+        ensures told { (other : State) → GuestStands guest.old side.old other
+            → OnOk result (Hears guest.old guest.new side.new (act_step act other)) }
+        ensures alive { OnOk result (self.new.is_dead ≡ false) }
+        ensures memory { OnErr result (self.new.is_dead ≡ true) }
+        ensures dead { self.old.is_dead ≡ true → IsErr result }
+    {
         if self.is_dead {
             return Err(AllocError);
         }
         self.is_dead = true;
-        if let Some(fault) = self.desk.script(side, act, out)? {
+        if let Some(fault) = self.desk.script(side, guest, act, out)? {
             self.is_dead = false;
             return Ok(Some(fault));
         }
@@ -151,11 +249,35 @@ impl Seat {
         ensures memory { OnErr result (self.new.is_dead ≡ true) }
         ensures dead { self.old.is_dead ≡ true → IsErr result }
     {
+        self.serve_load(side, &mut None, form, out)
+    }
+
+    /// A script loads another page, as `load` does. The guest, if there is one, is told of it as this client is.
+    pub(crate) fn serve_load(
+        &mut self,
+        side: &mut PageSide,
+        guest: &mut Option<Guest>,
+        form: PageForm,
+        out: &mut Vec<u8>,
+    ) -> Result<(), AllocError>
+        requires can { CanLoadPage (loaded_page form) }
+        requires room { HasRoomLeft self.old side.old }
+        ensures seated { IsSeated self.old side.old → IsSeated self.new side.new }
+        ensures stands { (state : State) → StandsFor self.old side.old state
+            → OnOk result (StandsFor self.new side.new (load_step (loaded_page form) state).state) }
+        ensures sent { (state : State) → StandsFor self.old side.old state
+            → OnOk result (out.new.items ≡ out.old.items ++ frames_of_moves (load_step (loaded_page form) state).moves) }
+        ensures told { (other : State) → GuestStands guest.old side.old other
+            → OnOk result (Hears guest.old guest.new side.new (load_step (loaded_page form) other)) }
+        ensures alive { OnOk result (self.new.is_dead ≡ false) }
+        ensures memory { OnErr result (self.new.is_dead ≡ true) }
+        ensures dead { self.old.is_dead ≡ true → IsErr result }
+    {
         if self.is_dead {
             return Err(AllocError);
         }
         self.is_dead = true;
-        self.desk.load(side, form, out)?;
+        self.desk.load(side, guest, form, out)?;
         self.history.clear();
         self.is_dead = false;
         Ok(())

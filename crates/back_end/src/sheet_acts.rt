@@ -6,19 +6,21 @@ ghost use Rattle.sheet_reader.specs.Books.{entry_of, removed};
 ghost use Rattle.sheet_reader.specs.declared.book.SheetEntry.{SheetEntry};
 ghost use Rattle.style_edits.specs.Edits.{is_too_big};
 ghost use Rattle.css_agent.specs.Asks.{sheet_named};
-ghost use Rattle.css_agent.specs.Told.{told_header, event_messages, turn_messages};
+ghost use Rattle.css_agent.specs.Told.{told_header, turn_messages};
 ghost use Rattle.cdp_messages.specs.Replies.{message_frames};
-ghost use Rattle.cdp_messages.specs.Events.{sheet_added};
+ghost use Rattle.cdp_messages.specs.Events.{news_of, sheet_added};
 ghost use Rattle.client_views.specs.Moves.{dropped, frames_of_moves};
 ghost use Rattle.page_forms.specs.declared.acts.Act.TheVariants as Act;
 ghost use Rattle.back_end.specs.Sheets.{leaves, comes};
 ghost use Rattle.back_end.specs.States.{State};
 ghost use Rattle.back_end.specs.Plans.{size_fault, drop_fault, replace_fault};
-ghost use Rattle.back_end.specs.Steps.{act_step, sheet_step};
+ghost use Rattle.back_end.specs.Steps.{act_step, crossing, sheet_step};
 ghost use Rattle.back_end.specs.Seats.{DeskStandsFor};
+ghost use Rattle.back_end.specs.Guests.{GuestStands, Hears};
 
 use crate::desk::Desk;
 use crate::faults::ActFault;
+use crate::guest::{Guest, tell_guest};
 use crate::side::PageSide;
 use cdp_messages::{Event, write_event};
 use css_agent::{sheet_named, told_header};
@@ -35,6 +37,15 @@ fn tell_all_gone(alloc: Global, book: &SheetBook, out: &mut Vec<u8>) -> Result<(
         write_event(alloc, &Event::StyleSheetRemoved { sheet }, out)?;
     }
     Ok(())
+}
+
+/// The event that tells that the last sheet came.
+fn last_added(book: &SheetBook) -> Event
+    requires some { 0 < length book.now }
+    ensures { (e : SheetEntry) → slice_get book.now (length book.now - 1) ≡ Some e → news_of result ≡ sheet_added (told_header e) }
+{
+    let header = told_header(book.at(book.len() - 1));
+    Event::StyleSheetAdded { header }
 }
 
 impl Desk {
@@ -66,21 +77,11 @@ impl Desk {
         self.css.switch(on, book, out)
     }
 
-    /// Tells that the last sheet came, while CSS is on.
-    fn tell_last(&self, book: &SheetBook, out: &mut Vec<u8>) -> Result<(), AllocError>
-        requires some { 0 < length book.now }
-        ensures { (e : SheetEntry) → slice_get book.now (length book.now - 1) ≡ Some e
-            → OnOk result (out.new.items
-            ≡ out.old.items ++ message_frames (event_messages self.now.css (sheet_added (told_header e)))) }
-    {
-        let header = told_header(book.at(book.len() - 1));
-        self.css.tell(&Event::StyleSheetAdded { header }, out)
-    }
-
     /// A sheet that fits comes, and is told.
     fn sheet_comes(
         &mut self,
         side: &mut PageSide,
+        guest: &mut Option<Guest>,
         origin: Origin,
         text: &str,
         out: &mut Vec<u8>,
@@ -91,19 +92,24 @@ impl Desk {
             → OnOk result (DeskStandsFor self.new side.new (sheet_step (comes origin text.now) state).state) }
         ensures sent { (state : State) → DeskStandsFor self.old side.old state
             → OnOk result (out.new.items ≡ out.old.items ++ frames_of_moves (sheet_step (comes origin text.now) state).moves) }
+        ensures told { (other : State) → GuestStands guest.old side.old other → IsUtf8 text.now
+            → OnOk result (Hears guest.old guest.new side.new (crossing (sheet_step (comes origin text.now) other))) }
     {
         match side.sheets.add(origin, text) {
             Ok(()) => {}
             Err(SheetErr::Fault(_)) => unreachable!(),
             Err(SheetErr::Memory) => return Err(AllocError),
         }
-        self.tell_last(side.book(), out)
+        let event = last_added(side.book());
+        self.css.tell(&event, out)?;
+        tell_guest(guest, &event)
     }
 
     /// A sheet that is there goes, and is told.
     fn sheet_leaves(
         &mut self,
         side: &mut PageSide,
+        guest: &mut Option<Guest>,
         number: u64,
         out: &mut Vec<u8>,
     ) -> Result<(), AllocError>
@@ -115,19 +121,23 @@ impl Desk {
             → OnOk result (DeskStandsFor self.new side.new (sheet_step (leaves number) state).state) }
         ensures sent { (state : State) → DeskStandsFor self.old side.old state
             → OnOk result (out.new.items ≡ out.old.items ++ frames_of_moves (sheet_step (leaves number) state).moves) }
+        ensures told { (other : State) → GuestStands guest.old side.old other
+            → OnOk result (Hears guest.old guest.new side.new (crossing (sheet_step (leaves number) other))) }
     {
         match side.sheets.remove(number) {
             Ok(()) => {}
             Err(_) => unreachable!(),
         }
-        self.css
-            .tell(&Event::StyleSheetRemoved { sheet: number }, out)
+        let event = Event::StyleSheetRemoved { sheet: number };
+        self.css.tell(&event, out)?;
+        tell_guest(guest, &event)
     }
 
     /// Adds a sheet, unless it is too big.
     pub(crate) fn add_sheet(
         &mut self,
         side: &mut PageSide,
+        guest: &mut Option<Guest>,
         origin: Origin,
         text: &str,
         out: &mut Vec<u8>,
@@ -139,11 +149,13 @@ impl Desk {
             → OnOk result (DeskStandsFor self.new side.new (act_step (Act.AddSheet origin text.now) state).state) }
         ensures sent { (state : State) → DeskStandsFor self.old side.old state
             → OnOk result (out.new.items ≡ out.old.items ++ frames_of_moves (act_step (Act.AddSheet origin text.now) state).moves) }
+        ensures told { (other : State) → GuestStands guest.old side.old other
+            → OnOk result (Hears guest.old guest.new side.new (act_step (Act.AddSheet origin text.now) other)) }
     {
         if side.sheets.is_full_for(text) {
             return Ok(Some(ActFault::Sheet(SheetFault::TooBig)));
         }
-        self.sheet_comes(side, origin, text, out)?;
+        self.sheet_comes(side, guest, origin, text, out)?;
         Ok(None)
     }
 
@@ -151,6 +163,7 @@ impl Desk {
     pub(crate) fn drop_sheet(
         &mut self,
         side: &mut PageSide,
+        guest: &mut Option<Guest>,
         sheet: &str,
         out: &mut Vec<u8>,
     ) -> Result<Option<ActFault>, AllocError>
@@ -159,12 +172,14 @@ impl Desk {
             → OnOk result (DeskStandsFor self.new side.new (act_step (Act.DropSheet sheet.now) state).state) }
         ensures sent { (state : State) → DeskStandsFor self.old side.old state
             → OnOk result (out.new.items ≡ out.old.items ++ frames_of_moves (act_step (Act.DropSheet sheet.now) state).moves) }
+        ensures told { (other : State) → GuestStands guest.old side.old other
+            → OnOk result (Hears guest.old guest.new side.new (act_step (Act.DropSheet sheet.now) other)) }
     {
         let Some(entry) = sheet_named(side.book(), sheet) else {
             return Ok(Some(ActFault::Sheet(SheetFault::NoSheet)));
         };
         let number = entry.id;
-        self.sheet_leaves(side, number, out)?;
+        self.sheet_leaves(side, guest, number, out)?;
         Ok(None)
     }
 
@@ -172,6 +187,7 @@ impl Desk {
     pub(crate) fn replace_sheet(
         &mut self,
         side: &mut PageSide,
+        guest: &mut Option<Guest>,
         sheet: &str,
         text: &str,
         out: &mut Vec<u8>,
@@ -185,6 +201,8 @@ impl Desk {
         ensures sent { (state : State) → DeskStandsFor self.old side.old state
             → OnOk result (out.new.items
             ≡ out.old.items ++ frames_of_moves (act_step (Act.ReplaceSheet sheet.now text.now) state).moves) }
+        ensures told { (other : State) → GuestStands guest.old side.old other
+            → OnOk result (Hears guest.old guest.new side.new (act_step (Act.ReplaceSheet sheet.now text.now) other)) }
     {
         let Some(entry) = sheet_named(side.book(), sheet) else {
             return Ok(Some(ActFault::Sheet(SheetFault::NoSheet)));
@@ -193,8 +211,8 @@ impl Desk {
         if side.sheets.is_full_without(number, text) {
             return Ok(Some(ActFault::Sheet(SheetFault::TooBig)));
         }
-        self.sheet_leaves(side, number, out)?;
-        self.sheet_comes(side, origin, text, out)?;
+        self.sheet_leaves(side, guest, number, out)?;
+        self.sheet_comes(side, guest, origin, text, out)?;
         Ok(None)
     }
 }

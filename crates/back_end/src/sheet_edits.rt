@@ -9,8 +9,11 @@ ghost use Rattle.back_end.specs.States.{State};
 ghost use Rattle.cdp_messages.specs.declared.command.Command.TheVariants as commands;
 ghost use Rattle.back_end.specs.Steps.{command_step};
 ghost use Rattle.back_end.specs.Seats.{BothStandFor, DeskStandsFor, HasNumbersLeft, edits_in};
+ghost use Rattle.back_end.specs.Outside.{command_outward};
+ghost use Rattle.back_end.specs.Guests.{GuestStands, Hears, heard_step};
 
 use crate::desk::Desk;
+use crate::guest::{Guest, tell_guest_splices};
 use crate::own::sheet_why;
 use crate::side::PageSide;
 use cdp_messages::CssEdit;
@@ -35,6 +38,7 @@ impl Desk {
         &mut self,
         history: &mut History,
         side: &mut PageSide,
+        guest: &mut Option<Guest>,
         id: u64,
         edit: &CssEdit,
         out: &mut Vec<u8>,
@@ -48,9 +52,14 @@ impl Desk {
             → OnOk result (BothStandFor self.new history.new side.new (command_step id (commands.EditCss edit.now) state).state) }
         ensures sent { (state : State) → DeskStandsFor self.old side.old state
             → OnOk result (out.new.items ≡ out.old.items ++ frames_of_moves (command_step id (commands.EditCss edit.now) state).moves) }
+        ensures told { (state other : State) → DeskStandsFor self.old side.old state → GuestStands guest.old side.old other
+            → OnOk result (Hears guest.old guest.new side.new (heard_step (command_outward (commands.EditCss edit.now) state) other)) }
     {
         match side.sheets.edit(&self.css, id, edit, out) {
-            Ok(backs) => note_splices(history, backs),
+            Ok(backs) => {
+                tell_guest_splices(guest, backs.as_slice())?;
+                note_splices(history, backs)
+            }
             Err(SheetErr::Fault(fault)) => self.refuse(id, sheet_why(fault), out),
             Err(SheetErr::Memory) => Err(AllocError),
         }

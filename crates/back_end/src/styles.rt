@@ -24,14 +24,14 @@ impl Desk {
     /// `CSS.enable`: each sheet comes, where CSS was off.
     pub(crate) fn enable_css(
         &mut self,
-        side: &mut PageSide,
+        side: &PageSide,
         id: u64,
         out: &mut Vec<u8>,
     ) -> Result<(), AllocError>
         requires on { self.old.is_on ≡ true }
-        ensures stands { (state : State) → DeskStandsFor self.old side.old state
-            → OnOk result (DeskStandsFor self.new side.new (command_step id commands.CssEnable state).state) }
-        ensures sent { (state : State) → DeskStandsFor self.old side.old state
+        ensures stands { (state : State) → DeskStandsFor self.old side.now state
+            → OnOk result (DeskStandsFor self.new side.now (command_step id commands.CssEnable state).state) }
+        ensures sent { (state : State) → DeskStandsFor self.old side.now state
             → OnOk result (out.new.items ≡ out.old.items ++ frames_of_moves (command_step id commands.CssEnable state).moves) }
     {
         self.css.switch(true, side.book(), out)?;
@@ -41,15 +41,15 @@ impl Desk {
     /// `CSS.disable`
     pub(crate) fn disable_css(
         &mut self,
-        side: &mut PageSide,
+        side: &PageSide,
         id: u64,
         out: &mut Vec<u8>,
     ) -> Result<(), AllocError>
         requires on { self.old.is_on ≡ true }
         requires css { self.old.css ≡ true }
-        ensures stands { (state : State) → DeskStandsFor self.old side.old state
-            → OnOk result (DeskStandsFor self.new side.new (command_step id commands.CssDisable state).state) }
-        ensures sent { (state : State) → DeskStandsFor self.old side.old state
+        ensures stands { (state : State) → DeskStandsFor self.old side.now state
+            → OnOk result (DeskStandsFor self.new side.now (command_step id commands.CssDisable state).state) }
+        ensures sent { (state : State) → DeskStandsFor self.old side.now state
             → OnOk result (out.new.items ≡ out.old.items ++ frames_of_moves (command_step id commands.CssDisable state).moves) }
     {
         write_reply(self.alloc, id, &ReplyBody::Nothing, out)?;
@@ -127,16 +127,16 @@ impl Desk {
     /// What the CSS agent is asked.
     pub(crate) fn answer_styles(
         &mut self,
-        side: &mut PageSide,
+        side: &PageSide,
         id: u64,
         ask: &CssAsk,
         out: &mut Vec<u8>,
     ) -> Result<(), AllocError>
         requires on { self.old.is_on ≡ true }
         requires css { self.old.css ≡ true }
-        ensures stands { (state : State) → DeskStandsFor self.old side.old state
-            → OnOk result (DeskStandsFor self.new side.new (command_step id (commands.AskCss ask.now) state).state) }
-        ensures sent { (state : State) → DeskStandsFor self.old side.old state
+        ensures stands { (state : State) → DeskStandsFor self.old side.now state
+            → OnOk result (DeskStandsFor self.new side.now (command_step id (commands.AskCss ask.now) state).state) }
+        ensures sent { (state : State) → DeskStandsFor self.old side.now state
             → OnOk result (out.new.items ≡ out.old.items ++ frames_of_moves (command_step id (commands.AskCss ask.now) state).moves) }
     {
         self.ask_styles(side, id, ask, out)

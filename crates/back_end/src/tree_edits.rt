@@ -15,8 +15,11 @@ ghost use Rattle.cdp_messages.specs.declared.command.Command.TheVariants as comm
 ghost use Rattle.back_end.specs.Texts.{EditHasTexts, HasTreeTexts, IsPlainEdit};
 ghost use Rattle.back_end.specs.Steps.{command_step, edit_step, idle, node_edit_step, plan_step, put_answer};
 ghost use Rattle.back_end.specs.Seats.{BothStandFor, DeskStandsFor, HasBegun, HasNumbersLeft, edits_in};
+ghost use Rattle.back_end.specs.Outside.{command_outward, tree_outward};
+ghost use Rattle.back_end.specs.Guests.{CanHear, GuestHasTexts, GuestStands, Hears, heard_one, heard_plan, heard_step};
 
 use crate::desk::Desk;
+use crate::guest::Guest;
 use crate::node_edits::{TreeWish, lowered};
 use crate::own::edit_why;
 use crate::side::PageSide;
@@ -32,6 +35,7 @@ impl Desk {
         &mut self,
         history: &mut History,
         side: &mut PageSide,
+        guest: &mut Option<Guest>,
         edit: TreeEdit,
         out: &mut Vec<u8>,
     ) -> Result<(), AllocError>
@@ -40,6 +44,7 @@ impl Desk {
         requires ids { self.old.agent.next < drawn_before_edit }
         requires serials { side.old.page.next < drawn_before_edit }
         requires sheets { side.old.sheets.next < drawn_before_edit }
+        requires can_hear { CanHear 1 guest.old side.old }
         ensures page { OnOk result (side.new.page ≡ after edit side.old.page) }
         ensures kept { side.new.sheets ≡ side.old.sheets }
         ensures few { OnOk result (self.new.agent.next < self.old.agent.next + 2) }
@@ -48,8 +53,10 @@ impl Desk {
             → OnOk result (DeskStandsFor self.new side.new (edit_step edit state).state) }
         ensures sent { (state : State) → DeskStandsFor self.old side.old state
             → OnOk result (out.new.items ≡ out.old.items ++ frames_of_moves (edit_step edit state).moves) }
+        ensures told { (other : State) → GuestStands guest.old side.old other → GuestHasTexts guest.old edit
+            → OnOk result (Hears guest.old guest.new side.new (heard_one (kept.Tree edit) other)) }
     {
-        let back = self.apply(side, edit, out)?;
+        let back = self.apply(side, guest, edit, out)?;
         history.note(Inverse::Tree(back))
     }
 
@@ -58,6 +65,7 @@ impl Desk {
         &mut self,
         history: &mut History,
         side: &mut PageSide,
+        guest: &mut Option<Guest>,
         node: u64,
         parent: u64,
         before: u64,
@@ -66,6 +74,7 @@ impl Desk {
         requires fits { move_fault node parent before side.old.page.tree ≡ None }
         requires room { HasNumbersLeft self.old side.old }
         requires notes { edits_in history.old < kept_before_step }
+        requires can_hear { CanHear 2 guest.old side.old }
         ensures few { OnOk result (self.new.agent.next < self.old.agent.next + 4) }
         ensures noted { OnOk result (history.new ≡ noted_singly (back_all page_after way_back
             (map (λ e. kept.Tree e) (node_edit_plan (MoveNode node parent before) side.old.page).edits)
@@ -76,17 +85,20 @@ impl Desk {
         ensures sent { (state : State) → DeskStandsFor self.old side.old state
             → OnOk result (out.new.items ≡ out.old.items
             ++ frames_of_moves (plan_step (node_edit_plan (MoveNode node parent before) state.side.page) state).moves) }
+        ensures told { (other : State) → GuestStands guest.old side.old other
+            → OnOk result (Hears guest.old guest.new side.new
+            (heard_plan (node_edit_plan (MoveNode node parent before) side.old.page) other)) }
     {
         side.page.valid();
         let place = side.page.moved_before(node, parent, before);
         let tree = copied_tree(self.alloc, &side.page.node(node))?;
-        self.apply_by_client(history, side, TreeEdit::Detach { node }, out)?;
+        self.apply_by_client(history, side, guest, TreeEdit::Detach { node }, out)?;
         let attach = TreeEdit::Attach {
             parent,
             before: place,
             tree,
         };
-        self.apply_by_client(history, side, attach, out)
+        self.apply_by_client(history, side, guest, attach, out)
     }
 
     /// Puts in a copy of a node with all below it, where the page takes that.
@@ -94,6 +106,7 @@ impl Desk {
         &mut self,
         history: &mut History,
         side: &mut PageSide,
+        guest: &mut Option<Guest>,
         node: u64,
         parent: u64,
         before: u64,
@@ -102,6 +115,7 @@ impl Desk {
         requires fits { copy_fault node parent before side.old.page.tree ≡ None }
         requires room { HasNumbersLeft self.old side.old }
         requires notes { edits_in history.old < kept_before_step }
+        requires can_hear { CanHear 2 guest.old side.old }
         ensures few { OnOk result (self.new.agent.next < self.old.agent.next + 4) }
         ensures noted { OnOk result (history.new ≡ noted_singly (back_all page_after way_back
             (map (λ e. kept.Tree e) (node_edit_plan (CopyNode node parent before) side.old.page).edits)
@@ -112,6 +126,9 @@ impl Desk {
         ensures sent { (state : State) → DeskStandsFor self.old side.old state
             → OnOk result (out.new.items ≡ out.old.items
             ++ frames_of_moves (plan_step (node_edit_plan (CopyNode node parent before) state.side.page) state).moves) }
+        ensures told { (other : State) → GuestStands guest.old side.old other
+            → OnOk result (Hears guest.old guest.new side.new
+            (heard_plan (node_edit_plan (CopyNode node parent before) side.old.page) other)) }
     {
         side.page.valid();
         let tree = side.page.copy(node)?;
@@ -120,7 +137,7 @@ impl Desk {
             before,
             tree,
         };
-        self.apply_by_client(history, side, attach, out)
+        self.apply_by_client(history, side, guest, attach, out)
     }
 
     /// Carries out an edit that the page takes. Gives the serial of the node that was put.
@@ -128,6 +145,7 @@ impl Desk {
         &mut self,
         history: &mut History,
         side: &mut PageSide,
+        guest: &mut Option<Guest>,
         edit: TreeWish,
         out: &mut Vec<u8>,
     ) -> Result<Option<u64>, AllocError>
@@ -135,6 +153,7 @@ impl Desk {
         requires plain { IsPlainEdit edit }
         requires room { HasNumbersLeft self.old side.old }
         requires notes { edits_in history.old < kept_before_step }
+        requires can_hear { CanHear 2 guest.old side.old }
         ensures put { IfOk result (λ put. put ≡ node_put edit side.old.page) }
         ensures few { OnOk result (self.new.agent.next < self.old.agent.next + 4) }
         ensures noted { OnOk result (history.new ≡ noted_singly (back_all page_after way_back
@@ -144,10 +163,12 @@ impl Desk {
             → OnOk result (DeskStandsFor self.new side.new (plan_step (node_edit_plan edit state.side.page) state).state) }
         ensures sent { (state : State) → DeskStandsFor self.old side.old state
             → OnOk result (out.new.items ≡ out.old.items ++ frames_of_moves (plan_step (node_edit_plan edit state.side.page) state).moves) }
+        ensures told { (other : State) → GuestStands guest.old side.old other
+            → OnOk result (Hears guest.old guest.new side.new (heard_plan (node_edit_plan edit side.old.page) other)) }
     {
         match edit {
             TreeWish::One { edit } => {
-                self.apply_by_client(history, side, edit, out)?;
+                self.apply_by_client(history, side, guest, edit, out)?;
                 Ok(None)
             }
             TreeWish::MoveNode {
@@ -155,7 +176,7 @@ impl Desk {
                 parent,
                 before,
             } => {
-                self.put_moved(history, side, node, parent, before, out)?;
+                self.put_moved(history, side, guest, node, parent, before, out)?;
                 Ok(Some(node))
             }
             TreeWish::CopyNode {
@@ -164,7 +185,7 @@ impl Desk {
                 before,
             } => {
                 let copy = side.page.next_serial();
-                self.put_copy(history, side, node, parent, before, out)?;
+                self.put_copy(history, side, guest, node, parent, before, out)?;
                 Ok(Some(copy))
             }
         }
@@ -198,6 +219,7 @@ impl Desk {
         &mut self,
         history: &mut History,
         side: &mut PageSide,
+        guest: &mut Option<Guest>,
         id: u64,
         edit: TreeWish,
         out: &mut Vec<u8>,
@@ -205,15 +227,18 @@ impl Desk {
         requires plain { IsPlainEdit edit }
         requires room { HasNumbersLeft self.old side.old }
         requires notes { edits_in history.old < kept_before_step }
+        requires can_hear { CanHear 2 guest.old side.old }
         ensures stands { (state : State) → BothStandFor self.old history.old side.old state → is_some state.client.session.opened ≡ true
             → OnOk result (BothStandFor self.new history.new side.new (node_edit_step id (Ok edit) state).state) }
         ensures sent { (state : State) → DeskStandsFor self.old side.old state → is_some state.client.session.opened ≡ true
             → OnOk result (out.new.items ≡ out.old.items ++ frames_of_moves (node_edit_step id (Ok edit) state).moves) }
+        ensures told { (state other : State) → DeskStandsFor self.old side.old state → GuestStands guest.old side.old other
+            → OnOk result (Hears guest.old guest.new side.new (heard_step (tree_outward (Ok edit) state) other)) }
     {
         if let Some(fault) = edit.fault(side.page()) {
             return self.refuse(id, edit_why(fault), out);
         }
-        let put = self.put(history, side, edit, out)?;
+        let put = self.put(history, side, guest, edit, out)?;
         self.answer_put(side, id, put, out)
     }
 
@@ -222,6 +247,7 @@ impl Desk {
         &mut self,
         history: &mut History,
         side: &mut PageSide,
+        guest: &mut Option<Guest>,
         id: u64,
         edit: DomEdit,
         out: &mut Vec<u8>,
@@ -230,14 +256,17 @@ impl Desk {
         requires texts { HasTreeTexts edit }
         requires room { HasNumbersLeft self.old side.old }
         requires notes { edits_in history.old < kept_before_step }
+        requires can_hear { CanHear 2 guest.old side.old }
         ensures stands { (state : State) → BothStandFor self.old history.old side.old state
             → OnOk result (BothStandFor self.new history.new side.new (command_step id (commands.EditDom edit) state).state) }
         ensures sent { (state : State) → DeskStandsFor self.old side.old state
             → OnOk result (out.new.items ≡ out.old.items ++ frames_of_moves (command_step id (commands.EditDom edit) state).moves) }
+        ensures told { (state other : State) → DeskStandsFor self.old side.old state → GuestStands guest.old side.old other
+            → OnOk result (Hears guest.old guest.new side.new (heard_step (command_outward (commands.EditDom edit) state) other)) }
     {
         let edit = lowered(self.alloc, edit)?;
         match TreeWish::named(edit, &self.agent) {
-            Ok(edit) => self.answer_node_edit(history, side, id, edit, out),
+            Ok(edit) => self.answer_node_edit(history, side, guest, id, edit, out),
             Err(why) => self.refuse(id, why, out),
         }
     }

@@ -9,8 +9,12 @@ ghost use Rattle.back_end.specs.States.{State, TakesWell};
 ghost use Rattle.cdp_messages.specs.declared.command.Command.TheVariants as commands;
 ghost use Rattle.back_end.specs.Steps.{command_step, kept_step, kept_steps, splice_step};
 ghost use Rattle.back_end.specs.Seats.{BothStandFor, DeskStandsFor, HasNumbersLeft, edits_in};
+ghost use Rattle.undo_marks.specs.declared.inverse_lists.Inverse.TheVariants as kept;
+ghost use Rattle.back_end.specs.Outside.{command_outward};
+ghost use Rattle.back_end.specs.Guests.{CanHear, GuestStands, Hears, heard_one, heard_all, heard_step};
 
 use crate::desk::Desk;
+use crate::guest::{Guest, tell_guest};
 use crate::side::PageSide;
 use cdp_messages::{Event, ReplyBody, Why, write_reply};
 use std::alloc::AllocError;
@@ -22,14 +26,14 @@ impl Desk {
     pub(crate) fn end_group(
         &mut self,
         history: &mut History,
-        side: &mut PageSide,
+        side: &PageSide,
         id: u64,
         out: &mut Vec<u8>,
     ) -> Result<(), AllocError>
         requires on { self.old.is_on ≡ true }
-        ensures stands { (state : State) → BothStandFor self.old history.old side.old state
-            → OnOk result (BothStandFor self.new history.new side.new (command_step id commands.MarkUndoableState state).state) }
-        ensures sent { (state : State) → DeskStandsFor self.old side.old state
+        ensures stands { (state : State) → BothStandFor self.old history.old side.now state
+            → OnOk result (BothStandFor self.new history.new side.now (command_step id commands.MarkUndoableState state).state) }
+        ensures sent { (state : State) → DeskStandsFor self.old side.now state
             → OnOk result (out.new.items ≡ out.old.items ++ frames_of_moves (command_step id commands.MarkUndoableState state).moves) }
     {
         // The clauses alone speak of the page.
@@ -38,10 +42,11 @@ impl Desk {
         write_reply(self.alloc, id, &ReplyBody::Nothing, out)
     }
 
-    /// Makes a splice out of a history, and tells it while CSS is on. Gives the splice that leads back.
+    /// Makes a splice out of a history, and tells it to whom CSS is on. Gives the splice that leads back.
     fn put_back(
         &self,
         side: &mut PageSide,
+        guest: &mut Option<Guest>,
         splice: Splice,
         out: &mut Vec<u8>,
     ) -> Result<Splice, AllocError>
@@ -56,10 +61,14 @@ impl Desk {
             → OnOk result (DeskStandsFor self.now side.new (splice_step splice state).state) }
         ensures sent { (state : State) → DeskStandsFor self.now side.old state
             → OnOk result (out.new.items ≡ out.old.items ++ frames_of_moves (splice_step splice state).moves) }
+        ensures told { (other : State) → GuestStands guest.old side.old other → TakesSheet splice (map saved_sheet side.old.sheets.entries)
+            → OnOk result (Hears guest.old guest.new side.new (heard_one (kept.Sheet splice) other)) }
     {
         let sheet = splice.sheet;
         let back = side.sheets.put_back(splice)?;
-        self.css.tell(&Event::StyleSheetChanged { sheet }, out)?;
+        let event = Event::StyleSheetChanged { sheet };
+        self.css.tell(&event, out)?;
+        tell_guest(guest, &event)?;
         Ok(back)
     }
 
@@ -67,6 +76,7 @@ impl Desk {
     fn apply_kept(
         &mut self,
         side: &mut PageSide,
+        guest: &mut Option<Guest>,
         edit: Inverse,
         out: &mut Vec<u8>,
     ) -> Result<Inverse, AllocError>
@@ -74,6 +84,7 @@ impl Desk {
         requires ids { self.old.agent.next < drawn_before_edit }
         requires serials { side.old.page.next < drawn_before_edit }
         requires sheets { side.old.sheets.next < drawn_before_edit }
+        requires can_hear { CanHear 1 guest.old side.old }
         ensures few { OnOk result (self.new.agent.next < self.old.agent.next + 2) }
         ensures saved { OnOk result (saved_of side.new.page.tree side.new.sheets.entries
             ≡ page_after edit (saved_of side.old.page.tree side.old.sheets.entries)) }
@@ -85,14 +96,17 @@ impl Desk {
             → OnOk result (DeskStandsFor self.new side.new (kept_step edit state).state) }
         ensures sent { (state : State) → DeskStandsFor self.old side.old state
             → OnOk result (out.new.items ≡ out.old.items ++ frames_of_moves (kept_step edit state).moves) }
+        ensures told { (other : State) → GuestStands guest.old side.old other
+            → TakesWell side.old.page.next edit (saved_of side.old.page.tree side.old.sheets.entries)
+            → OnOk result (Hears guest.old guest.new side.new (heard_one edit other)) }
     {
         match edit {
             Inverse::Tree(edit) => {
-                let back = self.apply(side, edit, out)?;
+                let back = self.apply(side, guest, edit, out)?;
                 Ok(Inverse::Tree(back))
             }
             Inverse::Sheet(splice) => {
-                let back = self.put_back(side, splice, out)?;
+                let back = self.put_back(side, guest, splice, out)?;
                 Ok(Inverse::Sheet(back))
             }
         }
@@ -102,6 +116,7 @@ impl Desk {
     fn apply_all(
         &mut self,
         side: &mut PageSide,
+        guest: &mut Option<Guest>,
         edits: Vec<Inverse>,
         out: &mut Vec<u8>,
     ) -> Result<Vec<Inverse>, AllocError>
@@ -110,6 +125,7 @@ impl Desk {
         requires ids { self.old.agent.next + length edits.items < drawn_before_edit }
         requires serials { side.old.page.next < drawn_before_edit }
         requires sheets { side.old.sheets.next < drawn_before_edit }
+        requires can_hear { CanHear (length edits.items) guest.old side.old }
         ensures saved { OnOk result (saved_of side.new.page.tree side.new.sheets.entries
             ≡ after_all page_after edits.items (saved_of side.old.page.tree side.old.sheets.entries)) }
         ensures next { OnOk result (side.new.page.next ≡ side.old.page.next) }
@@ -121,10 +137,13 @@ impl Desk {
         ensures sent { (state : State) → DeskStandsFor self.old side.old state
             → AllTaken page_after (TakesWell side.old.page.next) edits.items (saved_of side.old.page.tree side.old.sheets.entries)
             → OnOk result (out.new.items ≡ out.old.items ++ frames_of_moves (kept_steps edits.items state).moves) }
+        ensures told { (other : State) → GuestStands guest.old side.old other
+            → AllTaken page_after (TakesWell side.old.page.next) edits.items (saved_of side.old.page.tree side.old.sheets.entries)
+            → OnOk result (Hears guest.old guest.new side.new (heard_all edits.items other)) }
     {
         let mut backs = Vec::new(self.alloc);
         for edit in edits {
-            let back = self.apply_kept(side, edit, out)?;
+            let back = self.apply_kept(side, guest, edit, out)?;
             backs.push(back)?;
         }
         Ok(backs)
@@ -135,6 +154,7 @@ impl Desk {
         &mut self,
         history: &mut History,
         side: &mut PageSide,
+        guest: &mut Option<Guest>,
         id: u64,
         out: &mut Vec<u8>,
     ) -> Result<(), AllocError>
@@ -142,14 +162,17 @@ impl Desk {
         requires room { HasNumbersLeft self.old side.old }
         requires few { edits_in history.old < kept_before_step }
         requires standing { ∥ ((state : State) × BothStandFor self.old history.old side.old state) ∥₁ }
+        requires can_hear { CanHear kept_before_step guest.old side.old }
         ensures stands { (state : State) → BothStandFor self.old history.old side.old state
             → OnOk result (BothStandFor self.new history.new side.new (command_step id commands.Undo state).state) }
         ensures sent { (state : State) → BothStandFor self.old history.old side.old state
             → OnOk result (out.new.items ≡ out.old.items ++ frames_of_moves (command_step id commands.Undo state).moves) }
+        ensures told { (state other : State) → BothStandFor self.old history.old side.old state → GuestStands guest.old side.old other
+            → OnOk result (Hears guest.old guest.new side.new (heard_step (command_outward commands.Undo state) other)) }
     {
         match history.pop_undo() {
             Popped::Group(edits) => {
-                let backs = self.apply_all(side, edits.into_vec(), out)?;
+                let backs = self.apply_all(side, guest, edits.into_vec(), out)?;
                 history.push_undone(backs)?;
                 write_reply(self.alloc, id, &ReplyBody::Nothing, out)
             }
@@ -163,6 +186,7 @@ impl Desk {
         &mut self,
         history: &mut History,
         side: &mut PageSide,
+        guest: &mut Option<Guest>,
         id: u64,
         out: &mut Vec<u8>,
     ) -> Result<(), AllocError>
@@ -170,14 +194,17 @@ impl Desk {
         requires room { HasNumbersLeft self.old side.old }
         requires few { edits_in history.old < kept_before_step }
         requires standing { ∥ ((state : State) × BothStandFor self.old history.old side.old state) ∥₁ }
+        requires can_hear { CanHear kept_before_step guest.old side.old }
         ensures stands { (state : State) → BothStandFor self.old history.old side.old state
             → OnOk result (BothStandFor self.new history.new side.new (command_step id commands.Redo state).state) }
         ensures sent { (state : State) → BothStandFor self.old history.old side.old state
             → OnOk result (out.new.items ≡ out.old.items ++ frames_of_moves (command_step id commands.Redo state).moves) }
+        ensures told { (state other : State) → BothStandFor self.old history.old side.old state → GuestStands guest.old side.old other
+            → OnOk result (Hears guest.old guest.new side.new (heard_step (command_outward commands.Redo state) other)) }
     {
         match history.pop_redo() {
             Popped::Group(edits) => {
-                let backs = self.apply_all(side, edits.into_vec(), out)?;
+                let backs = self.apply_all(side, guest, edits.into_vec(), out)?;
                 history.push_redone(backs)?;
                 write_reply(self.alloc, id, &ReplyBody::Nothing, out)
             }

@@ -2,7 +2,7 @@
 use Rattle.std.proofs.Common.{Err, sym, ap, subst, ◌∙◌}
 use Rattle.serde_json.specs.View.{view}
 use Rattle.page_tree.specs.declared.faults.LoadErr.{LoadErr}
-use Rattle.page_forms.specs.Pages.{loaded_page, ReadsPage}
+use Rattle.page_forms.specs.Pages.{ReadsPage}
 use Rattle.back_end.proofs.OwnLemmas.{refused_with, load-refused}
 use Rattle.back_end.proofs.own.asked_page.Goals as goal
 

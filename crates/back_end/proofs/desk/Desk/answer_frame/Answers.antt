@@ -1,11 +1,15 @@
 -- A load that is read token by token is the step on its frame.
 use Rattle.std.proofs.Common.{◌≡◌, ◌++◌, subst}
 use Rattle.std.specs.Result.{OnOk}
+use Rattle.cdp_messages.specs.Asked.{asked}
 use Rattle.client_views.specs.Moves.{frames_of_moves}
 use Rattle.page_forms.specs.Pages.{loaded_page}
 use Rattle.back_end.specs.Steps.{Step}
 use Rattle.back_end.specs.Seats.{BothStandFor}
-use Rattle.back_end.proofs.LoadSpelt.{load_step_is}
+use Rattle.back_end.proofs.OwnTexts.{frame-texts, read-texts}
+use Rattle.back_end.proofs.LoadSpelt.{load_step_is, load_outward_is}
+use Rattle.back_end.specs.Outside.{Outward}
+use Rattle.back_end.specs.Guests.{Hears, heard_step}
 use Rattle.back_end.proofs.desk.Desk.answer_frame.Goals as goal
 
 pub returns-in-Ok-clause-stands : goal.returns-in-Ok-clause-stands
@@ -27,3 +31,30 @@ returns-in-Ok-clause-sent c =
     (c.answer_loaded.new.out.items ≡ c.args.out.now.items ++ frames_of_moves s.moves))
     (load_step_is c.args.own c.args.frame.now load.id (loaded_page load.page) c.if-own.true asks state)
     (c.answer_loaded.ensures.sent state asks.params asks.loads both.stands)
+
+pub returns-in-Ok-clause-told : goal.returns-in-Ok-clause-told
+returns-in-Ok-clause-told c =
+    let load = c.in-Ok.load in
+    let asks = (c.in-Ok.ensures {u = tt}).asks in
+    λ state other both stands.
+    subst (λ (out : Outward). OnOk c.answer_loaded.result
+    (Hears c.args.guest.now c.answer_loaded.new.guest c.answer_loaded.new.side (heard_step out other)))
+    (load_outward_is c.args.own c.args.frame.now load.id (loaded_page load.page) c.if-own.true asks state)
+    (c.answer_loaded.ensures.told state other asks.params asks.loads stands)
+
+pub answer_asked-requires-clause-texts : goal.answer_asked-requires-clause-texts
+answer_asked-requires-clause-texts c =
+    read-texts c.read_command-asked.result (asked c.args.frame.now c.args.own) c.read_command-asked.ensures.asked
+    (frame-texts c.args.own c.args.frame.now)
+
+pub returns-clause-stands : goal.returns-clause-stands
+returns-clause-stands c = λ state both.
+    c.answer_asked.ensures.stands (asked c.args.frame.now c.args.own) state c.read_command-asked.ensures.asked both
+
+pub returns-clause-sent : goal.returns-clause-sent
+returns-clause-sent c = λ state both.
+    c.answer_asked.ensures.sent (asked c.args.frame.now c.args.own) state c.read_command-asked.ensures.asked both
+
+pub returns-clause-told : goal.returns-clause-told
+returns-clause-told c = λ state other both stands.
+    c.answer_asked.ensures.told (asked c.args.frame.now c.args.own) state other c.read_command-asked.ensures.asked both stands

@@ -8,6 +8,7 @@ use Rattle.back_end.proofs.SeatLemmas.{on_ok}
 use Rattle.back_end.proofs.ScriptLemmas.{in_any}
 use Rattle.back_end.proofs.TreeSeats.{can-push, put-answered-sent, fault-both, fault-sent}
 use Rattle.back_end.proofs.NoteSeats.{edited-both}
+use Rattle.back_end.proofs.GuestSteps.{edited-hears, unedited-hears}
 use Rattle.back_end.proofs.desk.Desk.answer_node_edit.Goals as goal
 
 pub returns-in-Some-clause-stands : goal.returns-in-Some-clause-stands
@@ -45,3 +46,17 @@ returns-clause-sent c = λ state stands begun.
     (put-answered-sent c.args.side.now state c.args.id c.args.edit c.in_ok-put.put c.args.out.now.items c.put.new.out.items
     c.answer_put.new.out.items stands.page_is fits c.in_ok-put.ensures.put
     (c.in_ok-put.ensures.sent state stands))
+
+pub returns-in-Some-clause-told : goal.returns-in-Some-clause-told
+returns-in-Some-clause-told c = λ state other first stands.
+    in_any c.refuse.result _
+    (unedited-hears c.args.guest.now c.args.self.now c.args.side.now state other c.args.edit c.in-Some.fault first stands
+    (ap (λ (p : PageValue). node_edit_fault c.args.edit p) (sym c.page.ensures) ∙ sym c.in-Some.ensures))
+
+pub returns-clause-told : goal.returns-clause-told
+returns-clause-told c = λ state other first stands.
+    let fits : node_edit_fault c.args.edit c.args.side.now.page
+    ≡ None = ap (λ (p : PageValue). node_edit_fault c.args.edit p) (sym c.page.ensures) ∙ sym c.in_default.ensures in
+    in_any c.answer_put.result _
+    (edited-hears c.args.guest.now c.put.new.guest c.args.side.now c.put.new.side state other c.args.edit first.page_is fits
+    (c.in_ok-put.ensures.told other stands))

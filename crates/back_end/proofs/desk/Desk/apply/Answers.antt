@@ -1,23 +1,21 @@
--- An edit that the page takes is the step of the state.
-use Rattle.std.proofs.Common.{refl, ap, ◌∙◌}
-use Rattle.back_end.specs.Steps.{watches_left}
-use Rattle.back_end.proofs.ScriptLemmas.{edit-stands, edit-sent, edit-few}
+-- An edit that the page takes is made for the client alone, or for it and the guest.
+use Rattle.undo_marks.specs.declared.inverse_lists.Inverse.TheVariants.{Tree}
+use Rattle.std.proofs.Common.{Option, subst}
+use Rattle.back_end.specs.declared.guest.Guest.{Guest}
+use Rattle.back_end.specs.Guests.{heard_one, GuestHasTexts}
+use Rattle.back_end.proofs.GuestSeats.{guest-hears, none-hears, one-left}
 use Rattle.back_end.proofs.desk.Desk.apply.Goals as goal
 
-pub returns-in-Ok-clause-few : goal.returns-in-Ok-clause-few
-returns-in-Ok-clause-few c = edit-few c.args.self.now.agent.mode c.args.side.now.page c.args.edit c.args.self.now.agent c.edit.new.self
-    c.in-Ok.ensures.agent
+pub apply_both-requires-clause-guest_ids : goal.apply_both-requires-clause-guest_ids
+apply_both-requires-clause-guest_ids c = one-left c.args.guest.now c.in-Some.guest c.args.side.now c.in-Some.is c.requires.can_hear
 
-pub returns-in-Ok-clause-stands : goal.returns-in-Ok-clause-stands
-returns-in-Ok-clause-stands c = λ state stands texts.
-    edit-stands c.args.self.now (record { alloc = _; is_on = _; css = _; agent = _; watches = _; searches = _ }) c.args.side.now
-    (record { page = _; sheets = _ }) state c.args.edit stands
-    c.requires.can texts c.requires.ids c.requires.serials c.requires.sheets c.in-Ok.ensures.page refl refl refl
-    (c.forget_gone.ensures
-    ∙ ap (λ m. watches_left m c.args.edit c.args.side.now.page.tree c.args.self.now.watches) c.mode-mode.ensures)
-    refl c.in-Ok.ensures.agent
+pub returns-in-Some-clause-told : goal.returns-in-Some-clause-told
+returns-in-Some-clause-told c = λ other stands given.
+    let texts = subst (λ (o : Option Guest). GuestHasTexts o c.args.edit) c.in-Some.is given in
+    guest-hears c.apply_both.result c.args.guest.now c.in-Some.guest c.apply_both.new.guest c.args.side.now c.apply_both.new.side other
+    (heard_one (Tree c.args.edit) other) c.in-Some.is stands
+    (λ both. c.apply_both.ensures.guest_stands other both texts) (λ both. c.apply_both.ensures.guest_sent other both.stands)
 
-pub returns-in-Ok-clause-sent : goal.returns-in-Ok-clause-sent
-returns-in-Ok-clause-sent c = λ state stands.
-    edit-sent c.args.self.now c.args.side.now state c.args.edit c.args.out.now.items c.edit.new.out.items stands c.requires.can
-    c.in-Ok.ensures.sent
+pub returns-in-None-clause-told : goal.returns-in-None-clause-told
+returns-in-None-clause-told c = λ other stands texts.
+    none-hears c.apply_alone.result c.args.guest.now c.apply_alone.new.side (heard_one (Tree c.args.edit) other) c.in-None.is

@@ -1,7 +1,11 @@
 -- An edit of the tree, or a splice.
+use Rattle.std.proofs.Common.{sym, subst}
+use Rattle.undo_marks.specs.declared.inverse_lists.Inverse.{Inverse}
 use Rattle.undo_marks.specs.declared.inverse_lists.Inverse.TheVariants.{Tree, Sheet}
 use Rattle.back_end.proofs.UndoSeats.{tree-taken, sheet-taken, tree-can, sheet-fits, tree-saved, tree-next, tree-back, sheet-saved}
 use Rattle.back_end.proofs.UndoSeats.{sheet-back, step-stands, step-sent, saved_at}
+use Rattle.back_end.specs.Guests.{heard_one, Hears}
+use Rattle.back_end.proofs.GuestSteps.{guest-texts}
 use Rattle.back_end.proofs.desk.Desk.apply_kept.Goals as goal
 
 pub apply-requires-clause-can : goal.apply-requires-clause-can
@@ -52,3 +56,15 @@ pub returns-in_ok-back-in-Sheet-clause-sent : goal.returns-in_ok-back-in-Sheet-c
 returns-in_ok-back-in-Sheet-clause-sent c = λ state stands.
     step-sent state c.args.edit (Sheet c.in-Sheet.splice) c.args.out.now.items c.put_back.new.out.items c.in-Sheet.is
     (c.in_ok-back-in-Sheet.ensures.sent state stands)
+
+pub returns-in_ok-back-in-Tree-clause-told : goal.returns-in_ok-back-in-Tree-clause-told
+returns-in_ok-back-in-Tree-clause-told c = λ other stands takes.
+    let t = tree-taken c.args.side.now.page.next c.args.edit c.in-Tree.edit (saved_at c.args.side.now) c.in-Tree.is takes in
+    subst (λ (e : Inverse). Hears c.args.guest.now c.apply.new.guest c.apply.new.side (heard_one e other)) (sym c.in-Tree.is)
+    (c.in_ok-back-in-Tree.ensures.told other stands (guest-texts c.args.guest.now c.in-Tree.edit t.own))
+
+pub returns-in_ok-back-in-Sheet-clause-told : goal.returns-in_ok-back-in-Sheet-clause-told
+returns-in_ok-back-in-Sheet-clause-told c = λ other stands takes.
+    let t = sheet-taken c.args.side.now.page.next c.args.edit c.in-Sheet.splice (saved_at c.args.side.now) c.in-Sheet.is takes in
+    subst (λ (e : Inverse). Hears c.args.guest.now c.put_back.new.guest c.put_back.new.side (heard_one e other)) (sym c.in-Sheet.is)
+    (c.in_ok-back-in-Sheet.ensures.told other stands t.taken)

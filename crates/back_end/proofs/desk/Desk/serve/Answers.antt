@@ -1,5 +1,5 @@
 -- Each part of the seat answers its commands; where it leaves the history alone, what is kept is kept on.
-use Rattle.std.proofs.Common.{◌≡◌, true, refl, sym, ap, subst, ◌∙◌}
+use Rattle.std.proofs.Common.{◌≡◌, ◌^◌, true, refl, sym, ap, subst, ◌∙◌, arith}
 use Rattle.std.proofs.Math.Logic.{∥∥₁_map}
 use Rattle.serde_json.specs.View.{view}
 use Rattle.cdp_messages.specs.Asked.{fits_command}
@@ -11,6 +11,8 @@ use Rattle.back_end.proofs.SearchSeats.{searches-need-dom}
 use Rattle.back_end.proofs.DomainLemmas.{met-on, met-css, met-ask}
 use Rattle.back_end.proofs.KeepSeats.{enables-alone, css-enables-alone, css-disables-alone, styles-alone, watches-alone, unwatches-alone}
 use Rattle.back_end.proofs.KeepSeats.{searches-alone, agent-alone, plain-both, part-both, part-sent}
+use Rattle.back_end.proofs.GuestSeats.{hear-fewer}
+use Rattle.back_end.proofs.GuestSteps.{plain-hears, part-hears}
 use Rattle.back_end.proofs.desk.Desk.serve.Goals as goal
 
 pub ask_agent-requires-clause-ask : goal.ask_agent-requires-clause-ask
@@ -24,7 +26,7 @@ enable-requires c = record { standing = ∥∥₁_map c.requires.standing (λ p.
 
 pub returns-in-DomEnable-clause-stands : goal.returns-in-DomEnable-clause-stands
 returns-in-DomEnable-clause-stands c = λ state both.
-    plain-both c.enable.result c.args.self.now c.enable.new.self c.args.side.now c.enable.new.side c.args.history.now state c.args.id
+    plain-both c.enable.result c.args.self.now c.enable.new.self c.args.side.now c.args.side.now c.args.history.now state c.args.id
     (commands.DomEnable c.in-DomEnable.include_whitespace) c.args.command (sym c.in-DomEnable.is)
     (enables-alone c.in-DomEnable.include_whitespace) both
     (c.enable.ensures.stands state both.stands)
@@ -37,7 +39,7 @@ returns-in-DomEnable-clause-sent c = λ state both.
 
 pub returns-in-CssEnable-clause-stands : goal.returns-in-CssEnable-clause-stands
 returns-in-CssEnable-clause-stands c = λ state both.
-    plain-both c.enable_css.result c.args.self.now c.enable_css.new.self c.args.side.now c.enable_css.new.side c.args.history.now state
+    plain-both c.enable_css.result c.args.self.now c.enable_css.new.self c.args.side.now c.args.side.now c.args.history.now state
     c.args.id commands.CssEnable c.args.command (sym c.in-CssEnable.is) css-enables-alone both
     (c.enable_css.ensures.stands state both.stands)
 
@@ -48,7 +50,7 @@ returns-in-CssEnable-clause-sent c = λ state both.
 
 pub returns-in-CssDisable-clause-stands : goal.returns-in-CssDisable-clause-stands
 returns-in-CssDisable-clause-stands c = λ state both.
-    plain-both c.disable_css.result c.args.self.now c.disable_css.new.self c.args.side.now c.disable_css.new.side c.args.history.now state
+    plain-both c.disable_css.result c.args.self.now c.disable_css.new.self c.args.side.now c.args.side.now c.args.history.now state
     c.args.id commands.CssDisable c.args.command (sym c.in-CssDisable.is) css-disables-alone both
     (c.disable_css.ensures.stands state both.stands)
 
@@ -60,7 +62,7 @@ returns-in-CssDisable-clause-sent c = λ state both.
 
 pub returns-in-AskCss-clause-stands : goal.returns-in-AskCss-clause-stands
 returns-in-AskCss-clause-stands c = λ state both.
-    plain-both c.answer_styles.result c.args.self.now c.answer_styles.new.self c.args.side.now c.answer_styles.new.side c.args.history.now
+    plain-both c.answer_styles.result c.args.self.now c.answer_styles.new.self c.args.side.now c.args.side.now c.args.history.now
     state c.args.id (commands.AskCss c.in-AskCss.ask) c.args.command (sym c.in-AskCss.is)
     (styles-alone c.in-AskCss.ask) both
     (c.answer_styles.ensures.stands state both.stands)
@@ -81,7 +83,7 @@ answer_search-requires-clause-standing c = ∥∥₁_map c.requires.standing (λ
 
 pub returns-in-AskSearch-clause-stands : goal.returns-in-AskSearch-clause-stands
 returns-in-AskSearch-clause-stands c = λ state both.
-    plain-both c.answer_search.result c.args.self.now c.answer_search.new.self c.args.side.now c.answer_search.new.side c.args.history.now
+    plain-both c.answer_search.result c.args.self.now c.answer_search.new.self c.args.side.now c.args.side.now c.args.history.now
     state c.args.id (commands.AskSearch c.in-AskSearch.ask) c.args.command (sym c.in-AskSearch.is)
     (searches-alone c.in-AskSearch.ask) both
     (c.answer_search.ensures.stands state both.stands)
@@ -94,7 +96,7 @@ returns-in-AskSearch-clause-sent c = λ state both.
 
 pub returns-in-SetBreakpoint-clause-stands : goal.returns-in-SetBreakpoint-clause-stands
 returns-in-SetBreakpoint-clause-stands c = λ state both.
-    plain-both c.watch.result c.args.self.now c.watch.new.self c.args.side.now c.watch.new.side c.args.history.now state c.args.id
+    plain-both c.watch.result c.args.self.now c.watch.new.self c.args.side.now c.args.side.now c.args.history.now state c.args.id
     (commands.SetBreakpoint c.in-SetBreakpoint.node c.in-SetBreakpoint.kind) c.args.command (sym c.in-SetBreakpoint.is)
     (watches-alone c.in-SetBreakpoint.node c.in-SetBreakpoint.kind) both
     (c.watch.ensures.stands state both.stands)
@@ -107,7 +109,7 @@ returns-in-SetBreakpoint-clause-sent c = λ state both.
 
 pub returns-in-RemoveBreakpoint-clause-stands : goal.returns-in-RemoveBreakpoint-clause-stands
 returns-in-RemoveBreakpoint-clause-stands c = λ state both.
-    plain-both c.unwatch.result c.args.self.now c.unwatch.new.self c.args.side.now c.unwatch.new.side c.args.history.now state c.args.id
+    plain-both c.unwatch.result c.args.self.now c.unwatch.new.self c.args.side.now c.args.side.now c.args.history.now state c.args.id
     (commands.RemoveBreakpoint c.in-RemoveBreakpoint.node c.in-RemoveBreakpoint.kind) c.args.command (sym c.in-RemoveBreakpoint.is)
     (unwatches-alone c.in-RemoveBreakpoint.node c.in-RemoveBreakpoint.kind) both
     (c.unwatch.ensures.stands state both.stands)
@@ -120,7 +122,7 @@ returns-in-RemoveBreakpoint-clause-sent c = λ state both.
 
 pub returns-in-AskDom-clause-stands : goal.returns-in-AskDom-clause-stands
 returns-in-AskDom-clause-stands c = λ state both.
-    plain-both c.ask_agent.result c.args.self.now c.ask_agent.new.self c.args.side.now c.ask_agent.new.side
+    plain-both c.ask_agent.result c.args.self.now c.ask_agent.new.self c.args.side.now c.args.side.now
     c.args.history.now state c.args.id (commands.AskDom c.in-AskDom.ask) c.args.command
     (sym c.in-AskDom.is) (agent-alone c.in-AskDom.ask) both
     (c.ask_agent.ensures.stands state both.stands)
@@ -133,7 +135,7 @@ returns-in-AskDom-clause-sent c = λ state both.
 
 pub returns-in-DomDisable-clause-stands : goal.returns-in-DomDisable-clause-stands
 returns-in-DomDisable-clause-stands c = λ state both.
-    part-both c.disable.result c.disable.new.self c.disable.new.side c.disable.new.history state c.args.id commands.DomDisable
+    part-both c.disable.result c.disable.new.self c.args.side.now c.disable.new.history state c.args.id commands.DomDisable
     c.args.command (sym c.in-DomDisable.is) (c.disable.ensures.stands state both)
 
 pub returns-in-DomDisable-clause-sent : goal.returns-in-DomDisable-clause-sent
@@ -167,7 +169,7 @@ returns-in-EditCss-clause-sent c = λ state both.
 
 pub returns-in-MarkUndoableState-clause-stands : goal.returns-in-MarkUndoableState-clause-stands
 returns-in-MarkUndoableState-clause-stands c = λ state both.
-    part-both c.end_group.result c.end_group.new.self c.end_group.new.side c.end_group.new.history state c.args.id
+    part-both c.end_group.result c.end_group.new.self c.args.side.now c.end_group.new.history state c.args.id
     commands.MarkUndoableState c.args.command (sym c.in-MarkUndoableState.is) (c.end_group.ensures.stands state both)
 
 pub returns-in-MarkUndoableState-clause-sent : goal.returns-in-MarkUndoableState-clause-sent
@@ -296,3 +298,104 @@ pub ask_agent-requires-clause-on : goal.ask_agent-requires-clause-on
 ask_agent-requires-clause-on c =
     met-ask c.args.self.now.is_on c.args.self.now.css c.in-AskDom.ask
     c.args.command c.in-AskDom.is c.requires.met
+
+pub returns-in-DomEnable-clause-told : goal.returns-in-DomEnable-clause-told
+returns-in-DomEnable-clause-told c = λ state other both stands.
+    plain-hears c.enable.result c.args.guest.now c.args.self.now c.args.side.now state other
+    (commands.DomEnable c.in-DomEnable.include_whitespace)
+    c.args.command c.in-DomEnable.is refl both.stands stands
+
+pub returns-in-DomDisable-clause-told : goal.returns-in-DomDisable-clause-told
+returns-in-DomDisable-clause-told c = λ state other both stands.
+    plain-hears c.disable.result c.args.guest.now c.args.self.now c.args.side.now state other commands.DomDisable
+    c.args.command c.in-DomDisable.is refl both.stands stands
+
+pub returns-in-AskDom-clause-told : goal.returns-in-AskDom-clause-told
+returns-in-AskDom-clause-told c = λ state other both stands.
+    plain-hears c.ask_agent.result c.args.guest.now c.args.self.now c.args.side.now state other (commands.AskDom c.in-AskDom.ask)
+    c.args.command c.in-AskDom.is refl both.stands stands
+
+pub returns-in-AskSearch-clause-told : goal.returns-in-AskSearch-clause-told
+returns-in-AskSearch-clause-told c = λ state other both stands.
+    plain-hears c.answer_search.result c.args.guest.now c.args.self.now c.args.side.now state other (commands.AskSearch c.in-AskSearch.ask)
+    c.args.command c.in-AskSearch.is refl both.stands stands
+
+pub returns-in-MarkUndoableState-clause-told : goal.returns-in-MarkUndoableState-clause-told
+returns-in-MarkUndoableState-clause-told c = λ state other both stands.
+    plain-hears c.end_group.result c.args.guest.now c.args.self.now c.args.side.now state other commands.MarkUndoableState
+    c.args.command c.in-MarkUndoableState.is refl both.stands stands
+
+pub returns-in-CssEnable-clause-told : goal.returns-in-CssEnable-clause-told
+returns-in-CssEnable-clause-told c = λ state other both stands.
+    plain-hears c.enable_css.result c.args.guest.now c.args.self.now c.args.side.now state other commands.CssEnable
+    c.args.command c.in-CssEnable.is refl both.stands stands
+
+pub returns-in-CssDisable-clause-told : goal.returns-in-CssDisable-clause-told
+returns-in-CssDisable-clause-told c = λ state other both stands.
+    plain-hears c.disable_css.result c.args.guest.now c.args.self.now c.args.side.now state other commands.CssDisable
+    c.args.command c.in-CssDisable.is refl both.stands stands
+
+pub returns-in-AskCss-clause-told : goal.returns-in-AskCss-clause-told
+returns-in-AskCss-clause-told c = λ state other both stands.
+    plain-hears c.answer_styles.result c.args.guest.now c.args.self.now c.args.side.now state other (commands.AskCss c.in-AskCss.ask)
+    c.args.command c.in-AskCss.is refl both.stands stands
+
+pub returns-in-SetBreakpoint-clause-told : goal.returns-in-SetBreakpoint-clause-told
+returns-in-SetBreakpoint-clause-told c = λ state other both stands.
+    plain-hears c.watch.result c.args.guest.now c.args.self.now c.args.side.now state other
+    (commands.SetBreakpoint c.in-SetBreakpoint.node c.in-SetBreakpoint.kind)
+    c.args.command c.in-SetBreakpoint.is refl both.stands stands
+
+pub returns-in-RemoveBreakpoint-clause-told : goal.returns-in-RemoveBreakpoint-clause-told
+returns-in-RemoveBreakpoint-clause-told c = λ state other both stands.
+    plain-hears c.unwatch.result c.args.guest.now c.args.self.now c.args.side.now state other
+    (commands.RemoveBreakpoint c.in-RemoveBreakpoint.node c.in-RemoveBreakpoint.kind)
+    c.args.command c.in-RemoveBreakpoint.is refl both.stands stands
+
+pub returns-in-EditDom-clause-told : goal.returns-in-EditDom-clause-told
+returns-in-EditDom-clause-told c = λ state other both stands.
+    part-hears c.answer_tree_edit.result c.args.guest.now c.answer_tree_edit.new.guest c.answer_tree_edit.new.side state other
+    (commands.EditDom c.in-EditDom.edit) c.args.command
+    (sym c.in-EditDom.is)
+    (c.answer_tree_edit.ensures.told state other both.stands stands)
+
+pub returns-in-EditCss-clause-told : goal.returns-in-EditCss-clause-told
+returns-in-EditCss-clause-told c = λ state other both stands.
+    part-hears c.answer_sheet_edit.result c.args.guest.now c.answer_sheet_edit.new.guest c.answer_sheet_edit.new.side state other
+    (commands.EditCss c.in-EditCss.edit) c.args.command
+    (sym c.in-EditCss.is)
+    (c.answer_sheet_edit.ensures.told state other both.stands stands)
+
+pub returns-in-Undo-clause-told : goal.returns-in-Undo-clause-told
+returns-in-Undo-clause-told c = λ state other both stands.
+    part-hears c.undo.result c.args.guest.now c.undo.new.guest c.undo.new.side state other
+    commands.Undo c.args.command
+    (sym c.in-Undo.is)
+    (c.undo.ensures.told state other both stands)
+
+pub returns-in-Redo-clause-told : goal.returns-in-Redo-clause-told
+returns-in-Redo-clause-told c = λ state other both stands.
+    part-hears c.redo.result c.args.guest.now c.redo.new.guest c.redo.new.side state other
+    commands.Redo c.args.command
+    (sym c.in-Redo.is)
+    (c.redo.ensures.told state other both stands)
+
+pub returns-in-ReplayLoad-clause-told : goal.returns-in-ReplayLoad-clause-told
+returns-in-ReplayLoad-clause-told c = λ state other both stands.
+    part-hears c.answer_load.result c.args.guest.now c.answer_load.new.guest c.answer_load.new.side state other
+    (commands.ReplayLoad (view c.as_value.result.now)) c.args.command
+    (ap (λ params. commands.ReplayLoad params) c.as_value.ensures ∙ sym c.in-ReplayLoad.is)
+    (c.answer_load.ensures.told state other both.stands stands)
+
+pub returns-in-ReplayAct-clause-told : goal.returns-in-ReplayAct-clause-told
+returns-in-ReplayAct-clause-told c = λ state other both stands.
+    part-hears c.answer_act.result c.args.guest.now c.answer_act.new.guest c.answer_act.new.side state other
+    (commands.ReplayAct (view c.as_value-in-ReplayAct.result.now)) c.args.command
+    (ap (λ params. commands.ReplayAct params) c.as_value-in-ReplayAct.ensures ∙ sym c.in-ReplayAct.is)
+    (c.answer_act.ensures.told state other both.stands stands)
+
+pub answer_tree_edit-requires-clause-can_hear : goal.answer_tree_edit-requires-clause-can_hear
+answer_tree_edit-requires-clause-can_hear c = hear-fewer (2 ^ 30) 2 c.args.guest.now c.args.side.now (omega arith) c.requires.can_hear
+
+pub answer_act-requires-clause-can_hear : goal.answer_act-requires-clause-can_hear
+answer_act-requires-clause-can_hear c = hear-fewer (2 ^ 30) 2 c.args.guest.now c.args.side.now (omega arith) c.requires.can_hear

@@ -5,7 +5,7 @@ use Rattle.back_end.specs.States.{State}
 use Rattle.back_end.specs.Steps.{act_step}
 use Rattle.back_end.specs.Seats.{StandsFor}
 use Rattle.back_end.proofs.OwnSeats.{acted-both, unacted-both}
-use Rattle.back_end.proofs.seat.Seat.script.Goals as goal
+use Rattle.back_end.proofs.seat.Seat.serve_script.Goals as goal
 
 pub returns-in-Some-clause-stands : goal.returns-in-Some-clause-stands
 returns-in-Some-clause-stands c = λ state both.

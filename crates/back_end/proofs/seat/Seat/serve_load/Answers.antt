@@ -5,7 +5,7 @@ use Rattle.back_end.specs.States.{State}
 use Rattle.back_end.specs.Steps.{load_step}
 use Rattle.back_end.specs.Seats.{StandsFor}
 use Rattle.back_end.proofs.OwnSeats.{load-both}
-use Rattle.back_end.proofs.seat.Seat.load.Goals as goal
+use Rattle.back_end.proofs.seat.Seat.serve_load.Goals as goal
 
 pub returns-clause-stands : goal.returns-clause-stands
 returns-clause-stands c = λ state both.

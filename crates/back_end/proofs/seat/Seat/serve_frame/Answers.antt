@@ -3,7 +3,7 @@ use Rattle.std.proofs.Math.Logic.{∥∥₁_map}
 use Rattle.back_end.specs.States.{State}
 use Rattle.back_end.specs.Steps.{frame_step}
 use Rattle.back_end.specs.Seats.{StandsFor}
-use Rattle.back_end.proofs.seat.Seat.take_message.Goals as goal
+use Rattle.back_end.proofs.seat.Seat.serve_frame.Goals as goal
 
 pub returns-clause-seated : goal.returns-clause-seated
 returns-clause-seated c = λ alive.
