@@ -1,5 +1,5 @@
 -- What ties the frames of such a run to the router of session_mux and to its tags.
-use Rattle.std.specs.Prelude.{◌≡◌, ◌≢◌, ℕ, List, map, codes, bytes_eq, Bool, true, false, Option, Some, None, is_some, option_map, Ok}
+use Rattle.std.specs.Prelude.{◌≡◌, ◌≢◌, ℕ, List, map, bytes_eq, Bool, true, false, Option, Some, None, is_some, option_map, Ok}
 use Rattle.std.specs.Prelude.{IsUtf8}
 use Rattle.serde_json.specs.Data.{Data, string}
 use Rattle.serde_json.specs.Find.{as_object}
@@ -9,7 +9,7 @@ use Rattle.cdp_json.specs.Plain.{is_plain}
 use Rattle.cdp_messages.specs.Asked.{json_of, asked, command_value, command_text}
 use Rattle.cdp_messages.specs.Laws.{Shallow}
 use Rattle.cdp_messages.specs.Replies.{message_frames}
-use Rattle.cdp_messages.specs.SessionFrames.{session_name, session_asked}
+use Rattle.cdp_messages.specs.SessionFrames.{session_asked}
 use Rattle.client_views.specs.Views.{View}
 use Rattle.client_views.specs.Moves.{Move, Course, message_of, frames_of_moves}
 use Rattle.session_mux.specs.declared.router.Routed.{Routed}
