@@ -126,42 +126,42 @@ or_neither true b e = absurd cc
 or_neither false b e = (refl, e)
 
 -- a line of the second front without a fault
-second_whole : (number : ℕ) (d : Data) (s : LineKind × Data) → second_fault number d s ≡ None
-    → ((number == 1) ≡ false) × (has_float d ≡ false)
-second_whole number d s e =
-    let first = none_true NotLoad (number == 1) ((BadForm, has_float d || is_none (second_form s)) ∷ []) e in
+second_whole : (n : ℕ) (d : Data) (s : LineKind × Data) → second_fault n d s ≡ None
+    → ((n == 1) ≡ false) × (has_float d ≡ false)
+second_whole n d s e =
+    let first = none_true NotLoad (n == 1) ((BadForm, has_float d || is_none (second_form s)) ∷ []) e in
     let whole = none_true BadForm (has_float d || is_none (second_form s)) [] first.1 in
     (first.0, (or_neither (has_float d) (is_none (second_form s)) whole.0).0)
 
-form_sound : (number : ℕ) (text : List ℕ) (d : Data) (form : PairForm) (t : Option PairForm) (s : Option (LineKind × Data))
+form_sound : (n : ℕ) (text : List ℕ) (d : Data) (form : PairForm) (t : Option PairForm) (s : Option (LineKind × Data))
     → json_of text ≡ Some d
-    → target_in d ≡ t → said_on_two d ≡ s → fault_with t s number d ≡ None → form_with t s d ≡ Some form → IsPairSound form
-form_sound number text d form (Some target) s json is said e f =
+    → target_in d ≡ t → said_on_two d ≡ s → fault_with t s n d ≡ None → form_with t s d ≡ Some form → IsPairSound form
+form_sound n text d form (Some target) s json is told e f =
     let p = and_then_some target_said (sole d) target is in
     let same : ◌≡◌ {A = PairForm} target form = cc in
     subst IsPairSound same (target_sound p.0 target p.2)
-form_sound number text d form None (Some s) json is said e f =
-    let whole = (second_whole number d s e).1 in
+form_sound n text d form None (Some s) json is told e f =
+    let whole = (second_whole n d s e).1 in
     let p = map_some of_second (second_form s) form f in
     let held = passed may_be_second (form_by s.0 s.1) p.0 p.1 in
-    subst IsPairSound p.2 (said_sound d s p.0 (line_read text d json whole) said held.is, held.may)
-form_sound number text d form None None json is said e f =
-    let faults = first_none (fault_of_data number d) (bad_form (first_form d)) e in
+    subst IsPairSound p.2 (said_sound d s p.0 (line_read text d json whole) told held.is, held.may)
+form_sound n text d form None None json is told e f =
+    let faults = first_none (fault_of_data n d) (bad_form (first_form d)) e in
     let p = map_some of_first (first_form d) form f in
     let held = passed may_be_first (form_of d) p.0 p.1 in
-    subst IsPairSound p.2 (data_sound number text d p.0 json faults.0 held.is, held.may)
+    subst IsPairSound p.2 (data_sound n text d p.0 json faults.0 held.is, held.may)
 
 -- the JSON of a line without a fault
-json_good : (number : ℕ) (o : Option Data)
-    → first_of (first_true ((NotJson, is_none o) ∷ [])) (option_and_then (pair_fault_of_data number) o) ≡ None
-    → (d : Data) × (o ≡ Some d) × (pair_fault_of_data number d ≡ None)
-json_good number None e = absurd cc
-json_good number (Some d) e = (d, refl, e)
+json_good : (n : ℕ) (o : Option Data)
+    → first_of (first_true ((NotJson, is_none o) ∷ [])) (option_and_then (pair_fault_of_data n) o) ≡ None
+    → (d : Data) × (o ≡ Some d) × (pair_fault_of_data n d ≡ None)
+json_good n None e = absurd cc
+json_good n (Some d) e = (d, refl, e)
 
 pub pair_forms_are_sound : PairFormsAreSound
-pair_forms_are_sound number text form e f =
-    let json = json_good number (json_of text) e in
-    form_sound number text json.0 form (target_in json.0) (said_on_two json.0) json.1 refl refl json.2
+pair_forms_are_sound n text form e f =
+    let json = json_good n (json_of text) e in
+    form_sound n text json.0 form (target_in json.0) (said_on_two json.0) json.1 refl refl json.2
     (sym (ap (option_and_then pair_form_of) json.1) ∙ f)
 
 -- ---- the first line
@@ -243,7 +243,10 @@ alone_object (array ds) p e = absurd cc
 load_member : (o : Option Data) (s : Option (List ℕ × Data)) (v : Data)
     → first_of (option_map (λ a. (kind.Styles, a)) o) (option_and_then kind_said s) ≡ Some (kind.Load, v)
     → (w : Data) × (s ≡ Some (codes "load", w))
-load_member (Some a) s v e = absurd cc
+load_member (Some a) s v e =
+    let same : ◌≡◌ {A = LineKind × Data} (kind.Styles, a) (kind.Load, v) = cc in
+    let other : kind.Styles ≡ kind.Load = ap (λ (t : LineKind × Data). t.0) same in
+    absurd cc
 load_member None s v e =
     let p = and_then_some kind_said s (kind.Load, v) e in
     let q = map_some (λ found. (found, p.0.1)) (named line_kind_name all_line_kinds p.0.0) (kind.Load, v) p.2 in
@@ -265,19 +268,19 @@ plain_load d e =
 
 first_of_load : (d : Data) (page : LoadedPage) → IsPlainLoad d → form_of d ≡ Some (load page)
     → (pair_form_of d ≡ Some (of_first (load page)))
-    × ((number : ℕ) → fault_of_data number d ≡ None → pair_fault_of_data number d ≡ None)
-first_of_load d page is form = (rw (is.target, is.second, form) refl, λ number e. rw (is.target, is.second, e, form) refl)
+    × ((n : ℕ) → fault_of_data n d ≡ None → pair_fault_of_data n d ≡ None)
+first_of_load d page is form = (rw (is.target, is.second, form) refl, λ n e. rw (is.target, is.second, e, form) refl)
 
 -- such a line is read so, and is not refused
-pub load_read : (number : ℕ) (line : List ℕ) (page : LoadedPage) → Loads line page
-    → (pair_line_fault number line ≡ None) × (pair_line_form line ≡ Some (of_first (load page)))
-load_read number line page l =
+pub load_read : (n : ℕ) (line : List ℕ) (page : LoadedPage) → Loads line page
+    → (pair_line_fault n line ≡ None) × (pair_line_form line ≡ Some (of_first (load page)))
+load_read n line page l =
     let there = and_then_some form_of (json_of line) (load page) l.form in
     let d = there.0 in
     let clear : (n : ℕ) → fault_of_data n d ≡ None =
     λ n. sym (ap (λ o. first_of (first_true ((NotJson, is_none o) ∷ [])) (option_and_then (fault_of_data n) o)) there.1) ∙ l.clear n in
     let both = first_of_load d page (plain_load d (clear 1)) there.2 in (
-      ap (λ o. first_of (first_true ((NotJson, is_none o) ∷ [])) (option_and_then (pair_fault_of_data number) o)) there.1
-          ∙ both.1 number (clear number),
+      ap (λ o. first_of (first_true ((NotJson, is_none o) ∷ [])) (option_and_then (pair_fault_of_data n) o)) there.1
+          ∙ both.1 n (clear n),
       ap (option_and_then pair_form_of) there.1 ∙ both.0,
     )
