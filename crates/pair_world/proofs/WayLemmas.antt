@@ -37,7 +37,7 @@ use Rattle.session_mux.specs.Routes.{left_to, refused, routing_by}
 use Rattle.session_mux.specs.Tags.{AreMessages}
 use Rattle.session_mux.specs.TaggedTexts.{session_end, tagged_frame}
 use Rattle.session_mux.proofs.TextLemmas.{frames-tagged}
-use Rattle.inspect_world.proofs.StepsTaken.{AreTexts, course-texts}
+use Rattle.client_views.proofs.MoveTexts.{AreTexts, course-texts}
 use Rattle.session_runs.specs.World.{Stepped}
 use Rattle.session_runs.specs.Pairs.{Way, to_root, to_session, attaches, detaches, client_pair, second_step, way_step}
 use Rattle.multi_replay.specs.States.{attach_text, detach_text}
