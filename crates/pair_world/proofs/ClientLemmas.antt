@@ -38,8 +38,9 @@ use Rattle.inspect_world.proofs.StepsTaken.{by-refusal}
 use Rattle.inspect_world.proofs.StylesTold.{styles-told, quiet-styles}
 use Rattle.session_runs.specs.Fold.{folded}
 use Rattle.session_runs.specs.PairFit.{ReadLaws, IsNoTarget, LeadsClient, ClientLaws}
-use Rattle.pair_world.specs.Incoming.{is_target_id}
-use Rattle.pair_world.specs.Clients.{asks_more, pair_reads, RunClient, state_of, fresh_client, client_steps}
+use Rattle.multi_replay.specs.Incoming.{is_target_id}
+use Rattle.multi_replay.specs.Folds.{asks_more}
+use Rattle.pair_world.specs.Clients.{pair_reads, RunClient, state_of, fresh_client, client_steps}
 use Rattle.pair_world.specs.Shown.{IsSessionNumber, HasRoomFor, MaySend, Shows}
 use Rattle.pair_world.proofs.TaggedTexts.{NoTarget, NoTargets, Written, moves-written}
 use Rattle.pair_world.proofs.TargetTexts.{texts-apart, attached-down, attached-text, attached-says, detached-down, detached-text}

@@ -15,7 +15,7 @@ use Rattle.session_mux.specs.Sessions.{session_text}
 use Rattle.session_mux.specs.Routes.{Request, if_is, request_in, request_of}
 use Rattle.session_runs.specs.Pairs.{to_root, attach, detach}
 use Rattle.session_runs.specs.PairFit.{MayTarget, may_attach, may_detach, IsCalm, calm_root, calm_second}
-use Rattle.pair_world.specs.Incoming.{is_target_id}
+use Rattle.multi_replay.specs.Incoming.{is_target_id}
 use Rattle.pair_world.specs.SessionWays.{attach_method, detach_method, way_by, frame_way}
 use Rattle.pair_world.specs.Clients.{pair_reads, client_steps}
 use Rattle.pair_world.specs.Shown.{MaySend}

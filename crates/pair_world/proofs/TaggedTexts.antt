@@ -31,7 +31,7 @@ use Rattle.session_mux.proofs.TagLemmas.{tags-last, tags-off}
 use Rattle.back_end.specs.Laws.{reply_ids}
 use Rattle.session_runs.specs.Pairs.{bare, of_session}
 use Rattle.session_runs.specs.PairFit.{IsNoTarget, IsWritten}
-use Rattle.pair_world.specs.Incoming.{if_there, strange_frame, session_frame, down_value, frame_down}
+use Rattle.multi_replay.specs.Incoming.{if_there, strange_frame, session_frame, down_value, frame_down}
 use Rattle.pair_world.specs.Clients.{pair_reads, client_steps, session_tail}
 use Rattle.pair_world.specs.Shown.{IsSessionNumber}
 use Rattle.pair_world.proofs.MessageTexts.{ReadsAgain, read-again, texts-of, move-again}

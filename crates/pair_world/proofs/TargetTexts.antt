@@ -24,8 +24,8 @@ use Rattle.cdp_messages.proofs.ZeroFree.{texts_have_no_zero}
 use Rattle.session_mux.specs.Sessions.{session_text}
 use Rattle.session_mux.specs.Targets.{attached_result}
 use Rattle.session_runs.specs.Pairs.{bare, attach, detach, session_made, session_dropped}
-use Rattle.pair_world.specs.Incoming.{if_there, down_value, frame_down, is_target_id, session_number, made_numbered, reply_says}
-use Rattle.pair_world.specs.Incoming.{target_says}
+use Rattle.multi_replay.specs.Incoming.{if_there, down_value, frame_down, is_target_id, session_number, made_numbered, reply_says}
+use Rattle.multi_replay.specs.Incoming.{target_says}
 use Rattle.pair_world.specs.Shown.{IsSessionNumber}
 use Rattle.pair_world.proofs.MessageTexts.{ReadsAgain, read-again, body-again}
 use Rattle.pair_world.proofs.TaggedTexts.{session-utf8, bare-read}

@@ -40,6 +40,7 @@ use Rattle.client_views.proofs.MoveTexts.{course-texts}
 use Rattle.back_end.proofs.PairLemmas.{moves-are-messages, all-texts}
 use Rattle.session_runs.specs.World.{Stepped}
 use Rattle.session_runs.specs.Pairs.{Way, to_root, to_session, attaches, detaches, client_pair, second_step, way_step}
+use Rattle.multi_replay.specs.States.{attach_text, detach_text}
 use Rattle.pair_world.specs.SessionWays.{text_without_session, text_in, attach_method, detach_method, target_way, request_way, way_by}
 use Rattle.pair_world.specs.SessionWays.{frame_way}
 use Rattle.pair_world.specs.Clients.{pair_reads, RunClient, fresh_client, client_steps, unknown_reply}
@@ -47,7 +48,7 @@ use Rattle.pair_world.specs.Shown.{IsSessionNumber}
 use Rattle.pair_world.specs.PairFits.{PageSessions}
 use Rattle.pair_world.specs.FrameLaws.{IsCommand, are_object, AsksAreTheRoots, AsksAreTheSessions, TargetsAreKnown, SessionsAskTheSame}
 use Rattle.pair_world.specs.FrameLaws.{RootsAreUsual, SessionsAreUsual, TargetsAreUsual}
-use Rattle.pair_world.specs.FrameLaws.{attach_text, detach_text, sessions_of, HasTargetParams, IsUsual, StepsBy, StepsAreRouted}
+use Rattle.pair_world.specs.FrameLaws.{sessions_of, HasTargetParams, IsUsual, StepsBy, StepsAreRouted}
 use Rattle.pair_world.specs.FrameLaws.{SessionsAreTagged}
 use Rattle.pair_world.proofs.TaggedTexts.{text_tagged, framed-tagged, session-utf8}
 use Rattle.pair_world.proofs.TargetTexts.{whole-read}

@@ -1,5 +1,5 @@
 -- What the two front ends read, and how the back end goes on for one of two clients.
-use Rattle.std.specs.Prelude.{ℕ, false, List, [], ◌∷◌, ◌++◌, Some, option_map, bytes_eq}
+use Rattle.std.specs.Prelude.{ℕ, false, List, [], ◌∷◌, ◌++◌, Some, option_map}
 use Rattle.std.specs.Option.{option_to_list}
 use Rattle.json.specs.Print.{quoted}
 use Rattle.serde_json.specs.Data.{object, no_members}
@@ -10,8 +10,7 @@ use Rattle.cdp_messages.specs.SessionFrames.{session_name}
 use Rattle.client_views.specs.Moves.{frames_of_moves}
 use Rattle.front_mirror.specs.declared.replies.Ask.{Ask}
 use Rattle.front_mirror.specs.declared.faults.FrontKind.{FrontKind}
-use Rattle.front_mirror.specs.declared.faults.FrontKind.TheVariants.{NotMessage}
-use Rattle.front_mirror.specs.Front.{FrontValue, first_value, take_frame}
+use Rattle.front_mirror.specs.Front.{FrontValue}
 use Rattle.back_end.specs.States.{Side, Client, State, new_client}
 use Rattle.back_end.specs.Steps.{Turn, frame_step, turn_step}
 use Rattle.back_end.specs.Outside.{Outward, turned, frame_outward, outside_step}
@@ -22,30 +21,14 @@ use Rattle.session_mux.specs.Targets.{attached_result}
 use Rattle.session_mux.specs.TaggedTexts.{tagged_frame}
 use Rattle.session_mux.specs.Routes.{Request, request_of}
 use Rattle.session_runs.specs.Pairs.{FrontReads, ClientSteps}
-use Rattle.pair_world.specs.Incoming.{frame_down, is_target_id, target_says}
+use Rattle.multi_replay.specs.Folds.{value_reads}
 use Rattle.pair_world.specs.SessionWays.{frame_way}
 
 -- ---- the front ends
 
--- a front that waits for these asks more
-abbrev pub asks_more : FrontValue → List Ask → FrontValue
-asks_more v more = record v { asks = v.asks ++ more }
-
--- two front ends by their values: what each takes, and how frames both ways are read
+-- two front ends by their values, where these are the asks of frames that go up
 abbrev pub pair_reads : FrontReads FrontValue FrontKind Ask (List ℕ)
-pair_reads = record {
-  take = take_frame;
-  join = asks_more;
-  begin = first_value [];
-  same = bytes_eq;
-  way = frame_way;
-  asks = λ text. option_to_list (ask_of_frame text);
-  down = frame_down;
-  is_target = is_target_id;
-  outcome = target_says;
-  strange = NotMessage;
-  unasked = NotMessage;
-}
+pair_reads = value_reads (record { way = frame_way; asks = λ text. option_to_list (ask_of_frame text) })
 
 -- ---- the back end
 

@@ -1,16 +1,15 @@
 -- What ties the frames of such a run to the router of session_mux and to its tags.
-use Rattle.std.specs.Prelude.{◌≡◌, ◌≢◌, ℕ, List, map, codes, bytes_eq, Bool, true, false, Option, Some, None, is_some, option_map, Ok}
+use Rattle.std.specs.Prelude.{◌≡◌, ◌≢◌, ℕ, List, map, bytes_eq, Bool, true, false, Option, Some, None, is_some, option_map, Ok}
 use Rattle.std.specs.Prelude.{IsUtf8}
 use Rattle.serde_json.specs.Data.{Data, string}
 use Rattle.serde_json.specs.Find.{as_object}
 use Rattle.cdp_json.specs.declared.fields.Field.TheVariants.{Missing}
-use Rattle.cdp_json.specs.Kinds.{is_counted, holds_of_some, flag, text}
+use Rattle.cdp_json.specs.Kinds.{is_counted, holds_of_some}
 use Rattle.cdp_json.specs.Plain.{is_plain}
-use Rattle.cdp_json.specs.Rows.{object_of, and_need, ends}
 use Rattle.cdp_messages.specs.Asked.{json_of, asked, command_value, command_text}
 use Rattle.cdp_messages.specs.Laws.{Shallow}
 use Rattle.cdp_messages.specs.Replies.{message_frames}
-use Rattle.cdp_messages.specs.SessionFrames.{session_name, session_asked}
+use Rattle.cdp_messages.specs.SessionFrames.{session_asked}
 use Rattle.client_views.specs.Views.{View}
 use Rattle.client_views.specs.Moves.{Move, Course, message_of, frames_of_moves}
 use Rattle.session_mux.specs.declared.router.Routed.{Routed}
@@ -21,6 +20,7 @@ use Rattle.session_mux.specs.Routes.{Request, request_of, Routing, routing}
 use Rattle.session_mux.specs.Tags.{session_frames}
 use Rattle.session_runs.specs.World.{Stepped}
 use Rattle.session_runs.specs.Pairs.{to_root, to_session, attaches, detaches, tagged, root_step, second_step, pair_step}
+use Rattle.multi_replay.specs.States.{attach_text, detach_text}
 use Rattle.pair_world.specs.SessionWays.{text_without_session, attach_method, detach_method, frame_way}
 use Rattle.pair_world.specs.Clients.{pair_reads, RunClient, fresh_client, client_steps}
 use Rattle.pair_world.specs.Shown.{IsSessionNumber}
@@ -39,17 +39,6 @@ pub record IsCommand (id : ℕ) (method : List ℕ) (params session : Option Dat
 abbrev pub are_object : Option Data → Bool
 are_object None = true
 are_object (Some d) = is_some (as_object d)
-
--- the command that attaches a session
-abbrev pub attach_text : ℕ → List ℕ
-attach_text id =
-    command_text id attach_method
-    (Some ((object_of (and_need (codes "flatten") flag (and_need (codes "targetId") text ends))).spell (true, (page_target, tt)))) None
-
--- the command that detaches the session of that text
-abbrev pub detach_text : ℕ → List ℕ → List ℕ
-detach_text id session =
-    command_text id detach_method (Some ((object_of (and_need session_name text ends)).spell (session, tt))) None
 
 -- a command without a session is the root's, where its method is none of the two
 abbrev pub AsksAreTheRoots : Type 0

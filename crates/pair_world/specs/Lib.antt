@@ -1,4 +1,3 @@
-pub mod Incoming
 pub mod SessionWays
 pub mod Clients
 pub mod Shown

@@ -8,11 +8,12 @@ use Rattle.session_mux.specs.Sessions.{session_text}
 use Rattle.session_mux.specs.Targets.{target_named}
 use Rattle.session_runs.specs.Pairs.{TargetKind, attach, detach}
 use Rattle.session_runs.specs.PairFit.{MayTarget, IsCalm}
-use Rattle.pair_world.specs.Incoming.{is_target_id}
+use Rattle.multi_replay.specs.Incoming.{is_target_id}
 use Rattle.pair_world.specs.SessionWays.{frame_way}
+use Rattle.multi_replay.specs.States.{attach_text, detach_text}
 use Rattle.pair_world.specs.Clients.{pair_reads, client_steps}
 use Rattle.pair_world.specs.Shown.{IsSessionNumber, MaySend}
-use Rattle.pair_world.specs.FrameLaws.{IsCommand, are_object, attach_text, detach_text}
+use Rattle.pair_world.specs.FrameLaws.{IsCommand, are_object}
 
 -- the frame has no zero byte, and may come while that session is attached, or none
 abbrev pub MayBeSent : Option ℕ → List ℕ → Type 0

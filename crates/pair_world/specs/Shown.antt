@@ -7,7 +7,7 @@ use Rattle.front_mirror.specs.Laws.{Has}
 use Rattle.back_end.specs.States.{Side, view_of, IsState}
 use Rattle.back_end.specs.Laws.{HasRoom}
 use Rattle.inspect_world.specs.Fits.{ask_of_frame, Sendable, kept_styles}
-use Rattle.pair_world.specs.Incoming.{is_target_id}
+use Rattle.multi_replay.specs.Incoming.{is_target_id}
 use Rattle.pair_world.specs.Clients.{RunClient, state_of}
 
 -- a number of a session: from 1 on, and so low that a message carries it

@@ -3,3 +3,4 @@ pub mod FaultLemmas
 pub mod SoundLemmas
 pub mod ScriptLemmas
 pub mod LoadLemmas
+pub mod PairLemmas

@@ -126,7 +126,7 @@ value_texts id (m, (Some d, (None, end))) u = (IsUtf8-are_ascii (codes "id") ref
 value_texts id (m, (None, (Some s, end))) u = (IsUtf8-are_ascii (codes "id") refl, tt, u)
 value_texts id (m, (Some d, (Some s, end))) u = (IsUtf8-are_ascii (codes "id") refl, tt, u)
 
-ask_sound : (v : Data) (a : AskForm) → IsRead v → ask_in v ≡ Some a → CanSend a
+pub ask_sound : (v : Data) (a : AskForm) → IsRead v → ask_in v ≡ Some a → CanSend a
 ask_sound v a r is =
     let parts = map_some ask_from (ask_kind.reads v) a is in
     let spelled : ask_kind.spell parts.0 ≡ v = (ask_lawful.takes v parts.0 parts.1).0 in
@@ -221,8 +221,15 @@ show_sound false false false false true f form is = let same : ◌≡◌ {A = Li
 show_sound false false false false false true form is = let same : ◌≡◌ {A = LineForm} show_panels form = cc in subst IsSound same tt
 show_sound false false false false false false form is = absurd cc
 
+-- a show has no condition
+pub shown_sound : (v : Data) (form : LineForm) → form_by kind.Show v ≡ Some form → IsSound form
+shown_sound v form e =
+    let p = and_then_some show_from (as_str v) form e in
+    show_sound (bytes_eq p.0 (codes "front")) (bytes_eq p.0 (codes "page")) (bytes_eq p.0 (codes "sheets"))
+    (bytes_eq p.0 (codes "replies")) (bytes_eq p.0 (codes "pauses")) (bytes_eq p.0 (codes "panels")) form p.2
+
 -- a show of styles has no condition
-styles_sound : (v : Data) (form : LineForm) → form_by kind.Styles v ≡ Some form → IsSound form
+pub styles_sound : (v : Data) (form : LineForm) → form_by kind.Styles v ≡ Some form → IsSound form
 styles_sound v form e = let p = map_some show_styles (as_whole v) form e in subst IsSound p.2 tt
 
 form_sound : (k : LineKind) (v : Data) (form : LineForm) → IsRead v → IsClear k v → form_by k v ≡ Some form → IsSound form
@@ -237,10 +244,7 @@ form_sound kind.Raw v form r c e =
 form_sound kind.Up v form r c e = let p = map_some up (as_whole v) form e in subst IsSound p.2 tt
 form_sound kind.Down v form r c e = let p = map_some down (as_whole v) form e in subst IsSound p.2 tt
 form_sound kind.Settle v form r c e = let p = map_some (λ _. settle) (as_true v) form e in subst IsSound p.2 tt
-form_sound kind.Show v form r c e =
-    let p = and_then_some show_from (as_str v) form e in
-    show_sound (bytes_eq p.0 (codes "front")) (bytes_eq p.0 (codes "page")) (bytes_eq p.0 (codes "sheets"))
-    (bytes_eq p.0 (codes "replies")) (bytes_eq p.0 (codes "pauses")) (bytes_eq p.0 (codes "panels")) form p.2
+form_sound kind.Show v form r c e = shown_sound v form e
 form_sound kind.Close v form r c e = let p = map_some close (as_whole v) form e in subst IsSound p.2 tt
 form_sound kind.Styles v form r c e = styles_sound v form e
 
@@ -273,7 +277,7 @@ form_said : (d : Data) (k : LineKind) (v : Data) (form : LineForm) → said d �
 form_said d k v form is e = sym (ap (option_and_then (λ s. form_by s.0 s.1)) is) ∙ e
 
 -- the form of a line without a fault, by its JSON
-data_sound : (n : ℕ) (text : List ℕ) (d : Data) (form : LineForm) → json_of text ≡ Some d → fault_of_data n d ≡ None
+pub data_sound : (n : ℕ) (text : List ℕ) (d : Data) (form : LineForm) → json_of text ≡ Some d → fault_of_data n d ≡ None
     → form_of d ≡ Some form → IsSound form
 data_sound n text d form is e f =
     let good = line_good n d e in
@@ -305,12 +309,17 @@ load_form kind.Show v form e f = absurd cc
 load_form kind.Close v form e f = absurd cc
 load_form kind.Styles v form e f = absurd cc
 
+-- the same by the line's JSON
+pub load_first : (d : Data) (form : LineForm) → fault_of_data 1 d ≡ None → form_of d ≡ Some form
+    → (page : LoadedPage) × (form ≡ load page)
+load_first d form e f =
+    let good = line_good 1 d e in
+    load_form good.kind good.value form good.first (form_said d good.kind good.value form good.is f)
+
 pub first_is_load : FirstIsLoad
 first_is_load text form e f =
     let json = json_good 1 (json_of text) e in
-    let good = line_good 1 json.0 json.2 in
-    load_form good.kind good.value form good.first
-    (form_said json.0 good.kind good.value form good.is (sym (ap (option_and_then form_of) json.1) ∙ f))
+    load_first json.0 form json.2 (sym (ap (option_and_then form_of) json.1) ∙ f)
 
 -- ---- what is read of a line
 
@@ -320,7 +329,7 @@ ask_whole a c = (there a.params c.params, there a.session c.session) where
   there None e = refl
   there (Some d) e = rw (has_float-is_plain d e) refl
 
-fits_line : (read : Line) → IsSound (seen read) → FitsPage read
+pub fits_line : (read : Line) → IsSound (seen read) → FitsPage read
 fits_line (line.Load page) s = s.can
 fits_line (line.Act a) s = s.insertable
 fits_line (line.Ask a) s = tt
@@ -337,7 +346,7 @@ fits_line line.ShowPanels s = tt
 fits_line (line.ShowStyles k) s = tt
 fits_line (line.Close k) s = tt
 
-whole_line : (read : Line) → IsSound (seen read) → AreWhole read
+pub whole_line : (read : Line) → IsSound (seen read) → AreWhole read
 whole_line (line.Load page) s = tt
 whole_line (line.Act a) s = tt
 whole_line (line.Ask a) s = ask_whole (seen_ask a) s

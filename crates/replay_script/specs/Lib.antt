@@ -7,3 +7,5 @@ pub mod Seen
 pub mod Sound
 pub mod Names
 pub mod Loads
+pub mod PairLines
+pub mod PairSeen

@@ -3,7 +3,7 @@ use Rattle.std.specs.Prelude.{ℕ, List, codes}
 use Rattle.page_tree.specs.declared.faults.LoadFault.{LoadFault}
 use Rattle.page_tree.specs.declared.faults.LoadFault.TheVariants as load
 use Rattle.replay_script.specs.declared.faults.LineFault.{LineFault}
-use Rattle.replay_script.specs.declared.faults.LineFault.TheVariants.{NotJson, NotLoad, BadForm, BadLoad, BadRaw, NoPanel, NoStyles}
+use Rattle.replay_script.specs.declared.faults.LineFault.TheVariants.{NotJson, NotLoad, BadForm, BadLoad, BadRaw, BadSession, NoPanel, NoStyles}
 
 -- how a status line names the fault of a load
 abbrev pub load_fault_name : LoadFault → List ℕ
@@ -19,5 +19,6 @@ fault_name NotLoad = codes "NotLoad"
 fault_name BadForm = codes "BadForm"
 fault_name (BadLoad fault) = load_fault_name fault
 fault_name BadRaw = codes "BadRaw"
+fault_name BadSession = codes "BadSession"
 fault_name NoPanel = codes "NoPanel"
 fault_name NoStyles = codes "NoStyles"

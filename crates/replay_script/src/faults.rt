@@ -5,7 +5,8 @@ use page_tree::LoadFault;
 use std::alloc::AllocError;
 use thiserror::Error;
 
-/// Why a line is refused. The first that applies is answered, in the order NotJson, NotLoad, BadForm, BadLoad, BadRaw, NoPanel, NoStyles.
+/// Why a line is refused. The first that applies is answered, in the order NotJson, NotLoad, BadForm, BadLoad, BadRaw, BadSession,
+/// NoPanel, NoStyles.
 #[derive(Clone, Copy, Debug, Error)]
 pub enum LineFault {
     /// `serde_json` does not read the line; bytes that are not UTF-8 are no JSON.
@@ -23,6 +24,10 @@ pub enum LineFault {
     /// A raw text holds U+0000, or reads as an object whose `id` is a whole number.
     #[error("BadRaw")]
     BadRaw,
+    /// An attach meets a second front that stands, or a detach or a line of the second front meets none. Reading a line never gives
+    /// it: it comes as the line is carried out.
+    #[error("BadSession")]
+    BadSession,
     /// No panel stands open at the place that the line names. Reading a line never gives it: it comes as the line is carried out.
     #[error("NoPanel")]
     NoPanel,
@@ -71,6 +76,7 @@ pub fn fault_name(fault: LineFault) -> &'static str
         LineFault::BadForm => "BadForm",
         LineFault::BadLoad(fault) => load_fault_name(fault),
         LineFault::BadRaw => "BadRaw",
+        LineFault::BadSession => "BadSession",
         LineFault::NoPanel => "NoPanel",
         LineFault::NoStyles => "NoStyles",
     }

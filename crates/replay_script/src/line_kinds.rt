@@ -73,8 +73,8 @@ impl LineKind {
     }
 }
 
-// The name and the value of an object's one property.
-fn sole(value: &Value) -> Option<(&str, &Value)>
+/// The name and the value of an object's one property.
+pub(crate) fn sole(value: &Value) -> Option<(&str, &Value)>
     ensures { option_map member_seen result ≡ sole (view value.now) }
 {
     let mut members = value.as_object()?.iter();
@@ -85,7 +85,8 @@ fn sole(value: &Value) -> Option<(&str, &Value)>
     }
 }
 
-fn shows_styles(fields: &mut Cursor<'_>) -> bool
+/// Whether the next property is that of a show of matched styles.
+pub(crate) fn shows_styles(fields: &mut Cursor<'_>) -> bool
     ensures { option_map (left_with (left fields.new)) (if result then Some tt else None)
         ≡ need (only_text (codes "styles")).reads (codes "show") (left fields.old) }
 {

@@ -42,7 +42,8 @@ fn read_change(alloc: Global, value: &Value) -> Result<Line, LineErr>
     }
 }
 
-fn read_ask(alloc: Global, value: &Value) -> Result<Line, LineErr>
+/// Reads what an ask says.
+pub(crate) fn read_ask(alloc: Global, value: &Value) -> Result<Line, LineErr>
     ensures fault { RefusesLine result (fault_by kind.Ask (view value.now)) }
     ensures form { IfOk result (λ line. form_by kind.Ask (view value.now) ≡ Some (seen line)) }
 {
@@ -95,7 +96,8 @@ fn read_settle(value: &Value) -> Result<Line, LineErr>
     }
 }
 
-fn read_show(value: &Value) -> Result<Line, LineErr>
+/// Reads the word of a show.
+pub(crate) fn read_show(value: &Value) -> Result<Line, LineErr>
     ensures fault { RefusesLine result (fault_by kind.Show (view value.now)) }
     ensures form { IfOk result (λ line. form_by kind.Show (view value.now) ≡ Some (seen line)) }
 {
@@ -123,7 +125,8 @@ fn read_show(value: &Value) -> Result<Line, LineErr>
     Err(LineErr::Fault(LineFault::BadForm))
 }
 
-fn read_styles(value: &Value) -> Result<Line, LineErr>
+/// Reads the ask of a show of matched styles.
+pub(crate) fn read_styles(value: &Value) -> Result<Line, LineErr>
     ensures fault { RefusesLine result (fault_by kind.Styles (view value.now)) }
     ensures form { IfOk result (λ line. form_by kind.Styles (view value.now) ≡ Some (seen line)) }
 {
@@ -168,7 +171,8 @@ fn lacks_load(number: u64, kind: LineKind) -> bool
     number == 1 && !kind.is_load()
 }
 
-fn read_value(alloc: Global, number: u64, line: &Value) -> Result<Line, LineErr>
+/// Reads the JSON of the line with this number.
+pub(crate) fn read_value(alloc: Global, number: u64, line: &Value) -> Result<Line, LineErr>
     ensures fault { RefusesLine result (fault_of_data number (view line.now)) }
     ensures form { IfOk result (λ read. form_of (view line.now) ≡ Some (seen read)) }
 {
