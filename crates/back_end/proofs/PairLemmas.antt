@@ -1,7 +1,7 @@
 -- Two seats stand for two clients of one page after each step of both.
 use Rattle.std.proofs.Common.{◌≡◌, ◌≢◌, ℕ, ◌+◌, ◌*◌, ◌^◌, ◌<◌, ◌≤◌, Bool, List, [], ◌∷◌, ◌++◌, map, Option, Some, None, refl, sym, ap}
 use Rattle.std.proofs.Common.{subst, ◌∙◌, arith, append-nil, append_assoc}
-use Rattle.std.specs.Prelude.{All, ⊤, IfSome, IfOk, OnOk, Result, Ok, Err}
+use Rattle.std.specs.Prelude.{All, IfSome, IfOk, OnOk, Result, Ok, Err}
 use Rattle.std.proofs.Math.Logic.{∥∥₁_map}
 use Rattle.std.proofs.lemmas.List.Elements.{All-nil, All-cons}
 use Rattle.node_binding.specs.Bindings.{BindingValue, Stands}
@@ -34,7 +34,7 @@ use Rattle.back_end.specs.Guests.{GuestStands, Hears, CanHear, heard_step}
 use Rattle.back_end.specs.Pairs.{Pair, root_state, second_state, second_client, root_done, attached_done, sent_to, attached_frames}
 use Rattle.back_end.specs.Pairs.{answered_step, routed_step, pair_step, PairHasRoom}
 use Rattle.back_end.specs.PairSeats.{PairHasRoomLeft, SeatsStandFor, PairStandsFor, PairsHaveRoomLeft, NewPairsStand, IsUnused}
-use Rattle.back_end.specs.PairSeats.{IsGuestAt, IsGuestOf, seat_again, WasTold, WasToldOf, IsRenewed}
+use Rattle.back_end.specs.PairSeats.{IsGuestAt, IsGuestOf, seat_again, WasToldOf, IsRenewed}
 use Rattle.back_end.specs.declared.guest.Guest.{Guest}
 use Rattle.back_end.specs.declared.mux.Mux.{Mux}
 use Rattle.back_end.specs.declared.seat.Seat.{Seat}

@@ -1,27 +1,26 @@
 -- The laws of two clients of one page: their states are kept by each step, and each goes on by its own state and by what comes to it.
-use Rattle.std.proofs.Common.{◌≡◌, ◌≢◌, ℕ, Bool, List, [], ◌∷◌, ◌++◌, map, Option, Some, None, Result, Ok, Err, refl, sym, ap, subst}
-use Rattle.std.proofs.Common.{◌∙◌, inl, inr, arith, append-nil, append_assoc}
+use Rattle.std.proofs.Common.{◌≡◌, ◌≢◌, ℕ, Bool, List, [], ◌∷◌, ◌++◌, Option, Some, None, Result, refl, sym, ap, subst}
+use Rattle.std.proofs.Common.{◌∙◌, inl, inr, append-nil, append_assoc}
 use Rattle.cdp_messages.specs.declared.command.Asked.{Asked}
 use Rattle.cdp_messages.specs.declared.command.Refused.{Refused}
 use Rattle.cdp_messages.specs.Asked.{asked}
 use Rattle.cdp_messages.specs.SessionFrames.{session_asked}
 use Rattle.cdp_messages.specs.Replies.{Message, message_frames}
-use Rattle.client_views.specs.Moves.{Move, message_of, frames_of_moves}
-use Rattle.session_runs.specs.World.{Stepped}
+use Rattle.client_views.specs.Moves.{Move, frames_of_moves}
 use Rattle.session_mux.specs.declared.router.Routed.{Routed}
 use Rattle.session_mux.specs.declared.router.Routed.TheVariants.{Root, Attached, Answered}
-use Rattle.session_mux.specs.Routes.{Routing, routing}
+use Rattle.session_mux.specs.Routes.{routing}
 use Rattle.session_mux.proofs.RouteLemmas.{attached-by-name, others-left, numbers-go-on}
 use Rattle.back_end.specs.States.{Side, Client, State, IsState, new_client}
-use Rattle.back_end.specs.Steps.{Step, idle, followed_by, asked_step, Turn, turn_step}
-use Rattle.back_end.specs.Outside.{asked_outward, outside_step, IsOutside}
+use Rattle.back_end.specs.Steps.{Step, asked_step, Turn, turn_step}
+use Rattle.back_end.specs.Outside.{asked_outward, outside_step}
 use Rattle.back_end.specs.Laws.{IsTurn}
-use Rattle.back_end.specs.Pairs.{Pair, root_state, second_state, second_client, IsPair, PairHasRoom, attached_frames, sent_to, root_done}
-use Rattle.back_end.specs.Pairs.{root_step, attached_step, answered_step, routed_step, pair_step, pair_turn}
-use Rattle.back_end.specs.PairLaws.{StartIsPair, Incoming, arrives, happens, incoming_step, CanCome, StepsKeepPairs, Coming, coming_step}
-use Rattle.back_end.specs.PairLaws.{coming_steps, frame_to_root, frame_to_second, to_root, to_second, root_sent, second_moves, GoAlone}
-use Rattle.back_end.specs.PairLaws.{AreBoth, EachGoesAlone, StaysAttached, all_to_second, all_second_moves, SessionsAreToldAlone}
-use Rattle.back_end.specs.PairLaws.{SessionsBeginAnew, EqualSessionsAreToldAlike, root_moves, AllCome, all_to_root, all_root_moves}
+use Rattle.back_end.specs.Pairs.{Pair, root_state, second_state, second_client, IsPair, PairHasRoom, attached_frames, root_done}
+use Rattle.back_end.specs.Pairs.{root_step, attached_step, answered_step, routed_step, pair_turn}
+use Rattle.back_end.specs.PairLaws.{StartIsPair, Incoming, arrives, happens, incoming_step, StepsKeepPairs, Coming, coming_step}
+use Rattle.back_end.specs.PairLaws.{coming_steps, frame_to_root, frame_to_second, to_root, to_second, second_moves}
+use Rattle.back_end.specs.PairLaws.{AreBoth, EachGoesAlone, StaysAttached, all_to_second, SessionsAreToldAlone}
+use Rattle.back_end.specs.PairLaws.{SessionsBeginAnew, EqualSessionsAreToldAlike, root_moves, all_to_root}
 use Rattle.back_end.specs.PairLaws.{RootsAreToldAlone, EqualRootsAreToldAlike}
 use Rattle.back_end.proofs.AskedLemmas.{AskedFits, frame-fits, session-fits}
 use Rattle.back_end.proofs.OwnTexts.{AskedTexts, frame-texts, session-texts}

@@ -1,5 +1,5 @@
 -- Two seats and a router, with the page's side, that stand for two clients of the page.
-use Rattle.std.specs.Prelude.{◌≡◌, ◌<◌, ◌↔◌, ℕ, List, [], All, ⊤, false, Option, Some, None}
+use Rattle.std.specs.Prelude.{◌≡◌, ◌<◌, ◌↔◌, ℕ, List, [], All, false, Option, Some, None}
 use Rattle.node_tree.specs.Numbers.{drawn_before_step}
 use Rattle.node_binding.specs.Bindings.{empty_from}
 use Rattle.dom_breakpoints.specs.Watched.{unwatched}

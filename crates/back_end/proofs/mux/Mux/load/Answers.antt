@@ -1,5 +1,5 @@
 -- The second client is the guest of the root while the script loads a page.
-use Rattle.std.proofs.Common.{◌≡◌, refl, sym, subst, ◌∙◌, map}
+use Rattle.std.proofs.Common.{refl, sym, subst, ◌∙◌, map}
 use Rattle.std.proofs.Math.Logic.{∥∥₁_map}
 use Rattle.client_views.specs.Moves.{message_of}
 use Rattle.page_forms.specs.Pages.{loaded_page}

@@ -1,8 +1,8 @@
 -- The second client is the guest of the root while the script changes the page.
-use Rattle.std.proofs.Common.{◌≡◌, ◌^◌, ◌≤◌, refl, sym, subst, ◌∙◌, map, arith}
+use Rattle.std.proofs.Common.{refl, sym, subst, ◌∙◌, map, arith}
 use Rattle.std.proofs.Math.Logic.{∥∥₁_map}
 use Rattle.client_views.specs.Moves.{message_of}
-use Rattle.back_end.specs.States.{State, view_of}
+use Rattle.back_end.specs.States.{view_of}
 use Rattle.back_end.specs.Steps.{acts, turn_step}
 use Rattle.back_end.specs.Seats.{StandsFor, HasRoomLeft}
 use Rattle.back_end.specs.Pairs.{Pair, root_state, second_state, pair_turn}

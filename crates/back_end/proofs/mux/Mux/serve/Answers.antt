@@ -1,10 +1,9 @@
 -- The step is by whose the frame is.
-use Rattle.std.proofs.Common.{◌≡◌, ◌≢◌, ◌^◌, ◌<◌, ◌++◌, List, ℕ, [], sym, ap, subst, ◌∙◌, append-nil, arith}
+use Rattle.std.proofs.Common.{◌≡◌, ◌^◌, ◌<◌, ◌++◌, List, ℕ, sym, ap, subst, ◌∙◌, arith}
 use Rattle.std.specs.Result.{OnOk}
 use Rattle.std.proofs.Math.Logic.{∥∥₁_map}
-use Rattle.cdp_messages.specs.Replies.{Message, message_frames}
+use Rattle.cdp_messages.specs.Replies.{message_frames}
 use Rattle.session_runs.specs.World.{Stepped}
-use Rattle.session_mux.specs.declared.router.Routed.{Routed}
 use Rattle.session_mux.specs.declared.router.Routed.TheVariants.{Root, Attached, Answered}
 use Rattle.session_mux.specs.Sessions.{Sessions}
 use Rattle.session_mux.specs.Routes.{routing}

@@ -1,5 +1,5 @@
 -- The root is the guest of the attached session, whose frame it is.
-use Rattle.std.proofs.Common.{◌≡◌, ◌^◌, ◌≤◌, ◌++◌, List, ℕ, Option, Some, None, ap, sym, subst, ◌∙◌, map, arith}
+use Rattle.std.proofs.Common.{◌^◌, ◌++◌, List, ℕ, ap, sym, subst, ◌∙◌, arith}
 use Rattle.std.proofs.Math.Logic.{∥∥₁_map}
 use Rattle.client_views.specs.Moves.{frames_of_moves}
 use Rattle.session_mux.specs.Sessions.{Sessions}

@@ -1,10 +1,10 @@
 -- The second client is the guest of the root, whose frame it is.
-use Rattle.std.proofs.Common.{◌≡◌, ◌^◌, ◌≤◌, ◌++◌, ap, sym, subst, ◌∙◌, map, arith}
+use Rattle.std.proofs.Common.{◌^◌, ◌++◌, ap, sym, subst, ◌∙◌, map, arith}
 use Rattle.client_views.specs.Moves.{message_of}
 use Rattle.cdp_messages.specs.Asked.{asked}
 use Rattle.back_end.specs.States.{State, view_of}
 use Rattle.back_end.specs.Steps.{asked_step}
-use Rattle.back_end.specs.Outside.{IsOutside, asked_outward, outside_step}
+use Rattle.back_end.specs.Outside.{asked_outward, outside_step}
 use Rattle.back_end.specs.Seats.{StandsFor, HasRoomLeft}
 use Rattle.back_end.specs.Pairs.{Pair, root_state, second_state}
 use Rattle.back_end.specs.PairSeats.{PairStandsFor}
