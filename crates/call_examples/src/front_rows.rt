@@ -69,7 +69,7 @@ fn take_message(
 }
 
 /// A message with its zero byte.
-fn frame_of(alloc: Global, message: &Value) -> Result<Vec<u8>, AllocError> {
+pub(crate) fn frame_of(alloc: Global, message: &Value) -> Result<Vec<u8>, AllocError> {
     let mut frame = message.to_string(alloc)?.into_bytes();
     frame.push(0)?;
     Ok(frame)
@@ -104,7 +104,7 @@ fn take(front: &mut Alone, piece: &[u8], answer: &mut Answer) -> Result<(), Allo
 }
 
 /// The line for a kind of fault.
-fn kind_word(kind: FrontKind) -> &'static str {
+pub(crate) fn kind_word(kind: FrontKind) -> &'static str {
     match kind {
         FrontKind::NotMessage => "NotMessage\n",
         FrontKind::UnknownNode => "UnknownNode\n",

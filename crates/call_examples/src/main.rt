@@ -8,6 +8,7 @@ mod brief_panels;
 mod cascade_rows;
 mod frame_rows;
 mod front_rows;
+mod fronts_rows;
 mod inspect_rows;
 mod load_rows;
 mod match_rows;
@@ -102,6 +103,7 @@ fn tell_value(
         "cascade" => cascade_rows::told(alloc, word, args, answer),
         "frames" => frame_rows::told(alloc, word, args, answer),
         "front" => front_rows::told(alloc, args, answer),
+        "fronts" => fronts_rows::told(alloc, args, answer),
         "inspect" => inspect_rows::told(alloc, word, args, answer),
         "match" => match_rows::told(alloc, word, args, answer),
         "media" => {

@@ -2,8 +2,11 @@
 //
 // Behind `first` stands the whole script, which is a line without a line feed, and behind `later` the line after a load. `text` has a
 // list with the script, and `bytes` one of its bytes. `long` with a script and a number tells whether a line has more bytes than that.
+// Behind `pair-first` and `pair-later` stands the first and the second line of a script with two front ends: told is what it says.
 use crate::row_parts::{Answer, first_word, number_or_zero, text_or_empty, value_of, values_from};
-use replay_script::{LineErr, LineFault, Lines, fault_name, has_long_line, read_line};
+use replay_script::{
+    LineErr, LineFault, Lines, PairLine, fault_name, has_long_line, read_line, read_pair_line,
+};
 use serde_json::Value;
 use std::alloc::{AllocError, Global};
 
@@ -13,6 +16,8 @@ pub(crate) fn told(alloc: Global, row: &str, answer: &mut Answer) -> Result<(), 
     match word {
         "first" => push_read(alloc, rest.as_bytes(), answer),
         "later" => push_later(alloc, rest, answer),
+        "pair-first" => push_pair(alloc, 1, rest, answer),
+        "pair-later" => push_pair(alloc, 2, rest, answer),
         _ => {
             let value = value_of(alloc, rest)?;
             push_listed(alloc, word, &value, answer)
@@ -80,6 +85,31 @@ fn push_fault(number: u64, fault: LineFault, answer: &mut Answer) {
 fn push_later(alloc: Global, line: &str, answer: &mut Answer) -> Result<(), AllocError> {
     let script = format!(in alloc; "{{\"load\":{{\"document\":[]}}}}\n{line}\n")?;
     push_read(alloc, script.as_bytes(), answer)
+}
+
+/// What the line with this number says in a script with two front ends, or its fault.
+fn push_pair(
+    alloc: Global,
+    number: u64,
+    line: &str,
+    answer: &mut Answer,
+) -> Result<(), AllocError> {
+    match read_pair_line(alloc, number, line.as_bytes()) {
+        Ok(read) => answer.push(pair_word(&read)),
+        Err(LineErr::Fault(fault)) => push_fault(number, fault, answer),
+        Err(LineErr::Memory) => return Err(AllocError),
+    }
+    Ok(())
+}
+
+/// Whether a line attaches or detaches a session, or which front it speaks of.
+fn pair_word(line: &PairLine) -> &'static str {
+    match line {
+        PairLine::Attach => "attach",
+        PairLine::Detach => "detach",
+        PairLine::First(_) => "first",
+        PairLine::Second(_) => "second",
+    }
 }
 
 /// Adds the bytes that a list holds.
