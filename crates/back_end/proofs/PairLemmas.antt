@@ -33,8 +33,8 @@ use Rattle.back_end.specs.Seats.{StandsFor, HasRoomLeft}
 use Rattle.back_end.specs.Guests.{GuestStands, Hears, CanHear, heard_step}
 use Rattle.back_end.specs.Pairs.{Pair, root_state, second_state, second_client, root_done, attached_done, sent_to, attached_frames}
 use Rattle.back_end.specs.Pairs.{answered_step, routed_step, pair_step, PairHasRoom}
-use Rattle.back_end.specs.PairSeats.{PairHasRoomLeft, SeatsStandFor, PairStandsFor, NewPairsStand, IsUnused, IsGuestAt, IsGuestOf, seat_again, WasTold, WasToldOf}
-use Rattle.back_end.specs.PairSeats.{IsRenewed}
+use Rattle.back_end.specs.PairSeats.{PairHasRoomLeft, SeatsStandFor, PairStandsFor, PairsHaveRoomLeft, NewPairsStand, IsUnused}
+use Rattle.back_end.specs.PairSeats.{IsGuestAt, IsGuestOf, seat_again, WasTold, WasToldOf, IsRenewed}
 use Rattle.back_end.specs.declared.guest.Guest.{Guest}
 use Rattle.back_end.specs.declared.mux.Mux.{Mux}
 use Rattle.back_end.specs.declared.seat.Seat.{Seat}
@@ -45,7 +45,7 @@ use Rattle.back_end.proofs.FrameLemmas.{asked-steps-well}
 use Rattle.back_end.proofs.OutsideSteps.{asked-outside}
 use Rattle.back_end.proofs.HeardLemmas.{outside-is-heard}
 use Rattle.back_end.proofs.StepLemmas.{turn-steps-well}
-use Rattle.back_end.proofs.SeatRoom.{room-of, seated-state}
+use Rattle.back_end.proofs.SeatRoom.{has-room-left, room-of, seated-state}
 use Rattle.back_end.proofs.StartLemmas.{stands-first}
 use Rattle.back_end.proofs.WatchedLemmas.{none-set}
 
@@ -133,12 +133,12 @@ guest-can-hear edits (Some session) seat side (Some g) few of stands room =
 -- ---- what it is told
 
 -- the frames of moves are those of their messages
-moves-are-messages : (ms : List Move) → frames_of_moves ms ≡ message_frames (map message_of ms)
+pub moves-are-messages : (ms : List Move) → frames_of_moves ms ≡ message_frames (map message_of ms)
 moves-are-messages [] = refl
 moves-are-messages (m ∷ ms) = ap (λ (rest : List ℕ). framed (move_text m) ++ rest) (moves-are-messages ms)
 
 -- the texts of moves have no zero byte
-all-texts : (ms : List Move) → AreTexts ms → All (λ m. IsText (message_text m)) (map message_of ms)
+pub all-texts : (ms : List Move) → AreTexts ms → All (λ m. IsText (message_text m)) (map message_of ms)
 all-texts [] texts = All-nil (λ m. IsText (message_text m))
 all-texts (m ∷ ms) texts =
     All-cons (λ n. IsText (message_text n)) (message_of m) (map message_of ms) texts.0 (all-texts ms texts.1)
@@ -202,6 +202,17 @@ pair-room mux side p stands left = record {
   second = room-of mux.second side (second_state p) stands.second_stands left.1;
   number = subst (λ (s : Sessions). s.next < 2 ^ 50) stands.sessions_are left.2;
 }
+
+-- and the other way round
+pub pairs-have-room-left : PairsHaveRoomLeft
+pairs-have-room-left mux side p stands = (
+  λ left. pair-room mux side p stands left,
+  λ room. (
+    has-room-left mux.root side (root_state p) stands.root_stands room.root,
+    has-room-left mux.second side (second_state p) stands.second_stands room.second,
+    subst (λ (s : Sessions). s.next < 2 ^ 50) (sym stands.sessions_are) room.number,
+  ),
+)
 
 -- and the states are such that can be
 pub pair-states : (mux : Mux) (side : PageSide) (p : Pair) → PairStandsFor mux side p → IsState (root_state p) × IsState (second_state p)
@@ -310,7 +321,8 @@ pub answered-stands : (p : Pair) (frame : List ℕ) (side : PageSide) (root seco
 answered-stands p frame side root second before after mux stands is same renewed router =
     let sessions = (routing frame p.sessions).sessions in
     let now : after ≡ sessions = is ∙ ap (λ (s : Sessions). (routing frame s).sessions) stands.sessions_are in
-    let new : IsRenewed sessions.attached second mux.second = subst (λ (s : Sessions). IsRenewed s.attached second mux.second) now renewed in
+    let new : IsRenewed sessions.attached second mux.second =
+    subst (λ (s : Sessions). IsRenewed s.attached second mux.second) now renewed in
     record {
       root_stands = subst (λ (s : Seat). StandsFor s side (root_state p)) (sym same) stands.root_stands;
       second_stands = renewed-stands sessions.attached root second mux side (root_state p) p.second new stands.root_stands

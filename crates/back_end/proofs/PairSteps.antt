@@ -1,6 +1,6 @@
 -- The laws of two clients of one page: their states are kept by each step, and each goes on by its own state and by what comes to it.
-use Rattle.std.proofs.Common.{◌≡◌, ◌≢◌, ℕ, Bool, List, [], ◌∷◌, ◌++◌, map, Option, Some, None, Result, Ok, Err, refl, sym, ap, subst, ◌∙◌, inl, inr, arith}
-use Rattle.std.proofs.Common.{append-nil, append_assoc}
+use Rattle.std.proofs.Common.{◌≡◌, ◌≢◌, ℕ, Bool, List, [], ◌∷◌, ◌++◌, map, Option, Some, None, Result, Ok, Err, refl, sym, ap, subst}
+use Rattle.std.proofs.Common.{◌∙◌, inl, inr, arith, append-nil, append_assoc}
 use Rattle.cdp_messages.specs.declared.command.Asked.{Asked}
 use Rattle.cdp_messages.specs.declared.command.Refused.{Refused}
 use Rattle.cdp_messages.specs.Asked.{asked}
@@ -21,7 +21,8 @@ use Rattle.back_end.specs.Pairs.{root_step, attached_step, answered_step, routed
 use Rattle.back_end.specs.PairLaws.{StartIsPair, Incoming, arrives, happens, incoming_step, CanCome, StepsKeepPairs, Coming, coming_step}
 use Rattle.back_end.specs.PairLaws.{coming_steps, frame_to_root, frame_to_second, to_root, to_second, root_sent, second_moves, GoAlone}
 use Rattle.back_end.specs.PairLaws.{AreBoth, EachGoesAlone, StaysAttached, all_to_second, all_second_moves, SessionsAreToldAlone}
-use Rattle.back_end.specs.PairLaws.{EqualSessionsAreToldAlike}
+use Rattle.back_end.specs.PairLaws.{SessionsBeginAnew, EqualSessionsAreToldAlike, root_moves, AllCome, all_to_root, all_root_moves}
+use Rattle.back_end.specs.PairLaws.{RootsAreToldAlone, EqualRootsAreToldAlike}
 use Rattle.back_end.proofs.AskedLemmas.{AskedFits, frame-fits, session-fits}
 use Rattle.back_end.proofs.OwnTexts.{AskedTexts, frame-texts, session-texts}
 use Rattle.back_end.proofs.FrameLemmas.{asked-steps-well}
@@ -205,6 +206,22 @@ each-goes-alone (happens x) p can is room =
 
 -- ---- from a session's beginning
 
+-- a frame that attaches a session is answered at once
+begins : (routed : Routed) (own : Bool) (frame : List ℕ) (p : Pair) (session : ℕ) → IsPair p → p.sessions.attached ≡ None
+    → (routed_step routed own frame p).state.sessions.attached ≡ Some session
+    → second_state (routed_step routed own frame p).state ≡ record { side = p.side; client = new_client }
+begins Root own frame p session is none attached =
+    let no : ◌≡◌ {A = Option ℕ} None (Some session) = sym none ∙ attached in absurd cc
+begins Attached own frame p session is none attached =
+    let no : ◌≡◌ {A = Option ℕ} None (Some session) = sym none ∙ attached in absurd cc
+begins Answered own frame p session is none attached =
+    second-same (routing frame p.sessions).sessions.attached session p.side (second_state p) attached refl
+    ∙ ap (λ (c : Client). record { side = p.side; client = c }) (is.fresh none)
+
+pub sessions-begin-anew : SessionsBeginAnew
+sessions-begin-anew own frame p session is none attached =
+    begins (routing frame p.sessions).routed own frame p session is none attached
+
 coming-append : (cs ds : List Coming) (state : State)
     → (coming_steps (cs ++ ds) state).moves ≡ (coming_steps cs state).moves ++ (coming_steps ds (coming_steps cs state).state).moves
 coming-append [] ds state = refl
@@ -235,3 +252,21 @@ equal-sessions-are-told-alike one two is js p q pair stays pair2 stays2 begin co
     ∙ ap (λ (s : State). (coming_steps (all_to_second is p) s).moves) begin
     ∙ ap (λ (cs : List Coming). (coming_steps cs (second_state q)).moves) come
     ∙ sym (sessions-are-told-alone two js q pair2 stays2)
+
+-- ---- the root
+
+pub roots-are-told-alone : RootsAreToldAlone
+roots-are-told-alone [] p pair come = refl
+roots-are-told-alone (i ∷ is) p pair come =
+    let after = (incoming_step i p).state in
+    let later = roots-are-told-alone is after (steps-keep-pairs i p come.0 pair come.1) come.2 in
+    ap (λ (ms : List Move). root_moves i p ++ ms)
+    (later ∙ ap (λ (s : State). (coming_steps (all_to_root is after) s).moves) (each-goes-alone i p come.0 pair come.1).root)
+    ∙ sym (coming-append (to_root i p) (all_to_root is after) (root_state p))
+
+pub equal-roots-are-told-alike : EqualRootsAreToldAlike
+equal-roots-are-told-alike is js p q pair come pair2 come2 begin same =
+    roots-are-told-alone is p pair come
+    ∙ ap (λ (s : State). (coming_steps (all_to_root is p) s).moves) begin
+    ∙ ap (λ (cs : List Coming). (coming_steps cs (root_state q)).moves) same
+    ∙ sym (roots-are-told-alone js q pair2 come2)

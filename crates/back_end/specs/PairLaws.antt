@@ -1,5 +1,5 @@
 -- What holds of two clients of one page, and of what each of them is told.
-use Rattle.std.specs.Prelude.{◌≡◌, ◌⊎◌, ℕ, Bool, List, [], ◌∷◌, ◌++◌, ⊤, Some, Result}
+use Rattle.std.specs.Prelude.{◌≡◌, ◌⊎◌, ℕ, Bool, List, [], ◌∷◌, ◌++◌, ⊤, Some, None, Result}
 use Rattle.page_forms.specs.Pages.{LoadedPage, CanLoadPage}
 use Rattle.page_forms.specs.Texts.{PageHasTexts}
 use Rattle.cdp_messages.specs.declared.command.Asked.{Asked}
@@ -12,7 +12,7 @@ use Rattle.session_runs.specs.World.{Stepped}
 use Rattle.session_mux.specs.declared.router.Routed.{Routed}
 use Rattle.session_mux.specs.declared.router.Routed.TheVariants.{Root, Attached, Answered}
 use Rattle.session_mux.specs.Routes.{routing}
-use Rattle.back_end.specs.States.{State}
+use Rattle.back_end.specs.States.{State, new_client}
 use Rattle.back_end.specs.Steps.{Step, idle, followed_by, asked_step, Turn, turn_step}
 use Rattle.back_end.specs.Outside.{Outward, asked_outward, outside_step}
 use Rattle.back_end.specs.Laws.{IsTurn}
@@ -92,9 +92,13 @@ abbrev pub said_at_once : Incoming → Pair → List Message
 said_at_once (arrives own frame) p = (routing frame p.sessions).said
 said_at_once (happens x) p = []
 
--- what the root is sent by a step
+-- what the root is told by a step, but for that
+abbrev pub root_moves : Incoming → Pair → List Move
+root_moves i p = (coming_steps (to_root i p) (root_state p)).moves
+
+-- what the root is sent by it
 abbrev pub root_sent : Incoming → Pair → List ℕ
-root_sent i p = message_frames (said_at_once i p) ++ frames_of_moves (coming_steps (to_root i p) (root_state p)).moves
+root_sent i p = message_frames (said_at_once i p) ++ frames_of_moves (root_moves i p)
 
 -- what the second client is told by it
 abbrev pub second_moves : Incoming → Pair → List Move
@@ -120,6 +124,13 @@ abbrev pub EachGoesAlone : Type 0
 EachGoesAlone = (i : Incoming) (p : Pair) → CanCome i → IsPair p → PairHasRoom p → GoAlone i p
 
 -- ---- a session from its beginning
+
+-- A session that is attached begins with a client that has asked for nothing, over the page as it is then.
+abbrev pub SessionsBeginAnew : Type 0
+SessionsBeginAnew =
+    (own : Bool) (frame : List ℕ) (p : Pair) (session : ℕ) → IsPair p → p.sessions.attached ≡ None
+    → (pair_step own frame p).state.sessions.attached ≡ Some session
+    → second_state (pair_step own frame p).state ≡ record { side = p.side; client = new_client }
 
 -- Over all of this, each of which can come, there is room before each step, and the session of that number is attached before and after
 -- each.
@@ -150,3 +161,33 @@ EqualSessionsAreToldAlike =
     (one two : ℕ) (is js : List Incoming) (p q : Pair) → IsPair p → StaysAttached one is p → IsPair q → StaysAttached two js q
     → second_state p ≡ second_state q → all_to_second is p ≡ all_to_second js q
     → all_second_moves is p ≡ all_second_moves js q
+
+-- ---- the root from any moment on
+
+-- each of this can come, and there is room before each step
+abbrev pub AllCome : List Incoming → Pair → Type 0
+AllCome [] p = ⊤
+AllCome (i ∷ is) p = CanCome i × PairHasRoom p × AllCome is (incoming_step i p).state
+
+-- all that comes to the root
+abbrev pub all_to_root : List Incoming → Pair → List Coming
+all_to_root [] p = []
+all_to_root (i ∷ is) p = to_root i p ++ all_to_root is (incoming_step i p).state
+
+-- all that it is told, but for what is answered at once
+abbrev pub all_root_moves : List Incoming → Pair → List Move
+all_root_moves [] p = []
+all_root_moves (i ∷ is) p = root_moves i p ++ all_root_moves is (incoming_step i p).state
+
+-- The root too is told just what its own state and what comes to it make.
+abbrev pub RootsAreToldAlone : Type 0
+RootsAreToldAlone =
+    (is : List Incoming) (p : Pair) → IsPair p → AllCome is p
+    → all_root_moves is p ≡ (coming_steps (all_to_root is p) (root_state p)).moves
+
+-- So two roots that begin alike and to which the same comes are told the same, whatever else comes to the attached sessions.
+abbrev pub EqualRootsAreToldAlike : Type 0
+EqualRootsAreToldAlike =
+    (is js : List Incoming) (p q : Pair) → IsPair p → AllCome is p → IsPair q → AllCome js q
+    → root_state p ≡ root_state q → all_to_root is p ≡ all_to_root js q
+    → all_root_moves is p ≡ all_root_moves js q

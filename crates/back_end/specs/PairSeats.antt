@@ -1,5 +1,5 @@
 -- Two seats and a router, with the page's side, that stand for two clients of the page.
-use Rattle.std.specs.Prelude.{◌≡◌, ◌<◌, ℕ, List, [], All, ⊤, false, Option, Some, None}
+use Rattle.std.specs.Prelude.{◌≡◌, ◌<◌, ◌↔◌, ℕ, List, [], All, ⊤, false, Option, Some, None}
 use Rattle.node_tree.specs.Numbers.{drawn_before_step}
 use Rattle.node_binding.specs.Bindings.{empty_from}
 use Rattle.dom_breakpoints.specs.Watched.{unwatched}
@@ -17,7 +17,7 @@ use Rattle.back_end.specs.declared.side.PageSide.{PageSide}
 use Rattle.back_end.specs.States.{new_client}
 use Rattle.back_end.specs.Seats.{StandsFor, HasRoomLeft}
 use Rattle.back_end.specs.Starts.{IsNewSeat}
-use Rattle.back_end.specs.Pairs.{Pair, root_state, second_state, loaded_pair}
+use Rattle.back_end.specs.Pairs.{Pair, root_state, second_state, loaded_pair, PairHasRoom}
 
 -- The seats stand for the two clients' states, and the router has the sessions; while no session is attached, the second client has
 -- asked for nothing.
@@ -38,6 +38,10 @@ IsPairSeated mux side = mux.is_dead ≡ false → ∥ ((p : Pair) × PairStandsF
 -- both seats have room, and a number is left for another session
 abbrev pub PairHasRoomLeft : Mux → PageSide → Type 0
 PairHasRoomLeft mux side = HasRoomLeft mux.root side × HasRoomLeft mux.second side × (mux.router.next < drawn_before_step)
+
+-- what is left for the seats is the room of the clients that they stand for
+abbrev pub PairsHaveRoomLeft : Type 0
+PairsHaveRoomLeft = (mux : Mux) (side : PageSide) (p : Pair) → PairStandsFor mux side p → PairHasRoomLeft mux side ↔ PairHasRoom p
 
 -- two new seats and a new router
 pub record IsNewMux (mux : Mux) (side : PageSide) (page : LoadedPage) : Type 0 where

@@ -2,8 +2,9 @@
 ghost use Rattle.back_end.specs.Laws.{FramesStepWell, TurnsStepWell, UndoRestores};
 ghost use Rattle.back_end.specs.SearchLaws.{SearchesFindShown, SearchesKeepFound, EditsKeepFound, AsksKeepFound, FoundIsForgotten};
 ghost use Rattle.back_end.specs.Outside.{OutsideStepsWell, TurnsLeadAlike};
-ghost use Rattle.back_end.specs.PairLaws.{StartIsPair, StepsKeepPairs, EachGoesAlone, SessionsAreToldAlone, EqualSessionsAreToldAlike};
-ghost use Rattle.back_end.specs.PairSeats.{NewPairsStand};
+ghost use Rattle.back_end.specs.PairLaws.{StartIsPair, StepsKeepPairs, EachGoesAlone, SessionsBeginAnew, SessionsAreToldAlone};
+ghost use Rattle.back_end.specs.PairLaws.{EqualSessionsAreToldAlike, RootsAreToldAlone, EqualRootsAreToldAlike};
+ghost use Rattle.back_end.specs.PairSeats.{NewPairsStand, PairsHaveRoomLeft};
 ghost use Rattle.back_end.specs.Starts.{StartIsState, NewSeatsStand, SheetNumbersDiffer};
 
 /// After each step the state is valid, its history too, its moves lead from what the client saw to what it sees then, a frame is
@@ -48,13 +49,18 @@ pub fn outside_law()
 {}
 
 /// Two clients of one page: each step leads from a state that can be to one that can be, and each client goes on by its own state and by
-/// what comes to it alone: its own frames, what the other's frames are to the page, and the steps of a script. So two sessions that begin
-/// alike, and to which the same comes, are told the same, whatever else their roots ask, open, watch or switch.
+/// what comes to it alone: its own frames, what the other's frames are to the page, and the steps of a script. A session begins with a
+/// client that has asked for nothing. So two sessions that begin alike, and to which the same comes, are told the same, whatever else
+/// their roots ask, open, watch or switch; and so are two roots, but for what is answered at once.
 pub fn two_clients_law()
     ensures start { StartIsPair }
     ensures stands { NewPairsStand }
+    ensures room { PairsHaveRoomLeft }
     ensures steps { StepsKeepPairs }
     ensures alone { EachGoesAlone }
+    ensures anew { SessionsBeginAnew }
     ensures told { SessionsAreToldAlone }
     ensures alike { EqualSessionsAreToldAlike }
+    ensures roots_told { RootsAreToldAlone }
+    ensures roots_alike { EqualRootsAreToldAlike }
 {}

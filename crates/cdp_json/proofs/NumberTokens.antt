@@ -1,6 +1,6 @@
 -- Numbers spelled as they are written, and that none comes.
 use Rattle.std.proofs.Common.{◌≡◌, ℕ, ◌<◌, ◌^◌, List, [], ◌∷◌, true, false, Result, Ok, Err}
-use Rattle.std.proofs.Common.{sym, ap, ◌∙◌, decimal}
+use Rattle.std.proofs.Common.{sym, ap, ◌∙◌, decimal, arith}
 use Rattle.std.specs.Str.Parse.{digits_value, ParsesUnsigned}
 use Rattle.std.proofs.lemmas.Fmt.{decimal_is_IsNumeral, parse-decimal}
 use Rattle.std.proofs.lemmas.Bool.Decides.{nat_tests}

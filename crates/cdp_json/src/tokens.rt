@@ -172,7 +172,6 @@ pub fn is_counted(number: u64) -> bool
 }
 
 /// The member of that name, which is a number from 0 to 2^53-1 spelled as it is written.
-#[tactic(auto, using(crate::proofs::NumberTokens::none_counted))]
 pub fn take_counted_field(reader: &mut Reader<'_>, name: &str) -> Result<u64, ScanErr>
     ensures read { IfOk result (λ n. reader.old ≡ field_tokens name.now (Some (whole.spell n)) ++ reader.new) }
     ensures fits { IfOk result (λ n. whole.fits n ≡ true) }

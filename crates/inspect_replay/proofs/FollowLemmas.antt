@@ -55,7 +55,7 @@ use Rattle.inspect_replay.specs.Prints.{IsRead, ReadsAt}
 use Rattle.inspect_replay.specs.Runs.{ends_of}
 use Rattle.inspect_replay.specs.Moments.{moment}
 use Rattle.inspect_replay.specs.Stops.{GoesWell}
-use Rattle.inspect_world.proofs.SeatRoom.{room-of}
+use Rattle.back_end.proofs.SeatRoom.{room-of}
 use Rattle.inspect_replay.specs.Starts.{IsNew}
 use Rattle.back_end.proofs.StartLemmas.{stands-first}
 use Rattle.inspect_replay.proofs.RunLemmas.{first_ends, ends-first}

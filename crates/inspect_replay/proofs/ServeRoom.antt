@@ -19,7 +19,7 @@ use Rattle.session_runs.specs.World.{steps}
 use Rattle.inspect_world.specs.Links.{bytes_among}
 use Rattle.inspect_world.proofs.CountLemmas.{command-ids, ids-left, few-edits, frames-within, bytes-append}
 use Rattle.back_end.proofs.StartLemmas.{IsState-first}
-use Rattle.inspect_world.proofs.SeatRoom.{has-room-left}
+use Rattle.back_end.proofs.SeatRoom.{has-room-left}
 use Rattle.inspect_replay.specs.declared.service.Service.{Service}
 use Rattle.inspect_replay.specs.Serving.{first_served, served_step, served_run}
 use Rattle.inspect_replay.specs.ServeRoom.{CameFew, HasBytesLeft}

@@ -43,7 +43,7 @@ use Rattle.inspect_world.proofs.FitLemmas.{world_laws, fit-room}
 use Rattle.inspect_world.proofs.Messages.{IsText-sent, ask_in-sent, IsNext-sent}
 use Rattle.inspect_world.proofs.FetchForms.{fetcher-text, fetcher-asks, fetcher-next}
 use Rattle.inspect_world.proofs.Scripts.{frame-left, edits-left, fits-loaded}
-use Rattle.inspect_world.proofs.SeatRoom.{has-room-left}
+use Rattle.back_end.proofs.SeatRoom.{has-room-left}
 use Rattle.session_runs.proofs.Folds.{Halves, folded-append, folded-halves, folded-rest, joined-append}
 use Rattle.inspect_world.proofs.Pipes.{carries-start, carries-put, carries-get, waiting-is}
 

@@ -12,7 +12,6 @@ pub mod FetchTold
 pub mod TurnLemmas
 pub mod FitLemmas
 pub mod Scripts
-pub mod SeatRoom
 pub mod Ends
 pub mod CountLemmas
 pub mod StepSends

@@ -49,7 +49,7 @@ use Rattle.inspect_world.proofs.CountLemmas.{events-counted, frames-few, frames-
 use Rattle.inspect_world.proofs.CountLemmas.{made-last}
 use Rattle.inspect_world.proofs.CountLemmas.{more_serials, more_numbers, more_searches, is-full, ids-left, serials-left, numbers-left}
 use Rattle.inspect_world.proofs.CountLemmas.{searches-left, few-edits}
-use Rattle.inspect_world.proofs.SeatRoom.{has-room-left, seated-state}
+use Rattle.back_end.proofs.SeatRoom.{has-room-left, seated-state}
 use Rattle.inspect_world.proofs.StepSends.{Sends, same-drew, frame-sends, turn-sends, happened-state, happened-sent, frames-last}
 use Rattle.inspect_world.proofs.StepSends.{goes-start, goes-put, goes-get, goes-waits, sent_since-is, given_since-is, Folds, folds-sent}
 

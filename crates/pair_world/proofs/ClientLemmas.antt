@@ -17,16 +17,16 @@ use Rattle.front_mirror.specs.declared.replies.MatchedReply.{MatchedReply}
 use Rattle.front_mirror.specs.Front.{FrontValue, first_value, take_frame}
 use Rattle.front_mirror.specs.Laws.{matched_after, IsOfSheet, InTurn, rests, meets}
 use Rattle.front_mirror.proofs.FoldLemmas.{take_frame-more}
-use Rattle.node_binding.proofs.SessionLemmas.{IsSession-begun}
-use Rattle.back_end.specs.States.{Side, State, nodes_shown, view_of, IsState}
+use Rattle.back_end.specs.States.{Side, State, view_of, IsState}
 use Rattle.back_end.specs.Steps.{Step, Turn, frame_step, turn_step}
 use Rattle.back_end.specs.Laws.{IsAnswered, IsTurn, reply_ids}
 use Rattle.back_end.specs.Outside.{Outward, frame_outward, outside_step}
-use Rattle.back_end.proofs.WatchedLemmas.{none-set}
 use Rattle.back_end.proofs.FrameLemmas.{frame-steps-well}
 use Rattle.back_end.proofs.StepLemmas.{turn-steps-well}
 use Rattle.back_end.proofs.AnswerLemmas.{turn-answers}
-use Rattle.back_end.proofs.OutsideSteps.{IsDone, frame-done, outside-done, turn-sides}
+use Rattle.back_end.proofs.OutsideSteps.{IsDone, asked-done, outside-done, turn-sides}
+use Rattle.back_end.proofs.OwnTexts.{frame-texts}
+use Rattle.back_end.proofs.PairLemmas.{fresh-state}
 use Rattle.inspect_world.specs.RunStates.{ToldStyles, styles_answered}
 use Rattle.inspect_world.specs.Fits.{ask_of_frame, Sendable, is_ask, is_bare, kept_styles}
 use Rattle.inspect_world.proofs.Messages.{AskedAs, commanded, refused_as, asked-ask, fetch-method}
@@ -185,7 +185,8 @@ client-owns text v side c more room may shows =
     let well = frame-steps-well false state text shows.is_state room in
     let done : Step = frame_step false text state in
     let quiet : AreQuiet done.moves = course-quiet done.moves (view_of state) (view_of done.state) well.0.course in
-    let to_page : IsDone state (frame_outward false text state) done.state.side = frame-done false text state shows.is_state room in (
+    let to_page : IsDone state (frame_outward false text state) done.state.side =
+    asked-done (asked text false) state (frame-texts false text) shows.is_state room in (
       leads v side c (option_to_list (ask_of_frame text) ++ more) more done (styles_answered text state) shows well.0.is_state
           well.0.course
           (subst (λ xs. InTurn done.moves xs more) shows.waiting (in-turn text state more may.sendable well.1 quiet))
@@ -211,23 +212,6 @@ client-acts x v side c asks room turn shows =
     let well = (turn-steps-well state x shows.is_state room turn).0 in
     leads-quietly v side c asks (turn_step x state) shows well.is_state well.course (turn-answers x state)
 
--- a client that has asked for nothing yet has a valid state wherever another one has
-fresh-is : (state : State) → IsState state → IsState (state_of state.side fresh_client)
-fresh-is state is = record {
-  now = record {
-    page = is.now.page;
-    texts = is.now.texts;
-    sheets = is.now.sheets;
-    session = IsSession-begun (nodes_shown (state_of state.side fresh_client));
-    off = λ off. refl;
-    css_off = λ off. refl;
-    all_shown = λ off. refl;
-    watched = λ kind serial here. none-set kind serial here;
-    none_watched = λ none. refl;
-  };
-  history = record { past = tt; future = tt; going = λ going. let no : false ≡ true = going in absurd cc };
-}
-
 -- a front end that was told nothing shows it
 pub shows-fresh : (side : Side) → IsState (state_of side fresh_client) → Shows (first_value []) side fresh_client []
 shows-fresh side is = record { has = record { tree = refl; sheets = tt }; styles = refl; waiting = refl; is_state = is }
@@ -248,7 +232,7 @@ client_laws = record {
   outsides = client-outsides;
   acts = client-acts;
   acts_alike = λ x side one two. turn-sides x (state_of side one) (state_of side two) refl;
-  begins = λ v side c asks shows. shows-fresh side (fresh-is (state_of side c) shows.is_state);
+  begins = λ v side c asks shows. shows-fresh side (fresh-state (state_of side c) shows.is_state);
   joins = client-joins;
   apart = texts-apart;
   attached_down = attached-down;

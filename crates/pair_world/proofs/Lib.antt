@@ -5,3 +5,4 @@ pub mod ClientLemmas
 pub mod PairLemmas
 pub mod WayLemmas
 pub mod SendLemmas
+pub mod SameSteps

@@ -2,9 +2,8 @@
 use Rattle.std.proofs.Common.{◌≡◌, ℕ, List, [], ◌∷◌, ◌++◌, map, codes, Bool, true, false, cond, bytes_eq, Option, Some, None}
 use Rattle.std.proofs.Common.{option_map, Ok}
 use Rattle.std.proofs.Common.{refl, sym, ◌∙◌, ap, subst, append-nil, arith}
-use Rattle.std.specs.Prelude.{All, IsUtf8, ⊤, option_and_then, unwrap_or}
+use Rattle.std.specs.Prelude.{IsUtf8, ⊤, option_and_then, unwrap_or}
 use Rattle.std.specs.List.{flat_map}
-use Rattle.std.proofs.lemmas.List.Elements.{All-nil, All-cons}
 use Rattle.json.proofs.Printed.Utf8.{IsUtf8-are_ascii}
 use Rattle.serde_json.specs.Data.{Data, null, boolean, number, string, array, object, unsigned, Members, no_members, member}
 use Rattle.serde_json.specs.Find.{as_object, as_str}
@@ -15,18 +14,18 @@ use Rattle.cdp_json.specs.Kinds.{as_whole, is_counted, holds_of_some}
 use Rattle.cdp_json.specs.Plain.{is_plain, HasUtf8}
 use Rattle.cdp_json.specs.Lookups.{then_ok, required, with_later, no_lookups}
 use Rattle.cdp_json.proofs.ReadBack.{IsUtf8-compact_text}
-use Rattle.pipe_frames.specs.Frames.{IsText, framed, frames_of}
+use Rattle.pipe_frames.specs.Frames.{framed, frames_of}
 use Rattle.cdp_messages.specs.declared.command.Param.TheVariants as param
 use Rattle.cdp_messages.specs.declared.command.Why.{Why}
 use Rattle.cdp_messages.specs.declared.command.Why.TheVariants.{BadParam, NoSession, NoTarget, SessionTaken, NoTargetSession}
-use Rattle.cdp_messages.specs.Asked.{json_of, refusal, command_value, command_text}
+use Rattle.cdp_messages.specs.Asked.{json_of, asked, refusal, command_value, command_text}
 use Rattle.cdp_messages.specs.Laws.{Shallow}
 use Rattle.cdp_messages.specs.Replies.{Message, reply, message_text, message_frames, refusal_message, refused_text}
 use Rattle.cdp_messages.specs.SessionFrames.{session_name}
 use Rattle.cdp_messages.proofs.Commands.{ask_plain, asks_are_asked}
 use Rattle.cdp_messages.proofs.Messages.{json_of-compact_text}
 use Rattle.cdp_messages.proofs.SessionFrames.{sessions_are_asked}
-use Rattle.client_views.specs.Moves.{Move, message_of, frames_of_moves}
+use Rattle.client_views.specs.Moves.{message_of, frames_of_moves}
 use Rattle.back_end.specs.States.{Side}
 use Rattle.session_mux.specs.declared.router.Routed.TheVariants.{Root}
 use Rattle.session_mux.specs.Sessions.{Sessions, session_text, is_attached}
@@ -37,7 +36,8 @@ use Rattle.session_mux.specs.Routes.{left_to, refused, routing_by}
 use Rattle.session_mux.specs.Tags.{AreMessages}
 use Rattle.session_mux.specs.TaggedTexts.{session_end, tagged_frame}
 use Rattle.session_mux.proofs.TextLemmas.{frames-tagged}
-use Rattle.inspect_world.proofs.StepsTaken.{AreTexts, course-texts}
+use Rattle.client_views.proofs.MoveTexts.{course-texts}
+use Rattle.back_end.proofs.PairLemmas.{moves-are-messages, all-texts}
 use Rattle.session_runs.specs.World.{Stepped}
 use Rattle.session_runs.specs.Pairs.{Way, to_root, to_session, attaches, detaches, client_pair, second_step, way_step}
 use Rattle.pair_world.specs.SessionWays.{text_without_session, text_in, attach_method, detach_method, target_way, request_way, way_by}
@@ -211,6 +211,7 @@ roots-are-usual frame text root = record {
             (ap (λ b. by (bytes_eq attach_method r.method) b r) (sym detaching) ∙ way));
       };
   same_id = λ r is named. absurd (named (missing r r.session refl (sym (ap (way_by frame) is) ∙ root)));
+  same_ask = λ r is named. absurd (named (missing r r.session refl (sym (ap (way_by frame) is) ∙ root)));
 } where
   by : Bool → Bool → Request → Way (List ℕ)
   by a d r = cond a (attaches r.id) (cond d (detaches r.id (text_in (field_of as_str session_name r.params))) (to_root frame))
@@ -249,6 +250,8 @@ sessions-are-usual id method params t c without are =
           let same : one ≡ r = same-request one r (sym found ∙ is) in
           ap (λ text. option_map (λ (q : Request). q.id) (request_of text)) (session-off id method params t c)
           ∙ kept-id id method params p.0 without p.1 ∙ ap (λ (q : Request). Some q.id) same;
+      same_ask = λ r is named.
+          ap (λ text. asked text false) (session-off id method params t c) ∙ sessions-ask-the-same id method params t c without;
     }
 
 -- a command without a session is usual where its parameters are what its method asks for
@@ -262,6 +265,8 @@ target-usual id method ps c has =
     record {
       params = λ r is missing. subst HasTargetParams (same-request one r (sym found ∙ is)) has;
       same_id = λ r is named.
+          absurd (named (sym (ap (λ (q : Request). q.session) (same-request one r (sym found ∙ is)))));
+      same_ask = λ r is named.
           absurd (named (sym (ap (λ (q : Request). q.session) (same-request one r (sym found ∙ is)))));
     }
 
@@ -317,8 +322,14 @@ module _ (frame : List ℕ) (side : Side) (root second : RunClient) (next : ℕ)
 
   attach-by : (id : ℕ) (attached : Option ℕ)
       → TiedWith attached (attaches id) (routed_by attached attach_method id (unless_taken attached))
-  attach-by id None = (one-message (reply id (attached_result next)), refl)
-  attach-by id (Some k) = (one-message (refusal_message (refusal (Some id) SessionTaken)), refl)
+  attach-by id None = (
+    record { sent = one-message (reply id (attached_result next)); side = refl; root = refl; second = refl },
+    refl,
+  )
+  attach-by id (Some k) = (
+    record { sent = one-message (refusal_message (refusal (Some id) SessionTaken)); side = refl; root = refl; second = refl },
+    refl,
+  )
 
   attach-tied : (id : ℕ) (params : Members) (attached : Option ℕ) → attach_fields.gets params ≡ Ok (page_target, (tt, tt))
       → TiedWith attached (attaches id) (routed_by attached attach_method id (attach_refusal params attached))
@@ -330,7 +341,10 @@ module _ (frame : List ℕ) (side : Side) (root second : RunClient) (next : ℕ)
   detach-by : (id : ℕ) (t : List ℕ) (attached : Option ℕ)
       → TiedWith attached (detaches id t)
       (routed_by attached detach_method id (cond (is_attached attached t) None (Some NoTargetSession)))
-  detach-by id t None = (one-message (refusal_message (refusal (Some id) NoTargetSession)), refl)
+  detach-by id t None = (
+    record { sent = one-message (refusal_message (refusal (Some id) NoTargetSession)); side = refl; root = refl; second = refl },
+    refl,
+  )
   detach-by id t (Some k) = at (bytes_eq (session_text k) t) where
     done : Bool → Stepped PageSessions
     done b =
@@ -343,8 +357,14 @@ module _ (frame : List ℕ) (side : Side) (root second : RunClient) (next : ℕ)
 
     at : (b : Bool)
         → StepsBy (said b).routed frame (pair_with (Some k)) (done b) (said b) × (sessions_of (done b).state ≡ (said b).sessions)
-    at true = (one-message (reply id (object no_members)), refl)
-    at false = (one-message (refusal_message (refusal (Some id) NoTargetSession)), refl)
+    at true = (
+      record { sent = one-message (reply id (object no_members)); side = refl; root = refl; second = refl },
+      refl,
+    )
+    at false = (
+      record { sent = one-message (refusal_message (refusal (Some id) NoTargetSession)); side = refl; root = refl; second = refl },
+      refl,
+    )
 
   -- the session that the parameters of a detach name
   detach-text : (params : Members) (t : List ℕ) → detach_fields.gets params ≡ Ok (t, tt) → text_in (field_of as_str session_name params) ≡ t
@@ -385,7 +405,10 @@ module _ (frame : List ℕ) (side : Side) (root second : RunClient) (next : ℕ)
 
   named-tied : (id : ℕ) (t : List ℕ) (attached : Option ℕ) → option_map (λ (q : Request). q.id) (request_of text_less) ≡ Some id
       → TiedWith attached (to_session t text_less) (by_name (is_attached attached t) id (routed_with attached))
-  named-tied id t None same = (none-known text_less id same, refl)
+  named-tied id t None same = (
+    record { sent = none-known text_less id same; side = refl; root = refl; second = refl },
+    refl,
+  )
   named-tied id t (Some k) same = at (bytes_eq (session_text k) t) where
     done : Bool → Stepped PageSessions
     done b =
@@ -396,13 +419,19 @@ module _ (frame : List ℕ) (side : Side) (root second : RunClient) (next : ℕ)
         → StepsBy (by_name b id (routed_with (Some k))).routed frame (pair_with (Some k)) (done b) (by_name b id (routed_with (Some k)))
         × (sessions_of (done b).state ≡ (by_name b id (routed_with (Some k))).sessions)
     at true = ((k, refl, refl), refl)
-    at false = (none-known text_less id same, refl)
+    at false = (record { sent = none-known text_less id same; side = refl; root = refl; second = refl }, refl)
 
   -- no session's text is empty
   strange-tied : (id : ℕ) (attached : Option ℕ) → option_map (λ (q : Request). q.id) (request_of text_less) ≡ Some id
       → TiedWith attached (to_session [] text_less) (refused id NoSession (routed_with attached))
-  strange-tied id None same = (none-known text_less id same, refl)
-  strange-tied id (Some k) same = (none-known text_less id same, refl)
+  strange-tied id None same = (
+    record { sent = none-known text_less id same; side = refl; root = refl; second = refl },
+    refl,
+  )
+  strange-tied id (Some k) same = (
+    record { sent = none-known text_less id same; side = refl; root = refl; second = refl },
+    refl,
+  )
 
   request-tied : (r : Request) (session : Field (List ℕ)) (attached : Option ℕ) → request_of frame ≡ Some r → r.session ≡ session
       → IsUsual frame
@@ -428,14 +457,6 @@ frames-same k [] = refl
 frames-same k (frame ∷ frames) =
     ap (λ xs. xs ++ flat_map (λ frame. framed (text_tagged k frame)) frames) (framed-tagged k frame)
     ∙ ap (λ xs. tagged_frame (session_end k) frame ++ xs) (frames-same k frames)
-
-moves-are-messages : (ms : List Move) → frames_of_moves ms ≡ message_frames (map message_of ms)
-moves-are-messages [] = refl
-moves-are-messages (m ∷ ms) = ap (λ xs. framed (message_text (message_of m)) ++ xs) (moves-are-messages ms)
-
-all-texts : (ms : List Move) → AreTexts ms → All (λ m. IsText (message_text m)) (map message_of ms)
-all-texts [] texts = All-nil (λ m. IsText (message_text m))
-all-texts (m ∷ ms) texts = All-cons (λ m. IsText (message_text m)) (message_of m) (map message_of ms) texts.0 (all-texts ms texts.1)
 
 pub sessions-are-tagged : SessionsAreTagged
 sessions-are-tagged k ms u w course =

@@ -22,7 +22,7 @@ use Rattle.session_mux.specs.Tags.{session_frames}
 use Rattle.session_runs.specs.World.{Stepped}
 use Rattle.session_runs.specs.Pairs.{to_root, to_session, attaches, detaches, tagged, root_step, second_step, pair_step}
 use Rattle.pair_world.specs.SessionWays.{text_without_session, attach_method, detach_method, frame_way}
-use Rattle.pair_world.specs.Clients.{pair_reads, client_steps}
+use Rattle.pair_world.specs.Clients.{pair_reads, RunClient, fresh_client, client_steps}
 use Rattle.pair_world.specs.Shown.{IsSessionNumber}
 use Rattle.pair_world.specs.PairFits.{PageSessions}
 
@@ -84,11 +84,14 @@ pub record HasTargetParams (r : Request) : Type 0 where
   pub attaches : bytes_eq attach_method r.method ≡ true → attach_fields.gets r.params ≡ Ok (page_target, (tt, tt))
   pub detaches : bytes_eq detach_method r.method ≡ true → (t : List ℕ) × (detach_fields.gets r.params ≡ Ok (t, tt))
 
--- A frame as front ends send it: an attach and a detach have their parameters, and without its session a frame keeps its id.
+-- A frame as front ends send it: an attach and a detach have their parameters, and without its session a frame keeps its id and asks the
+-- same.
 pub record IsUsual (frame : List ℕ) : Type 0 where
   pub params : (r : Request) → request_of frame ≡ Some r → r.session ≡ Missing → HasTargetParams r
   pub same_id : (r : Request) → request_of frame ≡ Some r → r.session ≢ Missing
       → option_map (λ (q : Request). q.id) (request_of (text_without_session (json_of frame))) ≡ Some r.id
+  pub same_ask : (r : Request) → request_of frame ≡ Some r → r.session ≢ Missing
+      → asked (text_without_session (json_of frame)) false ≡ session_asked frame
 
 -- every frame of the root is
 abbrev pub RootsAreUsual : Type 0
@@ -104,13 +107,28 @@ abbrev pub TargetsAreUsual : Type 0
 TargetsAreUsual = (id k : ℕ) → is_counted id ≡ true → IsSessionNumber k
     → IsUsual (attach_text id) × IsUsual (detach_text id (session_text k))
 
+-- the second client after a frame that is answered at once, by the sessions before and after it: one that knows nothing where one was
+-- attached or detached
+abbrev pub second_after : Option ℕ → Option ℕ → RunClient → RunClient
+second_after None None c = c
+second_after None (Some k) c = fresh_client
+second_after (Some k) None c = fresh_client
+second_after (Some k) (Some j) c = c
+
+-- a frame that is answered at once sends just that, and changes nothing of the page and of the root's client
+pub record AnswersAtOnce (s : PageSessions) (done : Stepped PageSessions) (x : Routing) : Type 0 where
+  pub sent : done.sent ≡ message_frames x.said
+  pub side : done.state.side ≡ s.side
+  pub root : done.state.root ≡ s.root
+  pub second : done.state.second ≡ second_after s.attached x.sessions.attached s.second
+
 -- The step of a frame, by whose the frame is: the root's is the root's own step, the attached session's that session's own on the frame
 -- without the session, and what is answered at once sends just that.
 abbrev pub StepsBy : Routed → List ℕ → PageSessions → Stepped PageSessions → Routing → Type 0
 StepsBy Root frame s done x = done ≡ root_step pair_reads client_steps frame s
 StepsBy Attached frame s done x =
     (k : ℕ) × (s.attached ≡ Some k) × (done ≡ second_step pair_reads client_steps k (text_without_session (json_of frame)) s)
-StepsBy Answered frame s done x = done.sent ≡ message_frames x.said
+StepsBy Answered frame s done x = AnswersAtOnce s done x
 
 -- what the router says of a frame is what the run's step does, and the sessions afterwards are those of the router
 abbrev pub StepsAreRouted : Type 0

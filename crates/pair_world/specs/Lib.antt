@@ -5,3 +5,4 @@ pub mod Shown
 pub mod PairFits
 pub mod FrameLaws
 pub mod Sendings
+pub mod SameSteps

@@ -3,6 +3,7 @@
 ghost use Rattle.pair_world.specs.PairFits.{PairsFit, PairsShown, PairsSettle};
 ghost use Rattle.pair_world.specs.FrameLaws.{AsksAreTheRoots, AsksAreTheSessions, TargetsAreKnown, SessionsAskTheSame, StepsAreRouted};
 ghost use Rattle.pair_world.specs.Sendings.{AsksMayBeSent, SessionAsksMayBeSent, BareFramesMayBeSent, TargetsMayBeSent};
+ghost use Rattle.pair_world.specs.SameSteps.{StartsAreSame, FrameStepsAreSame, TurnsAreSame};
 ghost use Rattle.pair_world.specs.FrameLaws.{RootsAreUsual, SessionsAreUsual, TargetsAreUsual, SessionsAreTagged};
 
 /// Two sessions of one page, which was loaded, on one pipe, with a front end each. After any parts of a run, each of which may come when
@@ -40,4 +41,12 @@ pub fn sending_law()
     ensures session_asks { SessionAsksMayBeSent }
     ensures bare_frames { BareFramesMayBeSent }
     ensures targets { TargetsMayBeSent }
+{}
+
+/// The run's step of two clients, which is one by texts, is the back end's, which is one by messages: on each usual frame and on what a
+/// script does both leave the same clients and sessions, and send the same bytes.
+pub fn same_step_law()
+    ensures starts { StartsAreSame }
+    ensures frames { FrameStepsAreSame }
+    ensures turns { TurnsAreSame }
 {}

@@ -5,12 +5,14 @@
 //! ends, meet no fault and show just what each session's client sees; once all has come, no ask waits.
 //!
 //! `frame_law`: what is sent is routed and tagged as session_mux does it. `sending_law`: what front ends send may come in such a run.
+//! `same_step_law`: the run's step of two clients is the back end's.
 //!
 //! Its words are in specs/: what a frame is that comes down (`Incoming`) or goes up (`SessionWays`), what the front ends read and how the
 //! back end goes on for one client of two (`Clients`), what a front end shows of a client and what it may send (`Shown`), the runs
-//! (`PairFits`), what ties their frames to the router and the tags (`FrameLaws`), and what may come in them (`Sendings`).
+//! (`PairFits`), what ties their frames to the router and the tags (`FrameLaws`), what may come in them (`Sendings`), and how the step of a
+//! run is that of the back end (`SameSteps`).
 #![tactic(auto)]
 
 mod laws;
 
-pub use laws::{frame_law, pair_law, sending_law};
+pub use laws::{frame_law, pair_law, same_step_law, sending_law};

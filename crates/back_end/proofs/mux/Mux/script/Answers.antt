@@ -9,8 +9,8 @@ use Rattle.back_end.specs.Pairs.{Pair, root_state, second_state, pair_turn}
 use Rattle.back_end.specs.PairSeats.{PairStandsFor}
 use Rattle.back_end.specs.declared.seat.Seat.{Seat}
 use Rattle.back_end.proofs.OutsideSteps.{turn-sides}
-use Rattle.back_end.proofs.PairLemmas.{root-stands, turn-sent, guest-told, told-messages, second-some, guest-can-hear, turn-course, guest-of}
-use Rattle.back_end.proofs.PairLemmas.{root-kept}
+use Rattle.back_end.proofs.PairLemmas.{root-stands, turn-sent, guest-told, told-messages, second-some, guest-can-hear, turn-course}
+use Rattle.back_end.proofs.PairLemmas.{guest-of, root-kept}
 use Rattle.back_end.proofs.mux.Mux.script.Goals as goal
 
 pub serve_script-requires-clause-can_hear : goal.serve_script-requires-clause-can_hear

@@ -41,7 +41,8 @@ tag-requires c = record {
       moves-told own.moves (view_of (second_state x.0)) (view_of own.state) c.deref.result.now
       (second-course c.args.bytes.now c.args.self.now c.args.side.now x.0 x.1 c.requires.room)
       (c.deref.ensures.value
-      ∙ (c.in_ok-serve_asked.ensures {u = tt}).sent (session_asked c.args.bytes.now) (second_state x.0) c.read_session_command.ensures.asked here
+      ∙ (c.in_ok-serve_asked.ensures {u = tt}).sent (session_asked c.args.bytes.now) (second_state x.0)
+      c.read_session_command.ensures.asked here
       ∙ ap (λ bs. bs ++ frames_of_moves own.moves) c.new-said.ensures.items));
 }
 
@@ -56,7 +57,8 @@ returns-clause-stands c = λ p session attached stands.
     stands.root_stands
     (hears-outside c.root_as_guest.result c.serve_asked.new.guest c.args.side.now c.serve_asked.new.side (root_state p)
     (asked_outward r (second_state p))
-    (λ there. (c.in_ok-serve_asked.ensures {u = tt}).told r (second_state p) (root_state p) c.read_session_command.ensures.asked here there))
+    (λ there.
+    (c.in_ok-serve_asked.ensures {u = tt}).told r (second_state p) (root_state p) c.read_session_command.ensures.asked here there))
     (subst (λ (s : Seat). StandsFor s c.serve_asked.new.side own.state) (sym c.reseat_root.ensures.second)
     ((c.in_ok-serve_asked.ensures {u = tt}).stands r (second_state p) c.read_session_command.ensures.asked here))
     (second-asked-outside c.args.bytes.now c.args.self.now c.args.side.now p stands c.requires.room).side_is c.reseat_root.ensures.root
@@ -73,7 +75,8 @@ returns-clause-sent c = λ p session attached stands.
     other c.root_as_guest.ensures.guest stands.root_stands
     (hears-outside c.root_as_guest.result c.serve_asked.new.guest c.args.side.now c.serve_asked.new.side (root_state p)
     (asked_outward r (second_state p))
-    (λ there. (c.in_ok-serve_asked.ensures {u = tt}).told r (second_state p) (root_state p) c.read_session_command.ensures.asked here there)) in
+    (λ there.
+    (c.in_ok-serve_asked.ensures {u = tt}).told r (second_state p) (root_state p) c.read_session_command.ensures.asked here there)) in
     attached-sent p.sessions.attached c.in-Some.session own.moves other.moves heard.0.out.items c.args.out.now.items
     c.reseat_root.new.out.items c.tag.new.out.items
     (sym (ap (λ (s : Sessions). s.attached) stands.sessions_are) ∙ sym c.attached.ensures ∙ c.in-Some.is) heard.2
