@@ -1,5 +1,5 @@
 -- Who is served, one client or two on one pipe, and what their frames make.
-use Rattle.std.specs.Prelude.{◌≡◌, ℕ, List, [], ◌∷◌, None, true, ⊤}
+use Rattle.std.specs.Prelude.{◌≡◌, ℕ, Bool, List, [], ◌∷◌, None, true, false, ⊤}
 use Rattle.pipe_frames.specs.Frames.{frames_of}
 use Rattle.session_runs.specs.World.{Stepped, steps}
 use Rattle.session_mux.specs.Sessions.{no_sessions}
@@ -7,9 +7,9 @@ use Rattle.back_end.specs.declared.side.PageSide.{PageSide}
 use Rattle.back_end.specs.States.{State, loaded_state}
 use Rattle.back_end.specs.Steps.{frame_step}
 use Rattle.back_end.specs.Laws.{HasRoom}
-use Rattle.back_end.specs.Seats.{StandsFor, IsSeated, HasRoomLeft, first_page}
+use Rattle.back_end.specs.Seats.{StandsFor, HasRoomLeft, first_page}
 use Rattle.back_end.specs.Pairs.{Pair, loaded_pair, PairHasRoom, pair_step}
-use Rattle.back_end.specs.PairSeats.{PairStandsFor, IsPairSeated, PairHasRoomLeft, IsUnused}
+use Rattle.back_end.specs.PairSeats.{PairStandsFor, PairHasRoomLeft, IsUnused}
 use Rattle.inspect_world.specs.StepBytes.{as_bytes}
 use Rattle.inspect_replay.specs.declared.clients.Clients.{Clients}
 use Rattle.inspect_replay.specs.declared.clients.Clients.TheVariants.{Alone, Paired}
@@ -69,10 +69,14 @@ ClientsStandFor (Alone seat) side (paired pair) = ⊥
 ClientsStandFor (Paired mux) side (alone state) = ⊥
 ClientsStandFor (Paired mux) side (paired pair) = PairStandsFor mux side pair
 
+-- want of memory was answered
+abbrev pub are_dead : Clients → Bool
+are_dead (Alone seat) = seat.is_dead
+are_dead (Paired mux) = mux.is_dead
+
 -- seats that are not dead stand for some state, whichever
 abbrev pub AreSeated : Clients → PageSide → Type 0
-AreSeated (Alone seat) side = IsSeated seat side
-AreSeated (Paired mux) side = IsPairSeated mux side
+AreSeated clients side = are_dead clients ≡ false → ∥ ((now : Served) × ClientsStandFor clients side now) ∥₁
 
 -- the seats have room for a step
 abbrev pub HaveRoomLeft : Clients → PageSide → Type 0

@@ -7,7 +7,7 @@ ghost use Rattle.pipe_frames.specs.Whole.{ReadPart};
 ghost use Rattle.inspect_replay.specs.Answers.{StatusRose, AnswersFaults};
 ghost use Rattle.inspect_replay.specs.Served.{AreNew, first_of};
 ghost use Rattle.inspect_replay.specs.ServeReads.{AnswersInTurn, ReadsInTurn, SharesInTurn};
-ghost use Rattle.inspect_replay.specs.Serving.{IsServeStatus, IsShareStatus, ServeTook, ShareTook, AnswersTook};
+ghost use Rattle.inspect_replay.specs.Serving.{IsServeStatus, IsShareStatus, ServeTook, ShareTook};
 ghost use Rattle.inspect_replay.specs.Serving.{HasServed, HasServeCause, EndIsMet};
 ghost use Rattle.inspect_replay.specs.declared.stop.Stop.TheVariants.{ReadFault};
 
@@ -104,52 +104,6 @@ fn serve_source<S: Source, K: Sink>(
     service.serve_within(src, buf.as_mut_slice(), out)
 }
 
-/// Reads frames, and answers each as soon as it is whole.
-fn serve_clients<S: Source, K: Sink>(
-    alloc: Global,
-    clients: Clients,
-    src: &mut S,
-    out: &mut K,
-) -> Status
-    requires { AreNew clients }
-    ensures took { (input : List ℕ) → S.left src.old ≡ Some input → AnswersTook (first_of clients) result input (record {
-      left_before = S.left src.old;
-      left_after = S.left src.new;
-      taken_before = K.taken out.old;
-      taken_after = K.taken out.new;
-    }) }
-    // before each read what came was answered
-    ensures in_turn { AnswersInTurn (first_of clients) (S.calls src.old) (S.calls src.new) (record {
-      left_before = S.left src.old;
-      left_after = S.left src.new;
-      taken_before = K.taken out.old;
-      taken_after = K.taken out.new;
-    }) }
-    ensures only { IsShareStatus result }
-    ensures reads { ReadPart (S.left src.old) (S.left src.new) (max_input + 1) }
-    ensures cause { (link_before link_after : ℕ) → StatusRose (record {
-      source_before = S.faults src.old;
-      source_after = S.faults src.new;
-      sink_before = K.faults out.old;
-      sink_after = K.faults out.new;
-      link_before = link_before;
-      link_after = link_after;
-    }) result }
-    ensures answered { AnswersFaults (record {
-      source_before = S.faults src.old;
-      source_after = S.faults src.new;
-      sink_before = K.faults out.old;
-      sink_after = K.faults out.new;
-      link_before = 0;
-      link_after = 0;
-    }) result }
-{
-    match serve_source(alloc, clients, src, out) {
-        Ok(()) => Status::Done,
-        Err(stop) => status_of(stop),
-    }
-}
-
 /// Reads the frames of one client, and answers each as soon as it is whole. There is always room for its step.
 pub(crate) fn serve<S: Source, K: Sink>(alloc: Global, src: &mut S, out: &mut K) -> Status
     ensures took { (input : List ℕ) → S.left src.old ≡ Some input → ServeTook result input (record {
@@ -184,7 +138,10 @@ pub(crate) fn serve<S: Source, K: Sink>(alloc: Global, src: &mut S, out: &mut K)
       link_after = 0;
     }) result }
 {
-    serve_clients(alloc, Clients::Alone(Seat::new(alloc)), src, out)
+    match serve_source(alloc, Clients::Alone(Seat::new(alloc)), src, out) {
+        Ok(()) => Status::Done,
+        Err(stop) => status_of(stop),
+    }
 }
 
 /// Reads the frames of two clients on one pipe, and answers each as soon as it is whole.
@@ -221,5 +178,8 @@ pub(crate) fn share<S: Source, K: Sink>(alloc: Global, src: &mut S, out: &mut K)
       link_after = 0;
     }) result }
 {
-    serve_clients(alloc, Clients::Paired(Mux::new(alloc)), src, out)
+    match serve_source(alloc, Clients::Paired(Mux::new(alloc)), src, out) {
+        Ok(()) => Status::Done,
+        Err(stop) => status_of(stop),
+    }
 }

@@ -1,5 +1,5 @@
 // A back end that serves its clients, frame by frame.
-ghost use Rattle.std.specs.Prelude.{◌≡◌, ◌<◌, ◌∷◌, [], length, IfOk, OnOk};
+ghost use Rattle.std.specs.Prelude.{◌≡◌, ◌≤◌, ◌<◌, ◌∷◌, [], length, IfOk, OnOk};
 ghost use Rattle.pipe_frames.specs.Fault.{next_count};
 ghost use Rattle.inspect_replay.specs.Served.{Served, AreNew, AreSeated, first_of};
 
@@ -96,6 +96,7 @@ impl Service {
         out: &mut K,
     ) -> Result<usize, Stop>
         requires room { 0 < length buf.old }
+        ensures bound { IfOk result (λ n. n ≤ length buf.new) }
         ensures served { (so_far : SoFar) → Serves so_far (serve_moment self.old (K.taken out.old))
             → PieceServed so_far (serve_moment self.new (K.taken out.new))
             (record { before = S.left src.old; after = S.left src.new; most = length buf.new }) result }
