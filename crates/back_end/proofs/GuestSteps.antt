@@ -404,7 +404,8 @@ guest-texts (Some g) e texts = texts
 
 -- of the tree that moves
 pub moved-guest-texts : (a b : Option Guest) (s s1 : PageSide) (other : State) (done : Step) (serial parent there : ℕ)
-    (tree : Branch PageRow) → GuestStands a s other → Hears a b s1 done → tree ≡ node_at serial s.page.tree → GuestHasTexts b (Attach parent there tree)
+    (tree : Branch PageRow) → GuestStands a s other → Hears a b s1 done → tree ≡ node_at serial s.page.tree
+    → GuestHasTexts b (Attach parent there tree)
 moved-guest-texts None None s s1 other done serial parent there tree stands told is = tt
 moved-guest-texts None (Some h) s s1 other done serial parent there tree stands told is = absurd told
 moved-guest-texts (Some g) None s s1 other done serial parent there tree stands told is = tt

@@ -154,6 +154,17 @@ moves-told ms v w bytes course is = record {
   is = is ∙ moves-are-messages ms;
 }
 
+-- what is told of moves is sent to a session as their messages
+pub moves-tagged : (ms : List Move) (v w : View) (session : ℕ) (bytes out new : List ℕ) → Course ms v w → bytes ≡ frames_of_moves ms
+    → ((told : AreMessages bytes) → new ≡ out ++ session_frames session told.messages)
+    → new ≡ out ++ session_frames session (map message_of ms)
+moves-tagged ms v w session bytes out new course is tagged =
+    tagged (record {
+      messages = map message_of ms;
+      texts = moves-are-texts ms v w course;
+      is = is ∙ moves-are-messages ms;
+    })
+
 -- a guest that heard a step was told its messages
 pub guest-told : (attached : Option ℕ) (seat : Seat) (before after : PageSide) (old new : Option Guest) (other : State) (done : Step)
     (v w : View) → IsGuestOf attached seat old → StandsFor seat before other → (GuestStands old before other → Hears old new after done)

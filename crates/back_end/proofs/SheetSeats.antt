@@ -575,6 +575,11 @@ pub named-found : (sheet : List ℕ) (book entries : List SheetEntry) (e : Sheet
     → sheet_named sheet entries ≡ Some e
 named-found sheet book entries e found same = ap (sheet_named sheet) (sym same) ∙ sym found
 
+-- where none was found, none is there
+pub named-none : (sheet : List ℕ) (book entries : List SheetEntry) → None ≡ sheet_named sheet book → book ≡ entries
+    → sheet_named sheet entries ≡ None
+named-none sheet book entries found same = ap (sheet_named sheet) (sym same) ∙ sym found
+
 found-there : (id : ℕ) (es : List SheetEntry) (e : SheetEntry) → entry_of id es ≡ Some e → IsSome (entry_of e.id es)
 found-there id [] e k = absurd cc
 found-there id (x ∷ xs) e k = at (id == x.id) k (λ r. found-there id xs e r) where

@@ -195,6 +195,7 @@ impl Mux {
             → OnOk result (PairStandsFor self.new side.new (pair_step own bytes.now p).state) }
         ensures sent { (p : Pair) → PairStandsFor self.old side.old p
             → OnOk result (out.new.items ≡ out.old.items ++ (pair_step own bytes.now p).sent) }
+        ensures life { self.new.is_dead ≡ self.old.is_dead }
     {
         match self.router.route(self.alloc, bytes, out)? {
             Routed::Root => self.serve_root(side, bytes, own, out),
@@ -220,6 +221,7 @@ impl Mux {
             → OnOk result (PairStandsFor self.new side.new (root_step (asked bytes.now own) p).state) }
         ensures sent { (p : Pair) → PairStandsFor self.old side.old p
             → OnOk result (out.new.items ≡ out.old.items ++ (root_step (asked bytes.now own) p).sent) }
+        ensures life { self.new.is_dead ≡ self.old.is_dead }
     {
         let mut guest = self.second_as_guest();
         let mut said = Vec::new(self.alloc);
@@ -243,6 +245,7 @@ impl Mux {
             → OnOk result (PairStandsFor self.new side.new (attached_step (session_asked bytes.now) p).state) }
         ensures sent { (p : Pair) (session : ℕ) → p.sessions.attached ≡ Some session → PairStandsFor self.old side.old p
             → OnOk result (out.new.items ≡ out.old.items ++ (attached_step (session_asked bytes.now) p).sent) }
+        ensures life { self.new.is_dead ≡ self.old.is_dead }
     {
         let Some(session) = self.router.attached() else {
             return Ok(());
@@ -262,6 +265,7 @@ impl Mux {
         ensures unused { IsUnused self.new.second }
         ensures root { self.new.root ≡ self.old.root }
         ensures router { self.new.router ≡ self.old.router }
+        ensures life { self.new.is_dead ≡ self.old.is_dead }
     {
         let seat = mem::replace(&mut self.second, Seat::new(self.alloc));
         match self.router.attached() {
@@ -281,6 +285,7 @@ impl Mux {
         ensures router { self.new.router ≡ self.old.router }
         ensures sent { (messages : List Message) → WasToldOf self.old.router.attached guest messages
             → OnOk result (out.new.items ≡ out.old.items ++ sent_to self.old.router.attached messages) }
+        ensures life { self.new.is_dead ≡ self.old.is_dead }
     {
         let Some(guest) = guest else {
             return Ok(());
@@ -297,6 +302,7 @@ impl Mux {
         ensures guest { IsGuestAt self.old.root result }
         ensures second { self.new.second ≡ self.old.second }
         ensures router { self.new.router ≡ self.old.router }
+        ensures life { self.new.is_dead ≡ self.old.is_dead }
     {
         let seat = mem::replace(&mut self.root, Seat::new(self.alloc));
         Some(Guest {
@@ -311,6 +317,7 @@ impl Mux {
         ensures second { self.new.second ≡ self.old.second }
         ensures router { self.new.router ≡ self.old.router }
         ensures sent { (g : Guest) → guest ≡ Some g → OnOk result (out.new.items ≡ out.old.items ++ g.out.items) }
+        ensures life { self.new.is_dead ≡ self.old.is_dead }
     {
         let Some(guest) = guest else {
             return Ok(());
@@ -325,6 +332,7 @@ impl Mux {
         ensures second { IsRenewed self.old.router.attached self.old.second self.new.second }
         ensures root { self.new.root ≡ self.old.root }
         ensures router { self.new.router ≡ self.old.router }
+        ensures life { self.new.is_dead ≡ self.old.is_dead }
     {
         if self.router.attached().is_none() {
             self.second = Seat::new(self.alloc);

@@ -13,8 +13,8 @@ returns-clause-stands c = λ state stands.
     (sym c.is_full_for.ensures ∙ c.if-is_full_for.false)
     ((c.in_ok-sheet_comes.ensures {u = tt}).stands state stands c.requires.text)
 
-pub returns-in-if-is_full_for-clause-told : goal.returns-in-if-is_full_for-clause-told
-returns-in-if-is_full_for-clause-told c = λ other stands.
+pub returns-then-is_full_for-clause-told : goal.returns-then-is_full_for-clause-told
+returns-then-is_full_for-clause-told c = λ other stands.
     unacted-hears c.args.guest.now c.args.side.now other (act.AddSheet c.args.origin c.args.text.now) _ stands
     (too-big-fault c.args.text.now c.args.side.now.sheets.entries (sym c.is_full_for.ensures ∙ c.if-is_full_for.true))
 

@@ -10,6 +10,8 @@ loop-edit-init c = (
   tt,
   way-begin c.args.edits.items c.into_iter-edit-iterator.result.rest.items c.new-backs.result.items
       c.args.self.now c.args.side.now c.args.out.now.items (search rules) c.new-backs.ensures.items c.requires.taken,
+  heard-begin c.args.edits.items c.into_iter-edit-iterator.result.rest.items c.args.guest.now c.args.side.now (search rules)
+      c.requires.can_hear c.requires.serials c.requires.sheets,
 )
 
 pub apply_kept-requires-clause-taken : goal.apply_kept-requires-clause-taken

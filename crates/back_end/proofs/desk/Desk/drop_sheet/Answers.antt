@@ -1,5 +1,5 @@
 -- The sheet that is meant goes.
-use Rattle.back_end.proofs.SheetSeats.{named-found, named-there}
+use Rattle.back_end.proofs.SheetSeats.{named-found, named-none, named-there}
 use Rattle.std.proofs.Common.{sym, ap, ◌∙◌}
 use Rattle.page_forms.specs.declared.acts.Act.TheVariants as act
 use Rattle.back_end.specs.Sheets.{leaves}
@@ -16,8 +16,11 @@ sheet_leaves-requires c = record {
       c.book.ensures);
 }
 
-pub returns-in-None-clause-told : goal.returns-in-None-clause-told
-returns-in-None-clause-told c = ?
+pub returns-in_default-clause-told : goal.returns-in_default-clause-told
+returns-in_default-clause-told c = λ other stands.
+    unacted-hears c.args.guest.now c.args.side.now other (act.DropSheet c.args.sheet.now) _ stands
+    (ap drop_fault
+    (named-none c.args.sheet.now c.book.result.now c.args.side.now.sheets.entries (c.in_default.ensures {u = tt}).found c.book.ensures))
 
 pub returns-clause-told : goal.returns-clause-told
 returns-clause-told c = λ other stands.

@@ -1,5 +1,5 @@
 -- A load puts a new page in the place of the old one, and tells which sheets go and come.
-use Rattle.std.proofs.Common.{◌≡◌, ◌+◌, ◌++◌, length, map as mapped, List, [], ◌∷◌, cond, refl, sym, ap, ◌∙◌, append_assoc, arith}
+use Rattle.std.proofs.Common.{false, ◌≡◌, ◌+◌, ◌++◌, length, map as mapped, List, [], ◌∷◌, cond, refl, sym, ap, ◌∙◌, append_assoc, arith}
 use Rattle.std.proofs.lemmas.List.Concat.{flat_map-append}
 use Rattle.pipe_frames.specs.Frames.{framed}
 use Rattle.cdp_messages.specs.Replies.{message_frames}

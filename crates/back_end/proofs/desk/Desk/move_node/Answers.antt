@@ -1,5 +1,5 @@
 -- A move is a detach and an attach of what was taken out.
-use Rattle.std.proofs.Common.{[], ◌∷◌, sym, ap, arith}
+use Rattle.std.proofs.Common.{[], ◌∷◌, refl, sym, ap, arith}
 use Rattle.back_end.proofs.ScriptLemmas.{taken-out, moved-can, moved-texts, moved-stands, moved-sent}
 use Rattle.page_forms.specs.declared.acts.Act.TheVariants as act
 use Rattle.page_tree.specs.Pages.{node_at}
@@ -37,6 +37,10 @@ returns-clause-sent c = λ state stands.
     (sym c.in_default.ensures) c.moved_before-before.ensures (taken-out c.in-Attach.is c.in_ok-back.ensures.back)
     (c.in_ok-back.ensures.sent state stands)
     (c.in_ok-apply_by_script.ensures.sent _ (c.in_ok-back.ensures.stands state stands tt))
+
+pub apply_by_script-requires-clause-can : goal.apply_by_script-requires-clause-can
+apply_by_script-requires-clause-can c =
+    (move-leads c.args.side.now.page c.args.node c.args.parent c.args.before c.valid.ensures (sym c.in_default.ensures)).0
 
 pub apply_by_script-requires-clause-can_hear : goal.apply_by_script-requires-clause-can_hear
 apply_by_script-requires-clause-can_hear c = hear-fewer 2 1 c.args.guest.now c.args.side.now (omega arith) c.requires.can_hear

@@ -2,11 +2,11 @@
 use Rattle.std.proofs.Common.{sym, ◌∙◌}
 use Rattle.back_end.specs.Sheets.{leaves}
 use Rattle.back_end.specs.Steps.{sheet_step}
-use Rattle.back_end.proofs.SheetSeats.{named-found, named-there, replaced-stands, replaced-sent}
+use Rattle.back_end.proofs.SheetSeats.{named-found, named-none, named-there, replaced-stands, replaced-sent}
 use Rattle.page_forms.specs.declared.acts.Act.TheVariants as act
 use Rattle.std.proofs.Common.{ap}
 use Rattle.back_end.specs.Sheets.{comes}
-use Rattle.back_end.specs.Plans.{restyles, replacing}
+use Rattle.back_end.specs.Plans.{restyles, replace_fault, replacing}
 use Rattle.back_end.specs.Steps.{with_crossed, crossing}
 use Rattle.back_end.proofs.GuestSeats.{hears-stands}
 use Rattle.back_end.proofs.SheetSeats.{big-fault, fits-fault}
@@ -49,11 +49,14 @@ returns-clause-sent c = λ state stands.
     ((c.in_ok-sheet_comes.ensures {u = tt}).sent (sheet_step (leaves c.in-Some.entry.now.id) state).state
     ((c.in_ok-sheet_leaves.ensures {u = tt}).stands state stands))
 
-pub returns-in-None-clause-told : goal.returns-in-None-clause-told
-returns-in-None-clause-told c = ?
+pub returns-in_default-clause-told : goal.returns-in_default-clause-told
+returns-in_default-clause-told c = λ other stands.
+    unacted-hears c.args.guest.now c.args.side.now other (act.ReplaceSheet c.args.sheet.now c.args.text.now) _ stands
+    (ap (replace_fault c.args.text.now c.args.side.now.sheets.entries)
+    (named-none c.args.sheet.now c.book.result.now c.args.side.now.sheets.entries (c.in_default.ensures {u = tt}).found c.book.ensures))
 
-pub returns-in-if-is_full_without-clause-told : goal.returns-in-if-is_full_without-clause-told
-returns-in-if-is_full_without-clause-told c = λ other stands.
+pub returns-then-is_full_without-clause-told : goal.returns-then-is_full_without-clause-told
+returns-then-is_full_without-clause-told c = λ other stands.
     let found = named-found c.args.sheet.now c.book.result.now c.args.side.now.sheets.entries c.in-Some.entry.now c.in-Some.ensures.found
     c.book.ensures in
     unacted-hears c.args.guest.now c.args.side.now other (act.ReplaceSheet c.args.sheet.now c.args.text.now) _ stands

@@ -1,5 +1,5 @@
 -- The second client is the guest of the root while the script loads a page.
-use Rattle.std.proofs.Common.{◌≡◌, sym, subst, ◌∙◌, map}
+use Rattle.std.proofs.Common.{◌≡◌, refl, sym, subst, ◌∙◌, map}
 use Rattle.std.proofs.Math.Logic.{∥∥₁_map}
 use Rattle.client_views.specs.Moves.{message_of}
 use Rattle.page_forms.specs.Pages.{loaded_page}
@@ -22,9 +22,9 @@ reseat_second-requires c = record {
       map message_of (turn_step (loads (loaded_page c.args.form)) (second_state x.0)).moves) (c.requires.seated c.if-self.false)
       (λ (x : ((p : Pair) × PairStandsFor c.args.self.now c.args.side.now p)).
       let other = turn_step (loads (loaded_page c.args.form)) (second_state x.0) in
-      guest-told c.args.self.now.router.attached c.args.self.now.second c.args.side.now c.serve_load.new.side c.second_as_guest.result
-      c.serve_load.new.guest (second_state x.0) other (view_of (second_state x.0)) (view_of other.state) c.second_as_guest.ensures.guest
-      x.1.second_stands (λ here. (c.in_ok-serve_load.ensures {u = tt}).told (second_state x.0) here)
+      guest-told c.args.self.now.router.attached c.args.self.now.second c.args.side.now c.serve_load.new.side
+      c.second_as_guest-guest.result c.serve_load.new.guest (second_state x.0) other (view_of (second_state x.0)) (view_of other.state)
+      c.second_as_guest-guest.ensures.guest x.1.second_stands (λ here. (c.in_ok-serve_load.ensures {u = tt}).told (second_state x.0) here)
       (turn-course (loads (loaded_page c.args.form)) c.args.self.now c.args.side.now x.0 x.1 c.requires.room
       (c.requires.can, c.valid.ensures)));
 }
@@ -33,15 +33,15 @@ pub returns-clause-stands : goal.returns-clause-stands
 returns-clause-stands c = λ p stands.
     let own = turn_step (loads (loaded_page c.args.form)) (root_state p) in
     let other = turn_step (loads (loaded_page c.args.form)) (second_state p) in
-    root-stands p c.args.side.now c.serve_load.new.side c.args.self.now.second c.second_as_guest.new.self.second c.second_as_guest.result
-    c.serve_load.new.guest own other c.reseat_second.new.self
-    (guest-of c.args.self.now.second c.second_as_guest.result stands.sessions_are c.second_as_guest.ensures.guest)
-    c.second_as_guest.ensures.unused stands.second_stands (λ here. (c.in_ok-serve_load.ensures {u = tt}).told (second_state p) here)
+    root-stands p c.args.side.now c.serve_load.new.side c.args.self.now.second c.second_as_guest-guest.new.self.second
+    c.second_as_guest-guest.result c.serve_load.new.guest own other c.reseat_second.new.self
+    (guest-of c.args.self.now.second c.second_as_guest-guest.result stands.sessions_are c.second_as_guest-guest.ensures.guest)
+    c.second_as_guest-guest.ensures.unused stands.second_stands (λ here. (c.in_ok-serve_load.ensures {u = tt}).told (second_state p) here)
     (subst (λ (s : Seat). StandsFor s c.serve_load.new.side own.state) (sym c.reseat_second.ensures.root)
     ((c.in_ok-serve_load.ensures {u = tt}).stands (root_state p)
-    (root-kept c.args.side.now p c.second_as_guest.ensures.root stands.root_stands)))
+    (root-kept c.args.side.now p c.second_as_guest-guest.ensures.root stands.root_stands)))
     (turn-sides (loads (loaded_page c.args.form)) (root_state p) (second_state p) refl) c.reseat_second.ensures.second
-    (c.reseat_second.ensures.router ∙ c.second_as_guest.ensures.router ∙ stands.sessions_are)
+    (c.reseat_second.ensures.router ∙ c.second_as_guest-guest.ensures.router ∙ stands.sessions_are)
 
 pub returns-clause-seated : goal.returns-clause-seated
 returns-clause-seated c = λ alive.
@@ -53,19 +53,20 @@ pub returns-clause-sent : goal.returns-clause-sent
 returns-clause-sent c = λ p stands.
     let own = turn_step (loads (loaded_page c.args.form)) (root_state p) in
     let other = turn_step (loads (loaded_page c.args.form)) (second_state p) in
-    let sessions = c.second_as_guest.ensures.router in
+    let sessions = c.second_as_guest-guest.ensures.router in
     turn-sent own.moves other.moves c.args.out.now.items c.serve_load.new.out.items c.reseat_second.new.out.items
     (sessions ∙ stands.sessions_are)
     ((c.in_ok-serve_load.ensures {u = tt}).sent (root_state p)
-    (root-kept c.args.side.now p c.second_as_guest.ensures.root stands.root_stands))
+    (root-kept c.args.side.now p c.second_as_guest-guest.ensures.root stands.root_stands))
     ((c.in_ok-reseat_second.ensures {u = tt}).sent (map message_of other.moves)
-    (guest-told c.second_as_guest.new.self.router.attached c.args.self.now.second c.args.side.now c.serve_load.new.side
-    c.second_as_guest.result c.serve_load.new.guest (second_state p) other (view_of (second_state p)) (view_of other.state)
-    (guest-of c.args.self.now.second c.second_as_guest.result (sym sessions) c.second_as_guest.ensures.guest) stands.second_stands
+    (guest-told c.second_as_guest-guest.new.self.router.attached c.args.self.now.second c.args.side.now c.serve_load.new.side
+    c.second_as_guest-guest.result c.serve_load.new.guest (second_state p) other (view_of (second_state p)) (view_of other.state)
+    (guest-of c.args.self.now.second c.second_as_guest-guest.result (sym sessions) c.second_as_guest-guest.ensures.guest)
+    stands.second_stands
     (λ here. (c.in_ok-serve_load.ensures {u = tt}).told (second_state p) here)
     (turn-course (loads (loaded_page c.args.form)) c.args.self.now c.args.side.now p stands c.requires.room
     (c.requires.can, c.valid.ensures))))
 
 pub serve_load-requires-clause-room : goal.serve_load-requires-clause-room
 serve_load-requires-clause-room c =
-    subst (λ (s : Seat). HasRoomLeft s c.args.side.now) (sym c.second_as_guest.ensures.root) c.requires.room.0
+    subst (λ (s : Seat). HasRoomLeft s c.args.side.now) (sym c.second_as_guest-guest.ensures.root) c.requires.room.0

@@ -15,17 +15,18 @@ use Rattle.back_end.proofs.mux.Mux.serve_root.Goals as goal
 
 pub serve_frame-requires-clause-room : goal.serve_frame-requires-clause-room
 serve_frame-requires-clause-room c =
-    subst (λ (s : Seat). HasRoomLeft s c.args.side.now) (sym c.second_as_guest.ensures.root) c.requires.room.0
+    subst (λ (s : Seat). HasRoomLeft s c.args.side.now) (sym c.second_as_guest-guest.ensures.root) c.requires.room.0
 
 pub serve_frame-requires-clause-seated : goal.serve_frame-requires-clause-seated
 serve_frame-requires-clause-seated c = λ alive.
-    subst (λ (s : Seat). ∥ ((state : State) × StandsFor s c.args.side.now state) ∥₁) (sym c.second_as_guest.ensures.root)
+    subst (λ (s : Seat). ∥ ((state : State) × StandsFor s c.args.side.now state) ∥₁) (sym c.second_as_guest-guest.ensures.root)
     (root-some c.args.self.now c.args.side.now c.requires.seated)
 
 pub serve_frame-requires-clause-can_hear : goal.serve_frame-requires-clause-can_hear
 serve_frame-requires-clause-can_hear c =
-    guest-can-hear (2 ^ 30) c.args.self.now.router.attached c.args.self.now.second c.args.side.now c.second_as_guest.result (omega arith)
-    c.second_as_guest.ensures.guest (second-some c.args.self.now c.args.side.now c.requires.seated) c.requires.room.1
+    guest-can-hear (2 ^ 30) c.args.self.now.router.attached c.args.self.now.second c.args.side.now
+    c.second_as_guest-guest.result (omega arith)
+    c.second_as_guest-guest.ensures.guest (second-some c.args.self.now c.args.side.now c.requires.seated) c.requires.room.1
 
 pub reseat_second-requires : goal.reseat_second-requires
 reseat_second-requires c = record {
@@ -37,13 +38,13 @@ reseat_second-requires c = record {
       (λ (x : ((p : Pair) × PairStandsFor c.args.self.now c.args.side.now p)).
       let r = asked c.args.bytes.now c.args.own in
       let other = outside_step (asked_outward r (root_state x.0)) (second_state x.0) in
-      guest-told c.args.self.now.router.attached c.args.self.now.second c.args.side.now c.serve_frame.new.side c.second_as_guest.result
-      c.serve_frame.new.guest (second_state x.0) other (view_of (second_state x.0)) (view_of other.state) c.second_as_guest.ensures.guest
-      x.1.second_stands
-      (hears-outside c.second_as_guest.result c.serve_frame.new.guest c.args.side.now c.serve_frame.new.side (second_state x.0)
+      guest-told c.args.self.now.router.attached c.args.self.now.second c.args.side.now c.serve_frame.new.side
+      c.second_as_guest-guest.result c.serve_frame.new.guest (second_state x.0) other (view_of (second_state x.0)) (view_of other.state)
+      c.second_as_guest-guest.ensures.guest x.1.second_stands
+      (hears-outside c.second_as_guest-guest.result c.serve_frame.new.guest c.args.side.now c.serve_frame.new.side (second_state x.0)
       (asked_outward r (root_state x.0))
       (λ here. (c.in_ok-serve_frame.ensures {u = tt}).told (root_state x.0) (second_state x.0)
-      (root-kept c.args.side.now x.0 c.second_as_guest.ensures.root x.1.root_stands) here))
+      (root-kept c.args.side.now x.0 c.second_as_guest-guest.ensures.root x.1.root_stands) here))
       (root-asked-outside c.args.own c.args.bytes.now c.args.self.now c.args.side.now x.0 x.1 c.requires.room).course);
 }
 
@@ -52,34 +53,35 @@ returns-clause-stands c = λ p stands.
     let r = asked c.args.bytes.now c.args.own in
     let own = asked_step r (root_state p) in
     let other = outside_step (asked_outward r (root_state p)) (second_state p) in
-    let here = root-kept c.args.side.now p c.second_as_guest.ensures.root stands.root_stands in
-    root-stands p c.args.side.now c.serve_frame.new.side c.args.self.now.second c.second_as_guest.new.self.second c.second_as_guest.result
-    c.serve_frame.new.guest own other c.reseat_second.new.self
-    (guest-of c.args.self.now.second c.second_as_guest.result stands.sessions_are c.second_as_guest.ensures.guest)
-    c.second_as_guest.ensures.unused stands.second_stands
-    (hears-outside c.second_as_guest.result c.serve_frame.new.guest c.args.side.now c.serve_frame.new.side (second_state p)
+    let here = root-kept c.args.side.now p c.second_as_guest-guest.ensures.root stands.root_stands in
+    root-stands p c.args.side.now c.serve_frame.new.side c.args.self.now.second c.second_as_guest-guest.new.self.second
+    c.second_as_guest-guest.result c.serve_frame.new.guest own other c.reseat_second.new.self
+    (guest-of c.args.self.now.second c.second_as_guest-guest.result stands.sessions_are c.second_as_guest-guest.ensures.guest)
+    c.second_as_guest-guest.ensures.unused stands.second_stands
+    (hears-outside c.second_as_guest-guest.result c.serve_frame.new.guest c.args.side.now c.serve_frame.new.side (second_state p)
     (asked_outward r (root_state p)) (λ there. (c.in_ok-serve_frame.ensures {u = tt}).told (root_state p) (second_state p) here there))
     (subst (λ (s : Seat). StandsFor s c.serve_frame.new.side own.state) (sym c.reseat_second.ensures.root)
     ((c.in_ok-serve_frame.ensures {u = tt}).stands (root_state p) here))
     (root-asked-outside c.args.own c.args.bytes.now c.args.self.now c.args.side.now p stands c.requires.room).side_is
     c.reseat_second.ensures.second
-    (c.reseat_second.ensures.router ∙ c.second_as_guest.ensures.router ∙ stands.sessions_are)
+    (c.reseat_second.ensures.router ∙ c.second_as_guest-guest.ensures.router ∙ stands.sessions_are)
 
 pub returns-clause-sent : goal.returns-clause-sent
 returns-clause-sent c = λ p stands.
     let r = asked c.args.bytes.now c.args.own in
     let own = asked_step r (root_state p) in
     let other = outside_step (asked_outward r (root_state p)) (second_state p) in
-    let here = root-kept c.args.side.now p c.second_as_guest.ensures.root stands.root_stands in
-    let sessions = c.second_as_guest.ensures.router in
+    let here = root-kept c.args.side.now p c.second_as_guest-guest.ensures.root stands.root_stands in
+    let sessions = c.second_as_guest-guest.ensures.router in
     root-sent own.moves other.moves c.new-said.result.items c.serve_frame.new.out.items c.args.out.now.items c.reseat_second.new.out.items
     c.extend_from_slice.new.self.items (sessions ∙ stands.sessions_are) c.new-said.ensures.items
     ((c.in_ok-serve_frame.ensures {u = tt}).sent (root_state p) here)
     ((c.in_ok-reseat_second.ensures {u = tt}).sent (map message_of other.moves)
-    (guest-told c.second_as_guest.new.self.router.attached c.args.self.now.second c.args.side.now c.serve_frame.new.side
-    c.second_as_guest.result c.serve_frame.new.guest (second_state p) other (view_of (second_state p)) (view_of other.state)
-    (guest-of c.args.self.now.second c.second_as_guest.result (sym sessions) c.second_as_guest.ensures.guest) stands.second_stands
-    (hears-outside c.second_as_guest.result c.serve_frame.new.guest c.args.side.now c.serve_frame.new.side (second_state p)
+    (guest-told c.second_as_guest-guest.new.self.router.attached c.args.self.now.second c.args.side.now c.serve_frame.new.side
+    c.second_as_guest-guest.result c.serve_frame.new.guest (second_state p) other (view_of (second_state p)) (view_of other.state)
+    (guest-of c.args.self.now.second c.second_as_guest-guest.result (sym sessions) c.second_as_guest-guest.ensures.guest)
+    stands.second_stands
+    (hears-outside c.second_as_guest-guest.result c.serve_frame.new.guest c.args.side.now c.serve_frame.new.side (second_state p)
     (asked_outward r (root_state p)) (λ there. (c.in_ok-serve_frame.ensures {u = tt}).told (root_state p) (second_state p) here there))
     (root-asked-outside c.args.own c.args.bytes.now c.args.self.now c.args.side.now p stands c.requires.room).course))
     ((c.in_ok-extend_from_slice.ensures {u = tt}).items ∙ ap (λ bs. c.reseat_second.new.out.items ++ bs) c.deref.ensures.value)
