@@ -1,5 +1,5 @@
 -- The clients that are served: seats that are new stand for what they have at first, and room is left where there is room.
-use Rattle.std.proofs.Common.{◌≡◌, ◌+◌, ◌++◌, ◌↔◌, ℕ, List, true, None, Result, length}
+use Rattle.std.proofs.Common.{◌≡◌, ◌+◌, ◌++◌, ◌↔◌, ℕ, Bool, List, true, false, true≢false, sym, None, Result, length}
 use Rattle.std.proofs.Math.Logic.{∥∥₁_map}
 use Rattle.std.specs.Result.{OnOk}
 use Rattle.client_views.specs.Moves.{frames_of_moves}
@@ -32,6 +32,14 @@ clients-room (Alone seat) side (alone state) stands = (room-of seat side state s
 clients-room (Alone seat) side (paired pair) stands = absurd stands
 clients-room (Paired mux) side (alone state) stands = absurd stands
 clients-room (Paired mux) side (paired pair) stands = pairs-have-room-left mux side pair stands
+
+pub room-there : (clients : Clients) (side : PageSide) (now : Served) → ClientsStandFor clients side now → HaveRoomLeft clients side
+    → HasRoomFor now
+room-there clients side now stands left = (clients-room clients side now stands).0 left
+
+pub no-room-there : (clients : Clients) (side : PageSide) (now : Served) → ClientsStandFor clients side now
+    → (HaveRoomLeft clients side → ◌≡◌ {A = Bool} false true) → HasRoomFor now → ⊥
+no-room-there clients side now stands full room = true≢false (sym (full ((clients-room clients side now stands).1 room)))
 
 -- ---- the start
 
