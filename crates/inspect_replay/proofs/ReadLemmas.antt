@@ -22,7 +22,8 @@ counted-push (read ∷ reads) last calls = ap next_count (counted-push reads las
 answered-push : (first : Served) (start : Option (List ℕ)) (came : List ℕ) (reads : List ReadMoment) (last : ReadMoment)
     → AnsweredFirst first start came reads → Appends start last.taken (served first (came ++ came_by reads))
     → AnsweredFirst first start came (reads ++ last ∷ [])
-answered-push first start came [] last before now = (subst (λ bytes. Appends start last.taken (served first bytes)) (append-nil came) now, tt)
+answered-push first start came [] last before now =
+    (subst (λ bytes. Appends start last.taken (served first bytes)) (append-nil came) now, tt)
 answered-push first start came (read ∷ reads) last before now = (
   before.0,
   answered-push first start (came ++ read.piece) reads last before.1

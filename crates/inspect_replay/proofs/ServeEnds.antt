@@ -54,7 +54,8 @@ nothing-came first calls before now serves = record {
 -- a piece more
 pub more-came : (first : Served) (calls_before calls calls_after : ℕ) (before left after start : Option (List ℕ)) (now new : ServeMoment)
     (came count most : ℕ) (s : ServedSoFar first calls_before calls before left start now came)
-    → PieceAnswered (record { first = first; start = start; bytes = s.bytes }) new (record { before = left; after = after; most = most }) count
+    → PieceAnswered (record { first = first; start = start; bytes = s.bytes }) new
+    (record { before = left; after = after; most = most }) count
     → came + most ≤ 2 ^ 26 → calls_after ≡ next_count calls
     → ServedSoFar first calls_before calls_after before after start new (came + count)
 more-came first calls_before calls calls_after before left after start now new came count most s p room counted = record {
@@ -103,10 +104,11 @@ loop-part stop first calls_before calls before left after start now new came mos
 }
 
 -- the loop stopped
-pub loop-stopped : (first : Served) (calls_before calls : ℕ) (before left after start : Option (List ℕ)) (now new : ServeMoment) (came most : ℕ)
-    (stop : Stop)
+pub loop-stopped : (first : Served) (calls_before calls : ℕ) (before left after start : Option (List ℕ)) (now new : ServeMoment)
+    (came most : ℕ) (stop : Stop)
     (s : ServedSoFar first calls_before calls before left start now came)
-    → PieceServed (record { first = first; start = start; bytes = s.bytes }) new (record { before = left; after = after; most = most }) (Err stop)
+    → PieceServed (record { first = first; start = start; bytes = s.bytes }) new
+    (record { before = left; after = after; most = most }) (Err stop)
     → came + most ≤ 2 ^ 26
     → HasServed {T = Unit {0}} first (record { left_before = before; left_after = after; taken_before = start; taken_after = new.taken })
     (Err stop)
@@ -175,14 +177,16 @@ loop-full first calls_before calls before left after start now came (Err Memory)
 -- all that came was read in turn
 pub turns-ended : (first : Served) (calls_before calls : ℕ) (before left start : Option (List ℕ)) (now : ServeMoment) (came : ℕ)
     → ServedSoFar first calls_before calls before left start now came
-    → AnswersInTurn first calls_before calls (record { left_before = before; left_after = left; taken_before = start; taken_after = now.taken })
+    → AnswersInTurn first calls_before calls
+    (record { left_before = before; left_after = left; taken_before = start; taken_after = now.taken })
 turns-ended first calls_before calls before left start now came s = reads-in-turn first calls_before calls s.bytes _ s.in_turn s.read
 
 -- and what one read more gave
-turns-more : (first : Served) (calls_before calls calls_after : ℕ) (before left after start end : Option (List ℕ)) (now : ServeMoment) (came : ℕ)
-    (piece : List ℕ) → ServedSoFar first calls_before calls before left start now came → calls_after ≡ next_count calls
+turns-more : (first : Served) (calls_before calls calls_after : ℕ) (before left after start end : Option (List ℕ)) (now : ServeMoment)
+    (came : ℕ) (piece : List ℕ) → ServedSoFar first calls_before calls before left start now came → calls_after ≡ next_count calls
     → Consumes left after piece
-    → AnswersInTurn first calls_before calls_after (record { left_before = before; left_after = after; taken_before = start; taken_after = end })
+    → AnswersInTurn first calls_before calls_after
+    (record { left_before = before; left_after = after; taken_before = start; taken_after = end })
 turns-more first calls_before calls calls_after before left after start end now came piece s counted consumed =
     reads-in-turn first calls_before calls_after (s.bytes ++ piece) _
     (more-in-turn first calls_before calls calls_after start now.taken s.bytes piece s.in_turn s.serves.answered.wrote counted)
@@ -201,9 +205,10 @@ consumed-piece so_far new read NoRoom p = (p.piece, p.consumed)
 consumed-piece so_far new read Memory p = (p.piece, p.consumed)
 
 -- the loop stopped at a read
-pub turns-stopped : (first : Served) (calls_before calls calls_after : ℕ) (before left after start : Option (List ℕ)) (now new : ServeMoment)
-    (came most : ℕ) (stop : Stop) (s : ServedSoFar first calls_before calls before left start now came)
-    → PieceServed (record { first = first; start = start; bytes = s.bytes }) new (record { before = left; after = after; most = most }) (Err stop)
+pub turns-stopped : (first : Served) (calls_before calls calls_after : ℕ) (before left after start : Option (List ℕ))
+    (now new : ServeMoment) (came most : ℕ) (stop : Stop) (s : ServedSoFar first calls_before calls before left start now came)
+    → PieceServed (record { first = first; start = start; bytes = s.bytes }) new
+    (record { before = left; after = after; most = most }) (Err stop)
     → calls_after ≡ next_count calls
     → AnswersInTurn first calls_before calls_after
     (record { left_before = before; left_after = after; taken_before = start; taken_after = new.taken })
@@ -225,8 +230,9 @@ consumed-end before after (Err NoRoom) met = absurd met
 consumed-end before after (Err Memory) met = absurd met
 
 -- as many bytes came as an input may have, and one read more was made
-pub turns-full : (first : Served) (calls_before calls calls_after : ℕ) (before left after start : Option (List ℕ)) (now : ServeMoment) (came : ℕ)
-    (result : Result (Unit {0}) Stop) → ServedSoFar first calls_before calls before left start now came → EndIsMet left after result
+pub turns-full : (first : Served) (calls_before calls calls_after : ℕ) (before left after start : Option (List ℕ)) (now : ServeMoment)
+    (came : ℕ) (result : Result (Unit {0}) Stop) → ServedSoFar first calls_before calls before left start now came
+    → EndIsMet left after result
     → calls_after ≡ next_count calls
     → AnswersInTurn first calls_before calls_after
     (record { left_before = before; left_after = after; taken_before = start; taken_after = now.taken })
@@ -419,7 +425,8 @@ answered-reads first call bytes past p one = record {
   read = p.read;
 }
 
-part-reads : (stop : Stop) (first : Served) (call : ServeCall) → PartAnswered stop first call → ReadPart call.left_before call.left_after (2 ^ 26 + 1)
+part-reads : (stop : Stop) (first : Served) (call : ServeCall) → PartAnswered stop first call
+    → ReadPart call.left_before call.left_after (2 ^ 26 + 1)
 part-reads stop first call p = record { part = p.bytes; count = let few = p.few in omega (arith, few); read = p.read }
 
 pub served-reads : (first : Served) (call : ServeCall) (result : Result (Unit {0}) Stop) → HasServed first call result

@@ -122,7 +122,7 @@ frame-drawn frame state bytes d room = at (asked frame true) refl where
       })
 
 -- the same of what is served, where it is one client
-DrawnBy : Served → ℕ → Type 0
+abbrev DrawnBy : Served → ℕ → Type 0
 DrawnBy (alone state) bytes = Drawn state bytes
 DrawnBy (paired pair) bytes = ⊥
 

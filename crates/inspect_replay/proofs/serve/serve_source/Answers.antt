@@ -27,3 +27,10 @@ returns-clause-served g c = c.serve_within.ensures.served (first_of c.args.clien
 
 pub returns-clause-in_turn : goal.returns-clause-in_turn
 returns-clause-in_turn g c = c.serve_within.ensures.in_turn (first_of c.args.clients) c.in_ok-service.ensures.first
+
+pub returns-in_err-service-clause-cause : goal.returns-in_err-service-clause-cause
+returns-in_err-service-clause-cause g c = nothing-rose c.from_residual.result (g.S.Source.faults c.args.src.now)
+    (g.K.Sink.faults c.args.out.now) c.from_residual.ensures.1
+
+pub returns-clause-cause : goal.returns-clause-cause
+returns-clause-cause g c = c.serve_within.ensures.cause

@@ -36,12 +36,13 @@ take_message-requires-in-Paired c = record {
 }
 
 pub returns-in-Paired-clause-seated : goal.returns-in-Paired-clause-seated
-returns-in-Paired-clause-seated c = seated-paired c.take_message-in-Paired.new.self c.take_message-in-Paired.new.side c.take_message-in-Paired.ensures.seated
+returns-in-Paired-clause-seated c =
+    seated-paired c.take_message-in-Paired.new.self c.take_message-in-Paired.new.side c.take_message-in-Paired.ensures.seated
 
 pub returns-in-Paired-clause-stands : goal.returns-in-Paired-clause-stands
 returns-in-Paired-clause-stands c = λ now stands.
-    paired-steps c.take_message-in-Paired.result c.in-Paired.mux c.take_message-in-Paired.new.self c.args.side.now c.take_message-in-Paired.new.side
-    c.args.frame.now c.take_message-in-Paired.ensures.stands now
+    paired-steps c.take_message-in-Paired.result c.in-Paired.mux c.take_message-in-Paired.new.self c.args.side.now
+    c.take_message-in-Paired.new.side c.args.frame.now c.take_message-in-Paired.ensures.stands now
     (subst (λ (clients : Clients). ClientsStandFor clients c.args.side.now now) c.in-Paired.is stands)
 
 pub returns-in-Paired-clause-sent : goal.returns-in-Paired-clause-sent

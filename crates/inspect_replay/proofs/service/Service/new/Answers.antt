@@ -22,5 +22,5 @@ returns c = record {
         sheets_are = c.in_ok-side.ensures.sheets;
         next_is = c.in_ok-side.ensures.next;
         medium_is = c.in_ok-side.ensures.medium;
-      })) c.new.ensures;
+      })) c.new-2.ensures;
 }

@@ -70,7 +70,8 @@ returns-clause-served g c = λ first is.
     (g.S.Source.left c.loop-came.src) (g.S.Source.left c.end_of_input.new.src)
     (g.K.Sink.taken c.args.out.now)
     (serve_moment c.loop-came.self
-    (g.K.Sink.taken c.loop-came.out)) c.loop-came.came c.end_of_input.result (c.loop-came.invariant.so_far first is) full c.end_of_input.ensures.met
+    (g.K.Sink.taken c.loop-came.out)) c.loop-came.came c.end_of_input.result (c.loop-came.invariant.so_far first is) full
+    c.end_of_input.ensures.met
 
 pub returns-in-Ok-eq0-clause-in_turn : goal.returns-in-Ok-eq0-clause-in_turn
 returns-in-Ok-eq0-clause-in_turn g c = λ first is.
@@ -102,5 +103,6 @@ returns-clause-in_turn g c = λ first is.
     (g.S.Source.left c.args.src.now) (g.S.Source.left c.loop-came.src) (g.S.Source.left c.end_of_input.new.src)
     (g.K.Sink.taken c.args.out.now)
     (serve_moment c.loop-came.self
-    (g.K.Sink.taken c.loop-came.out)) c.loop-came.came c.end_of_input.result (c.loop-came.invariant.so_far first is) c.end_of_input.ensures.met
+    (g.K.Sink.taken c.loop-came.out)) c.loop-came.came c.end_of_input.result (c.loop-came.invariant.so_far first is)
+    c.end_of_input.ensures.met
     c.end_of_input.ensures.counted

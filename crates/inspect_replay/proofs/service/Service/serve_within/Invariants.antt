@@ -7,7 +7,8 @@ use Rattle.inspect_replay.proofs.service.Service.serve_within.Given as goal
 
 abbrev pub invariant-loop-came : goal.invariant-loop-came
 invariant-loop-came g l = record {
-  so_far : (first : Served) → IsServing first l.initial.self [] → ServedSoFar first (g.S.Source.calls l.initial.src) (g.S.Source.calls l.src) (g.S.Source.left l.initial.src)
+  so_far : (first : Served) → IsServing first l.initial.self []
+      → ServedSoFar first (g.S.Source.calls l.initial.src) (g.S.Source.calls l.src) (g.S.Source.left l.initial.src)
       (g.S.Source.left l.src) (g.K.Sink.taken l.initial.out)
       (serve_moment l.self (g.K.Sink.taken l.out)) l.came;
   source_same : g.S.Source.faults l.src ≡ g.S.Source.faults l.initial.src;
