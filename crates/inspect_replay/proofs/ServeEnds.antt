@@ -14,7 +14,8 @@ use Rattle.inspect_replay.specs.declared.stop.Stop.TheVariants.{Memory}
 use Rattle.std.specs.Result.{IsOk, IsErrAnd}
 use Rattle.std.proofs.lemmas.Result.{err_from_is_err_and}
 use Rattle.inspect_replay.specs.Followed.{Passed, StatusFolds}
-use Rattle.inspect_replay.specs.Says.{OthersStill, says_of, status_of}
+use Rattle.inspect_replay.specs.Says.{Counts, OthersStill, says_of, status_of}
+use Rattle.inspect_replay.specs.Answers.{StatusRose}
 use Rattle.inspect_replay.specs.Served.{Served, first_alone}
 use Rattle.inspect_replay.specs.Serving.{HaltedIn, HaltedWithin, AnsweredWhole, ServeCall, ServedRead, ServedAll, ServedLimit}
 use Rattle.inspect_replay.specs.Serving.{AnswersTook, IsServeStatus, IsShareStatus, ServeMoment}
@@ -414,6 +415,18 @@ serve-status LinkFault call p = absurd p
 serve-status (FrontRefused place fault) call p = absurd p
 serve-status NoRoom call p = absurd (never-full p.bytes call.taken_before call.taken_after p.few p.halted)
 serve-status Memory call p = tt
+
+-- a stop of serving comes of what rose, whatever a link did
+pub stop-rose : (stop : Stop) (c : Counts) (before after : ℕ) → ServeRose {T = Unit {0}} c (Err stop)
+    → StatusRose (record c { link_before = before; link_after = after }) (status_of stop)
+stop-rose (Line number fault) c before after rose = absurd rose
+stop-rose TooLong c before after rose = tt
+stop-rose ReadFault c before after rose = rose
+stop-rose WriteFault c before after rose = rose
+stop-rose LinkFault c before after rose = absurd rose
+stop-rose (FrontRefused place fault) c before after rose = absurd rose
+stop-rose NoRoom c before after rose = tt
+stop-rose Memory c before after rose = tt
 
 -- at most one byte more than an input may have was read
 answered-reads : (first : Served) (call : ServeCall) (bytes past : List ℕ) → ReadAnswered first call bytes past → length past ≤ 1

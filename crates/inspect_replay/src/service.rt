@@ -13,13 +13,27 @@ use std::alloc::{AllocError, Global};
 
 /// A back end with its clients, and what came of a frame that is not whole. The seats stand for the page's side, as long as they are not
 /// dead.
-#[derive(Drop)]
 pub(crate) struct Service {
     pub(crate) alloc: Global,
     pub(crate) side: PageSide,
     pub(crate) clients: Clients,
     pub(crate) splitter: Splitter,
     ghost seated: { AreSeated clients side },
+}
+
+// By hand, so that who lets a service go need not know of its parts.
+impl Drop for Service {
+    fn drop(self) {
+        let Service {
+            alloc: _alloc,
+            side,
+            clients,
+            splitter,
+        } = self;
+        drop(side);
+        drop(clients);
+        drop(splitter);
+    }
 }
 
 impl Service {

@@ -1,9 +1,11 @@
 -- A stop is the status that was served.
-use Rattle.std.proofs.Common.{Err, sym, subst}
+use Rattle.std.proofs.Common.{Ok, Err, sym, subst}
 use Rattle.inspect_replay.specs.Served.{first_alone}
+use Rattle.inspect_replay.specs.declared.status.Status.TheVariants.{Done}
+use Rattle.inspect_replay.specs.Answers.{StatusRose}
 use Rattle.inspect_replay.specs.Serving.{ServeCall, ServeTook, IsServeStatus}
-use Rattle.inspect_replay.proofs.ServeEnds.{stop-served, serve-status, served-reads}
-use Rattle.inspect_replay.proofs.FaultAnswers.{stop-answers}
+use Rattle.inspect_replay.proofs.ServeEnds.{end-took, stop-served, serve-status, stop-rose, served-reads}
+use Rattle.inspect_replay.proofs.FaultAnswers.{answers-faults, stop-answers}
 use Rattle.inspect_replay.proofs.serve.serve.Goals as goal
 
 pub serve_source-requires : goal.serve_source-requires
@@ -49,3 +51,51 @@ returns-in-Err-clause-reads g c =
 
 pub returns-in-Err-clause-answered : goal.returns-in-Err-clause-answered
 returns-in-Err-clause-answered g c = stop-answers _ c.in-Err.stop c.status_of.result c.status_of.ensures c.in-Err.ensures.cause.others
+
+pub returns-in-Err-clause-in_turn : goal.returns-in-Err-clause-in_turn
+returns-in-Err-clause-in_turn g c = c.serve_source.ensures.in_turn
+
+pub returns-in-Err-clause-cause : goal.returns-in-Err-clause-cause
+returns-in-Err-clause-cause g c = λ before after.
+    subst (StatusRose (record {
+      source_before = g.S.Source.faults c.args.src.now;
+      source_after = g.S.Source.faults c.serve_source.new.src;
+      sink_before = g.K.Sink.faults c.args.out.now;
+      sink_after = g.K.Sink.faults c.serve_source.new.out;
+      link_before = before;
+      link_after = after;
+    })) (sym c.status_of.ensures)
+    (stop-rose c.in-Err.stop (record {
+      source_before = g.S.Source.faults c.args.src.now;
+      source_after = g.S.Source.faults c.serve_source.new.src;
+      sink_before = g.K.Sink.faults c.args.out.now;
+      sink_after = g.K.Sink.faults c.serve_source.new.out;
+      link_before = 0;
+      link_after = 0;
+    }) before after c.in-Err.ensures.cause.rose)
+
+pub returns-in-Ok-clause-took : goal.returns-in-Ok-clause-took
+returns-in-Ok-clause-took g c = λ input left.
+    let call : ServeCall = record {
+      left_before = g.S.Source.left c.args.src.now;
+      left_after = g.S.Source.left c.serve_source.new.src;
+      taken_before = g.K.Sink.taken c.args.out.now;
+      taken_after = g.K.Sink.taken c.serve_source.new.out;
+    } in
+    end-took first_alone input call left (c.in-Ok.ensures {u = c.in-Ok.field-0}).served
+
+pub returns-in-Ok-clause-reads : goal.returns-in-Ok-clause-reads
+returns-in-Ok-clause-reads g c =
+    let call : ServeCall = record {
+      left_before = g.S.Source.left c.args.src.now;
+      left_after = g.S.Source.left c.serve_source.new.src;
+      taken_before = g.K.Sink.taken c.args.out.now;
+      taken_after = g.K.Sink.taken c.serve_source.new.out;
+    } in
+    served-reads first_alone call (Ok c.in-Ok.field-0) (c.in-Ok.ensures {u = c.in-Ok.field-0}).served
+
+pub returns-in-Ok-clause-in_turn : goal.returns-in-Ok-clause-in_turn
+returns-in-Ok-clause-in_turn g c = c.serve_source.ensures.in_turn
+
+pub returns-in-Ok-clause-answered : goal.returns-in-Ok-clause-answered
+returns-in-Ok-clause-answered g c = answers-faults _ Done (c.in-Ok.ensures {u = c.in-Ok.field-0}).cause.others
