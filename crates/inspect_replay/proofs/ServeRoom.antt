@@ -1,29 +1,26 @@
--- A service has room for each frame of an input that is not too long.
-use Rattle.std.proofs.Common.{◌≡◌, ℕ, ◌+◌, ◌*◌, ◌^◌, ◌<◌, ◌≤◌, true, List, [], ◌∷◌, ◌++◌, length, None, Result, Ok, Err, refl, sym, ◌∙◌}
-use Rattle.std.proofs.Common.{ap, subst, length-append, arith}
+-- There is room for each frame of one client in an input that is not too long.
+use Rattle.std.proofs.Common.{◌≡◌, ℕ, ◌+◌, ◌*◌, ◌^◌, ◌<◌, ◌≤◌, true, List, [], ◌∷◌, length, Option, None, Result, Ok, Err, refl, sym, ◌∙◌}
+use Rattle.std.proofs.Common.{ap, subst, arith}
 use Rattle.page_tree.specs.Forms.{max_nodes}
 use Rattle.page_forms.specs.Sheets.{max_sheets}
-use Rattle.pipe_frames.specs.Frames.{Frames, frames_of, continued, frames_from}
-use Rattle.pipe_frames.proofs.FrameLemmas.{frames_of-append}
+use Rattle.pipe_frames.specs.Frames.{frames_of}
 use Rattle.cdp_messages.specs.Asked.{asked}
 use Rattle.cdp_messages.specs.declared.command.Asked.{Asked}
 use Rattle.cdp_messages.specs.declared.command.Refused.{Refused}
-use Rattle.back_end.specs.States.{State, IsState}
+use Rattle.back_end.specs.States.{State, IsState, loaded_state}
 use Rattle.back_end.specs.Steps.{Step, frame_step, asked_step}
-use Rattle.session_runs.specs.World.{Stepped}
 use Rattle.back_end.specs.Laws.{tree_edits, edits_kept, edits_asked, KeepsAtMost, HasRoom, StepsWell}
-use Rattle.back_end.specs.Seats.{StandsFor, HasRoomLeft, first_page}
+use Rattle.back_end.specs.Seats.{first_page}
 use Rattle.back_end.proofs.EditSizes.{frame-long, edits-few}
 use Rattle.back_end.proofs.FrameLemmas.{frame-steps-well}
 use Rattle.session_runs.specs.World.{steps}
 use Rattle.inspect_world.specs.Links.{bytes_among}
 use Rattle.inspect_world.proofs.CountLemmas.{command-ids, ids-left, few-edits, frames-within, bytes-append}
 use Rattle.back_end.proofs.StartLemmas.{IsState-first}
-use Rattle.back_end.proofs.SeatRoom.{has-room-left}
-use Rattle.inspect_replay.specs.declared.service.Service.{Service}
-use Rattle.inspect_replay.specs.Serving.{first_served, served_step, served_run}
-use Rattle.inspect_replay.specs.ServeRoom.{CameFew, HasBytesLeft}
-use Rattle.inspect_replay.proofs.ServeLemmas.{nothing-loaded, no-texts, steps-append}
+use Rattle.inspect_replay.specs.declared.stop.Stop.TheVariants.{NoRoom}
+use Rattle.inspect_replay.specs.Served.{Served, alone, paired, first_alone, served_step, HasRoomFor}
+use Rattle.inspect_replay.specs.Serving.{HaltedIn}
+use Rattle.inspect_replay.proofs.ServeLemmas.{nothing-loaded, no-texts}
 
 -- ---- what the frames draw
 
@@ -41,7 +38,7 @@ record Drawn (state : State) (bytes : ℕ) : Type 0 where
   long : commands * 9 ≤ bytes
   few : frames ≤ bytes
 
-first-drawn : Drawn first_served 0
+first-drawn : Drawn (loaded_state (first_page None)) 0
 first-drawn = record {
   is_state = IsState-first (first_page None) nothing-loaded no-texts;
   commands = 0;
@@ -124,70 +121,38 @@ frame-drawn frame state bytes d room = at (asked frame true) refl where
         few = omega (arith, d.few);
       })
 
-frames-drawn : (frames : List (List ℕ)) (state : State) (bytes : ℕ) → Drawn state bytes → bytes_among frames + bytes ≤ 2 ^ 26
-    → Drawn (steps served_step state frames).state (bytes_among frames + bytes)
-frames-drawn [] state bytes d small = let same : bytes ≡ 0 + bytes = omega arith in subst (λ n. Drawn state n) same d
-frames-drawn (frame ∷ frames) state bytes d small =
-    let next = (served_step state frame).state in
-    let one : Drawn next (length frame + 1 + bytes) = frame-drawn frame state bytes d (has-room state bytes d (omega (arith, small))) in
+-- the same of what is served, where it is one client
+abbrev DrawnBy : Served → ℕ → Type 0
+DrawnBy (alone state) bytes = Drawn state bytes
+DrawnBy (paired pair) bytes = ⊥
+
+served-room : (now : Served) (bytes : ℕ) → DrawnBy now bytes → bytes ≤ 2 ^ 26 → HasRoomFor now
+served-room (alone state) bytes d small = has-room state bytes d small
+served-room (paired pair) bytes d small = absurd d
+
+served-drawn : (now : Served) (frame : List ℕ) (bytes : ℕ) → DrawnBy now bytes → bytes ≤ 2 ^ 26
+    → DrawnBy (served_step now frame).state (length frame + 1 + bytes)
+served-drawn (alone state) frame bytes d small = frame-drawn frame state bytes d (has-room state bytes d small)
+served-drawn (paired pair) frame bytes d small = absurd d
+
+frames-drawn : (frames : List (List ℕ)) (now : Served) (bytes : ℕ) → DrawnBy now bytes → bytes_among frames + bytes ≤ 2 ^ 26
+    → DrawnBy (steps served_step now frames).state (bytes_among frames + bytes)
+frames-drawn [] now bytes d small = let same : bytes ≡ 0 + bytes = omega arith in subst (λ n. DrawnBy now n) same d
+frames-drawn (frame ∷ frames) now bytes d small =
+    let next = (served_step now frame).state in
+    let one : DrawnBy next (length frame + 1 + bytes) = served-drawn now frame bytes d (omega (arith, small)) in
     let sum : bytes_among frames + (length frame + 1 + bytes) ≡ bytes_among (frame ∷ frames) + bytes = omega arith in
-    subst (λ n. Drawn (steps served_step next frames).state n) sum
+    subst (λ n. DrawnBy (steps served_step next frames).state n) sum
     (frames-drawn frames next (length frame + 1 + bytes) one (omega (arith, small)))
 
--- Room is left after frames that have no more bytes than an input may have.
-pub served-room : (frames : List (List ℕ)) → bytes_among frames ≤ 2 ^ 26 → HasRoom (steps served_step first_served frames).state
-served-room frames few =
-    has-room (steps served_step first_served frames).state (bytes_among frames + 0)
-    (frames-drawn frames first_served 0 first-drawn (omega (arith, few))) (omega (arith, few))
-
--- ---- a service
-
--- it has room for a frame
-pub came-room : (service : Service) → CameFew service → HasRoomLeft service.seat service.side
-came-room service came =
-    has-room-left service.seat service.side (steps served_step first_served came.answered).state came.stands
-    (served-room came.answered (omega (arith, came.few)))
-
--- and then for the others
-pub came-more : (service new : Service) (frame : List ℕ) (others : List (List ℕ)) → CameFew service
-    → service.splitter.whole ≡ frame ∷ others → new.splitter.whole ≡ others
-    → ((state : State) → StandsFor service.seat service.side state
-    → StandsFor new.seat new.side (steps served_step state (frame ∷ [])).state)
-    → CameFew new
-came-more service new frame others came first left stands =
-    let after = steps-append served_step first_served came.answered (frame ∷ []) in
-    let split : bytes_among (came.answered ++ frame ∷ []) ≡ bytes_among came.answered + bytes_among (frame ∷ []) =
-    bytes-append came.answered (frame ∷ []) in
-    let whole : bytes_among service.splitter.whole ≡ bytes_among others + (length frame + 1) = ap bytes_among first in
-    let rest : bytes_among new.splitter.whole ≡ bytes_among others = ap bytes_among left in
-    record {
-      answered = came.answered ++ frame ∷ [];
-      few = omega (arith, came.few, split, whole, rest);
-      stands = subst (λ (done : Stepped State). StandsFor new.seat new.side done.state) (sym after)
-          (stands (steps served_step first_served came.answered).state came.stands);
-    }
-
--- what a piece makes whole is within what may come
-pub came-piece : (old new : Service) (piece : List ℕ) → HasBytesLeft old (length piece) → new.seat ≡ old.seat → new.side ≡ old.side
-    → new.splitter ≡ continued old.splitter piece → CameFew new
-came-piece old new piece left seat side is =
-    let cut : new.splitter ≡ continued (record { whole = []; rest = (frames_of left.bytes).rest }) piece =
-    is ∙ ap (λ frames. continued frames piece) left.is_serving.cut in
-    let whole : new.splitter.whole ≡ frames_from (frames_of left.bytes).rest piece = ap (λ (f : Frames). f.whole) cut in
-    let both : (frames_of (left.bytes ++ piece)).whole ≡ (frames_of left.bytes).whole ++ frames_from (frames_of left.bytes).rest piece =
-    ap (λ (f : Frames). f.whole) (frames_of-append left.bytes piece) in
-    let within : bytes_among (frames_of (left.bytes ++ piece)).whole ≤ length (left.bytes ++ piece) = frames-within (left.bytes ++ piece) in
-    let sum : bytes_among (frames_of (left.bytes ++ piece)).whole
-    ≡ bytes_among (frames_of left.bytes).whole + bytes_among new.splitter.whole =
-    ap bytes_among both ∙ bytes-append (frames_of left.bytes).whole (frames_from (frames_of left.bytes).rest piece)
-    ∙ ap (λ fs. bytes_among (frames_of left.bytes).whole + bytes_among fs) (sym whole) in
-    record {
-      answered = (frames_of left.bytes).whole;
-      few = omega (arith, within, sum, length-append left.bytes piece, left.few);
-      stands = subst (λ x. StandsFor x new.side (served_run left.bytes).state) (sym seat)
-          (subst (λ y. StandsFor old.seat y (served_run left.bytes).state) (sym side) left.is_serving.stands);
-    }
-
--- a piece that is no longer than what may come
-pub fewer-left : (service : Service) (more fewer : ℕ) → HasBytesLeft service more → fewer ≤ more → HasBytesLeft service fewer
-fewer-left service more fewer left few = record { bytes = left.bytes; is_serving = left.is_serving; few = omega (arith, left.few, few) }
+-- Answering one client never stops for want of room within so many bytes as an input may have.
+pub never-full : (bytes : List ℕ) (before after : Option (List ℕ)) → length bytes ≤ 2 ^ 26
+    → HaltedIn NoRoom first_alone (frames_of bytes).whole before after → ⊥
+never-full bytes before after few halted =
+    let within : bytes_among (frames_of bytes).whole ≤ length bytes = frames-within bytes in
+    let cut : bytes_among (frames_of bytes).whole ≡ bytes_among halted.answered + bytes_among halted.others =
+    ap bytes_among halted.cut ∙ bytes-append halted.answered halted.others in
+    let end = (steps served_step first_alone halted.answered).state in
+    let drawn : DrawnBy end (bytes_among halted.answered + 0) =
+    frames-drawn halted.answered first_alone 0 first-drawn (omega (arith, few, within, cut)) in
+    halted.ends.0.full (served-room end (bytes_among halted.answered + 0) drawn (omega (arith, few, within, cut)))

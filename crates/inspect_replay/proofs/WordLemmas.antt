@@ -1,4 +1,4 @@
--- The number of divs in the words of a drill.
+-- The words of the program, and the number of divs in those of a drill.
 use Rattle.std.proofs.Common.{◌≡◌, ℕ, ◌<◌, ◌≤◌, ◌^◌, ◌&&◌, nat_le, Bool, true}
 use Rattle.std.proofs.Common.{false, List, [], ◌∷◌, length, get_or, Some, None, Result, Ok, Err}
 use Rattle.std.proofs.Common.{refl, sym, ap, ◌∙◌, subst, arith, decimal, codes}
@@ -10,7 +10,7 @@ use Rattle.std.proofs.lemmas.Fmt.{decimal_is_IsNumeral, decimal-digits_value, pa
 use Rattle.std.proofs.lemmas.Slice.Eq.{bytes_eq-Decides}
 use Rattle.std.proofs.lemmas.Str.Parse.{numerals_by_value, tells_digits, parse_plain}
 use Rattle.drill_script.specs.Given.{is_drill}
-use Rattle.inspect_replay.specs.Words.{is_count, count_in, drill_in}
+use Rattle.inspect_replay.specs.Words.{is_count, count_in, drill_in, is_replay, is_serve, is_share}
 
 both_parts : (a b : Bool) → (a && b) ≡ true → (a ≡ true) × (b ≡ true)
 both_parts true true e = (refl, refl)
@@ -106,3 +106,18 @@ words-drill [] n e = absurd cc
 words-drill (word ∷ []) n e = absurd cc
 words-drill (word ∷ number ∷ []) n e = word-drills (bytes_eq word (codes "drill")) number n e
 words-drill (word ∷ number ∷ next ∷ more) n e = absurd cc
+
+-- one word is not two
+pub replay-or-share : (words : List (List ℕ)) → is_replay words ≡ true → is_share words ≡ true → ⊥
+replay-or-share [] e f = absurd cc
+replay-or-share (word ∷ []) e f =
+    let both : codes "replay" ≡ codes "share" =
+    sym ((bytes_eq-Decides word (codes "replay")).0 e) ∙ (bytes_eq-Decides word (codes "share")).0 f in absurd cc
+replay-or-share (word ∷ next ∷ more) e f = absurd cc
+
+pub serve-or-share : (words : List (List ℕ)) → is_serve words ≡ true → is_share words ≡ true → ⊥
+serve-or-share [] e f = absurd cc
+serve-or-share (word ∷ []) e f =
+    let both : codes "serve" ≡ codes "share" =
+    sym ((bytes_eq-Decides word (codes "serve")).0 e) ∙ (bytes_eq-Decides word (codes "share")).0 f in absurd cc
+serve-or-share (word ∷ next ∷ more) e f = absurd cc

@@ -13,6 +13,6 @@ pub mod Goes
 pub mod Tallies
 pub mod CountsSeen
 pub mod Drilled
+pub mod Served
 pub mod Serving
-pub mod ServeRoom
 pub mod ServeReads

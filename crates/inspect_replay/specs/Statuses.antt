@@ -19,7 +19,7 @@ kind_name TooDeep = codes "TooDeep"
 -- the line on standard error
 abbrev pub line_of_status : Status → List ℕ
 line_of_status Done = []
-line_of_status Usage = codes "usage: inspect replay, inspect serve or inspect drill N"
+line_of_status Usage = codes "usage: inspect replay, inspect serve, inspect drill N or inspect share"
 line_of_status (Line number fault) = codes "line " ++ decimal number ++ codes ": " ++ fault_name fault
 line_of_status TooLong = codes "input too long"
 line_of_status ReadFault = codes "read fault"

@@ -15,6 +15,12 @@ is_serve [] = false
 is_serve (word ∷ []) = bytes_eq word (codes "serve")
 is_serve (word ∷ next ∷ more) = false
 
+-- the one word `share`
+abbrev pub is_share : List (List ℕ) → Bool
+is_share [] = false
+is_share (word ∷ []) = bytes_eq word (codes "share")
+is_share (word ∷ next ∷ more) = false
+
 -- a drill may have so many divs, and the text is that number in decimal digits, without a leading zero
 abbrev pub is_count : List ℕ → ℕ → Bool
 is_count text n = is_drill n && bytes_eq (decimal n) text

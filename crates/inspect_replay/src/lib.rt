@@ -1,5 +1,5 @@
 //! The top call: the replay of a script, a back end and a front end over a link, and what the script's lines print. And the back
-//! end alone, which serves a client; and a drill, whose script is made from one number.
+//! end alone, which serves one client, or two on one pipe; and a drill, whose script is made from one number.
 //!
 //! Promise: the clauses of `inspect` (src/program.rt), for every input and every source, sink and link that keep their traits'
 //! contracts; over an honest link the sink takes exactly the report of the script.
@@ -7,10 +7,11 @@
 //! Way in: `inspect` with the program's words; `status_line` and `exit_code` of what it answers.
 //!
 //! Laws: `fits_law` of `inspect_world`, offered here. What each answer says is one table (`says`, specs/Says); the clauses over
-//! every link stand in specs/Followed, those of `serve` in specs/Serving, what a function of a run takes a run to in specs/Runs
+//! every link stand in specs/Followed, those of `serve` and `share` in specs/Serving, what a function of a run takes a run to in specs/Runs
 //! and specs/Moments.
 #![tactic(auto)]
 
+mod clients;
 mod counts;
 mod drills;
 mod ends;

@@ -7,7 +7,7 @@ ghost use Rattle.inspect_world.specs.Links.{came_styles};
 ghost use Rattle.inspect_world.specs.Scripts.{report, report_refused};
 ghost use Rattle.inspect_world.specs.ScriptsFit.{UndoRestoresInRuns};
 ghost use Rattle.drill_script.specs.Given.{is_drill};
-ghost use Rattle.inspect_replay.specs.Words.{is_replay, is_serve, drill_in};
+ghost use Rattle.inspect_replay.specs.Words.{is_replay, is_serve, is_share, drill_in};
 ghost use Rattle.inspect_replay.specs.Tallies.{TalliesShown, drill_text};
 ghost use Rattle.inspect_replay.specs.Drilled.{DrillWrites, IsDrillStatus};
 ghost use Rattle.inspect_replay.specs.declared.status.Status.TheVariants.{Done, Usage};
@@ -18,15 +18,15 @@ ghost use Rattle.inspect_replay.specs.Answers.{ReadsAll, IsLate};
 ghost use Rattle.inspect_replay.specs.Says.{status_of};
 ghost use Rattle.inspect_replay.specs.Stops.{two_counts, three_counts};
 ghost use Rattle.inspect_replay.specs.declared.stop.Stop.TheVariants.{ReadFault};
-ghost use Rattle.inspect_replay.specs.Serving.{ServeTook, IsServeStatus};
-ghost use Rattle.inspect_replay.specs.ServeReads.{ReadsInTurn};
+ghost use Rattle.inspect_replay.specs.Serving.{ServeTook, ShareTook, IsServeStatus, IsShareStatus};
+ghost use Rattle.inspect_replay.specs.ServeReads.{ReadsInTurn, SharesInTurn};
 
 use crate::drills::run_drill;
 use crate::run::run_script;
-use crate::serve::serve;
+use crate::serve::{serve, share};
 use crate::status::Status;
 use crate::stop::Stop;
-use crate::words::{drill_in, is_replay, is_serve};
+use crate::words::{drill_in, is_replay, is_serve, is_share};
 use front_mirror::Panel;
 use inspect_world::fits_law;
 use pipe_frames::{Link, ReadErr, Sink, Source, read_all};
@@ -48,6 +48,8 @@ pub const LINE_LIMIT: usize = 16_777_216;
 ///
 /// `serve` answers frames: each that is whole is answered on `out` before more is read. It uses neither `link` nor `panels`.
 ///
+/// `share` is a `serve` in which a second client may be attached to the page; its frames and messages have a `sessionId`.
+///
 /// `drill N` makes a page of N divs and the lines of a script from that number, carries them out over `link`, and writes six numbers of
 /// what came of it. It reads nothing.
 pub fn inspect<S: Source, K: Sink, L: Link>(
@@ -64,11 +66,14 @@ pub fn inspect<S: Source, K: Sink, L: Link>(
         → Took result (K.taken out.old) (K.taken out.new) (report (map (λ p. kind_of p) panels.items) input) }
     // its half on undo: at each moment of the run that is reported, an undo leads to the very tree and texts that were saved
     ensures restores { UndoRestoresInRuns }
-    // over an honest link no message is refused, and there is always room, whatever the source tells of its bytes
-    ensures sound { L.honest link.old → IsLevel (L.up link.old) → IsLevel (L.down link.old) → IsHonest result }
+    // over an honest link no message is refused, and there is always room, whatever the source tells of its bytes; of `share`, which
+    // uses no link, `shares` and `share_status` say when there is room
+    ensures sound { is_share (map string_bytes words.now) ≡ false
+        → L.honest link.old → IsLevel (L.up link.old) → IsLevel (L.down link.old) → IsHonest result }
     // over every link: a message is refused exactly where the fold of the bytes sent up and given down refuses it; and no room
     // is left only where at least 2^28 bytes were sent up
-    ensures refused { StatusFolds result (fold_since (L.up link.old) (L.down link.old) (L.up link.new) (L.down link.new)) }
+    ensures refused { is_share (map string_bytes words.now) ≡ false
+        → StatusFolds result (fold_since (L.up link.old) (L.down link.old) (L.up link.new) (L.down link.new)) }
     // over every link: what is written ends with the outline of what that fold shows
     ensures closes { is_replay (map string_bytes words.now) ≡ true → result ≡ Done → EndsShown (K.taken out.old) (K.taken out.new)
         (fold_since (L.up link.old) (L.down link.old) (L.up link.new) (L.down link.new)) }
@@ -79,7 +84,7 @@ pub fn inspect<S: Source, K: Sink, L: Link>(
     // are given than were sent
     ensures less { StatusLess result (fold_since (L.up link.old) (L.down link.old) (L.up link.new) (L.down link.new)) }
     ensures usage { result ≡ Usage ↔ ((is_replay (map string_bytes words.now) || is_serve (map string_bytes words.now)
-        || is_some (drill_in (map string_bytes words.now))) ≡ false) }
+        || is_share (map string_bytes words.now) || is_some (drill_in (map string_bytes words.now))) ≡ false) }
     // a drill: over an honest link the sink takes the six lines of the run's numbers, in which no front end takes part
     ensures drill { L.honest link.old → IsLevel (L.up link.old) → IsLevel (L.down link.old)
         → (n : ℕ) → drill_in (map string_bytes words.now) ≡ Some n
@@ -153,6 +158,23 @@ pub fn inspect<S: Source, K: Sink, L: Link>(
     }) }
     ensures serve_status { is_serve (map string_bytes words.now) ≡ true → IsServeStatus result }
     ensures serve_unlinked { is_serve (map string_bytes words.now) ≡ true → link.new ≡ link.old }
+    // two clients on one pipe are answered likewise, each in its own session: the sink takes the frames of their steps on the whole frames
+    // that came, up to the first for which there is no room
+    ensures shares { is_share (map string_bytes words.now) ≡ true
+        → (input : List ℕ) → S.left src.old ≡ Some input → ShareTook result input (record {
+          left_before = S.left src.old;
+          left_after = S.left src.new;
+          taken_before = K.taken out.old;
+          taken_after = K.taken out.new;
+        }) }
+    ensures share_reads { is_share (map string_bytes words.now) ≡ true → SharesInTurn (S.calls src.old) (S.calls src.new) (record {
+      left_before = S.left src.old;
+      left_after = S.left src.new;
+      taken_before = K.taken out.old;
+      taken_after = K.taken out.new;
+    }) }
+    ensures share_status { is_share (map string_bytes words.now) ≡ true → IsShareStatus result }
+    ensures share_unlinked { is_share (map string_bytes words.now) ≡ true → link.new ≡ link.old }
 {
     // Called for the proof alone: the law is what `restores` says.
     fits_law();
@@ -161,6 +183,9 @@ pub fn inspect<S: Source, K: Sink, L: Link>(
     }
     if is_serve(words) {
         return serve(alloc, src, out);
+    }
+    if is_share(words) {
+        return share(alloc, src, out);
     }
     if let Some(divs) = drill_in(words) {
         return drill(alloc, panels, divs, out, link);

@@ -25,7 +25,8 @@ pub enum Status {
     LinkFault,
     /// The front end refused the message at this place of the down stream, counted from 1.
     FrontRefused { place: u64, fault: FrontKind },
-    /// No id or serial was left. At least 2^28 bytes were sent up, over a link that is not honest.
+    /// No id or serial was left: at least 2^28 bytes were sent up, over a link that is not honest. Or a client that shares the page has
+    /// no room for the next step.
     NoRoom,
     /// There was no memory for the run.
     Memory,
@@ -39,7 +40,7 @@ pub fn status_line(alloc: Global, s: &Status) -> Result<String, AllocError>
         Status::Done => Ok(String::new(alloc)),
         Status::Usage => String::from_str(
             alloc,
-            "usage: inspect replay, inspect serve or inspect drill N",
+            "usage: inspect replay, inspect serve, inspect drill N or inspect share",
         ),
         Status::Line { number, fault } => refused_line(alloc, *number, *fault),
         Status::TooLong => String::from_str(alloc, "input too long"),

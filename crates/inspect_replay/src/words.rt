@@ -1,5 +1,5 @@
 ghost use Rattle.std.specs.Prelude.{◌≡◌, map, string_bytes};
-ghost use Rattle.inspect_replay.specs.Words.{is_replay, is_serve, count_in, drill_in};
+ghost use Rattle.inspect_replay.specs.Words.{is_replay, is_serve, is_share, count_in, drill_in};
 
 use drill_script::is_drill;
 
@@ -19,6 +19,16 @@ pub(crate) fn is_serve(words: &[String]) -> bool
 {
     match words {
         [word] => word.as_str() == "serve",
+        _ => false,
+    }
+}
+
+/// Whether the words are exactly `share`.
+pub(crate) fn is_share(words: &[String]) -> bool
+    ensures { result ≡ is_share (map string_bytes words.now) }
+{
+    match words {
+        [word] => word.as_str() == "share",
         _ => false,
     }
 }

@@ -1,6 +1,6 @@
 //! Runs `inspect` on the examples that its standard input holds, and prints what is answered to each.
 //!
-//! An example begins with a line `## WORD NAME`; the lines up to the next are what `inspect WORD` reads. To `serve` each
+//! An example begins with a line `## WORD NAME`; the lines up to the next are what `inspect WORD` reads. To `serve` and `share` each
 //! line is a frame, whose line feed stands for its zero byte. A last line that ends in `..` is cut off there: no line feed
 //! and no zero byte stands behind it. A line `#! PART N` says that the N-th call of a part of the outside fails, `source`,
 //! `sink` or `link`. Lines `#! outline`, `#! counts` and `#! watch S` say which panels are handed in; without one they are the program's,
@@ -113,7 +113,10 @@ fn append(example: &mut Example<'_>, line: &[u8]) -> io::Result<()> {
         return Ok(());
     }
     example.input.extend_from_slice(line)?;
-    let end = if example.word == "serve" { 0 } else { b'\n' };
+    let end = match example.word {
+        "serve" | "share" => 0,
+        _ => b'\n',
+    };
     example.input.push(end)?;
     Ok(())
 }

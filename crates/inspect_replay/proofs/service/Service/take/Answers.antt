@@ -1,8 +1,6 @@
 -- The frames that became whole are answered.
 use Rattle.inspect_replay.specs.Serving.{serve_moment}
 use Rattle.inspect_replay.proofs.ServeLemmas.{has-taken, piece-ends, piece-lost}
-use Rattle.std.proofs.Common.{refl}
-use Rattle.inspect_replay.proofs.ServeRoom.{came-piece}
 use Rattle.inspect_replay.proofs.service.Service.take.Goals as goal
 
 pub returns-in-Ok-clause-takes : goal.returns-in-Ok-clause-takes
@@ -17,8 +15,3 @@ returns-in-Ok-clause-takes g c = λ so_far serves.
 pub returns-in-Err-clause-takes : goal.returns-in-Err-clause-takes
 returns-in-Err-clause-takes g c = λ so_far serves. piece-lost so_far
     (serve_moment c.args.self.now (g.K.Sink.taken c.args.out.now)) c.args.piece.now serves
-
-pub answer_whole-requires : goal.answer_whole-requires
-answer_whole-requires g c = record {
-  few = came-piece c.args.self.now _ c.args.piece.now c.requires.left refl refl (c.in-Ok.ensures {u = c.in-Ok.field-0}).ok;
-}
