@@ -115,9 +115,14 @@ replay-or-share (word ∷ []) e f =
     sym ((bytes_eq-Decides word (codes "replay")).0 e) ∙ (bytes_eq-Decides word (codes "share")).0 f in absurd cc
 replay-or-share (word ∷ next ∷ more) e f = absurd cc
 
+-- the second letters of two of the words
+letters-apart : ◌≡◌ {A = ℕ} 101 104 → ⊥
+letters-apart e = omega (arith, e)
+
 pub serve-or-share : (words : List (List ℕ)) → is_serve words ≡ true → is_share words ≡ true → ⊥
 serve-or-share [] e f = absurd cc
 serve-or-share (word ∷ []) e f =
     let both : codes "serve" ≡ codes "share" =
-    sym ((bytes_eq-Decides word (codes "serve")).0 e) ∙ (bytes_eq-Decides word (codes "share")).0 f in absurd cc
+    sym ((bytes_eq-Decides word (codes "serve")).0 e) ∙ (bytes_eq-Decides word (codes "share")).0 f in
+    letters-apart (ap (λ (t : List ℕ). get_or t 1 0) both)
 serve-or-share (word ∷ next ∷ more) e f = absurd cc
