@@ -28,17 +28,17 @@ use Rattle.inspect_world.specs.Fits.{sheet_told, sheet_asked, ask_of, ask_of_fra
 use Rattle.inspect_world.specs.FreshRuns.{front_fetcher}
 
 -- the value of a fetch, by its id
-abbrev fetch_value : ℕ → ℕ → Data
+abbrev pub fetch_value : ℕ → ℕ → Data
 fetch_value id sheet = command_value id (codes "CSS.getStyleSheetText") (Some (fetch_params sheet)) None
 
-fetch-plain : (id sheet : ℕ) → is_counted id ≡ true → is_plain (fetch_value id sheet) ≡ true
+pub fetch-plain : (id sheet : ℕ) → is_counted id ≡ true → is_plain (fetch_value id sheet) ≡ true
 fetch-plain id sheet small = ask_plain id (codes "CSS.getStyleSheetText") (Some (fetch_params sheet)) None small refl refl
 
 told-utf8 : (sheet : ℕ) → sheet < 2 ^ 64 → IsUtf8 (sheet_text sheet)
 told-utf8 sheet fits = IsUtf8-append (115 ∷ []) (decimal sheet) (IsUtf8-are_ascii (115 ∷ []) refl)
     (IsUtf8-from_ascii (decimal sheet) (IsAscii-decimal sheet fits))
 
-fetch-utf8 : (id sheet : ℕ) → sheet < 2 ^ 64 → HasUtf8 (fetch_value id sheet)
+pub fetch-utf8 : (id sheet : ℕ) → sheet < 2 ^ 64 → HasUtf8 (fetch_value id sheet)
 fetch-utf8 id sheet fits = (
   IsUtf8-are_ascii (codes "id") refl,
   tt,
@@ -49,7 +49,7 @@ fetch-utf8 id sheet fits = (
   ),
 )
 
-fetch-shallow : (id sheet : ℕ) → depth (fetch_value id sheet) ≤ max_depth
+pub fetch-shallow : (id sheet : ℕ) → depth (fetch_value id sheet) ≤ max_depth
 fetch-shallow id sheet = omega arith
 
 pub fetch-text : (id sheet : ℕ) → id < 2 ^ 53 → IsText (command_text id (codes "CSS.getStyleSheetText") (Some (fetch_params sheet)) None)

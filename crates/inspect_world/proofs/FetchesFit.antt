@@ -26,14 +26,15 @@ use Rattle.inspect_world.specs.RunStates.{RunState, styles_asked, styles_answere
 use Rattle.inspect_world.specs.ShownPauses.{pauses_in}
 use Rattle.inspect_world.proofs.Growing.{pauses-of}
 use Rattle.front_mirror.specs.declared.replies.Ask.{Ask}
+use Rattle.front_mirror.specs.declared.sheets.KnownSheet.{KnownSheet}
 use Rattle.front_mirror.specs.Sheets.{has_sheet, with_fetched, stale_of}
 use Rattle.front_mirror.specs.declared.faults.FrontKind.{FrontKind}
 use Rattle.front_mirror.specs.Front.{FrontValue, reply_frame, first_value, fetch_ask, method_waiting, fetched_sheet, reply_kept}
 use Rattle.front_mirror.specs.Front.{unless_fetch}
 use Rattle.front_mirror.specs.Front.{kept_reply, sheets_fetched, asks_without, replied, seen_pause, with_body, with_reply, with_message}
 use Rattle.front_mirror.specs.Front.{take_frame}
-use Rattle.front_mirror.specs.Laws.{Has}
-use Rattle.back_end.specs.States.{State, sheets_shown, view_of}
+use Rattle.front_mirror.specs.Laws.{Has, KnowsSheets}
+use Rattle.back_end.specs.States.{State, IsState, sheets_shown, view_of}
 use Rattle.back_end.specs.Laws.{HasRoom}
 use Rattle.session_runs.specs.Stream.{sent, arriving}
 use Rattle.front_mirror.specs.declared.panels.PanelKind.{PanelKind}
@@ -71,24 +72,27 @@ use Rattle.inspect_world.proofs.Inputs.{input-script, Script}
 
 -- ---- which sheets are fetched
 
--- a front end that fits knows the sheets that are shown, which are few
+-- a front end knows the sheets that are shown, which are few
+pub few-known : (state : State) (known : List KnownSheet) → IsState state → KnowsSheets known (sheets_shown state)
+    → length (stale_of known) ≤ most_sheets
+few-known state known is knows =
+    let shown : length (sheets_shown state) ≤ 1000 = (shown-below state is).few in
+    let same : length known ≡ length (sheets_shown state) = known-length known (sheets_shown state) knows in
+    let stale : length (stale_of known) ≤ length known = stale-few known in
+    omega (arith, shown, same, stale)
+
 few-stale : (n : Spent) (front : FrontValue) (s : RunState) (frames : List (List ℕ)) → IsFit n front s frames
     → length (stale_of front.sheets) ≤ most_sheets
-few-stale n front s frames fit =
-    let state : State = s.back in
-    let shown : length (sheets_shown state) ≤ 1000 = (shown-below state fit.is_state).few in
-    let known : length front.sheets ≡ length (sheets_shown state) = known-length front.sheets (sheets_shown state) fit.has.sheets in
-    let stale : length (stale_of front.sheets) ≤ length front.sheets = stale-few front.sheets in
-    omega (arith, shown, known, stale)
+few-stale n front s frames fit = few-known s.back front.sheets fit.is_state fit.has.sheets
 
 -- a sheet whose text is fetched: it is shown, with a number of sheets; both domains are on
-record IsShownSheet (state : State) (number : ℕ) : Type 0 where
-  text : List ℕ
-  shown : shown_text number state.side.sheets ≡ Some text
-  css : state.client.css_on ≡ true
-  dom : state.client.dom_on ≡ true
-  low : 1 ≤ number
-  high : number < 2 ^ 53
+pub record IsShownSheet (state : State) (number : ℕ) : Type 0 where
+  pub text : List ℕ
+  pub shown : shown_text number state.side.sheets ≡ Some text
+  pub css : state.client.css_on ≡ true
+  pub dom : state.client.dom_on ≡ true
+  pub low : 1 ≤ number
+  pub high : number < 2 ^ 53
 
 shown-on : (on : Bool) (ss : List ShownSheet) (number : ℕ) (text : List ℕ) → shown_text number (cond on ss []) ≡ Some text
     → (on ≡ true) × (shown_text number ss ≡ Some text)
@@ -99,26 +103,29 @@ not-off : (b : Bool) → (b ≡ false → ⊥) → b ≡ true
 not-off true never = refl
 not-off false never = absurd (never refl)
 
-due-shown : (n : Spent) (front : FrontValue) (s : RunState) (number : ℕ) (numbers : List ℕ)
-    → IsDue IsFit front_fetcher most_fetches n front s number numbers
-    → IsShownSheet s.back number
-due-shown n front s number numbers due =
-    let state : State = s.back in
-    let room : HasRoom state = fit-room n front s [] due.fit in
+-- the first sheet without a fresh text is such a one
+pub stale-is-shown : (state : State) (known : List KnownSheet) (number : ℕ) (numbers : List ℕ) → IsState state → HasRoom state
+    → KnowsSheets known (sheets_shown state) → stale_of known ≡ number ∷ numbers → IsShownSheet state number
+stale-is-shown state known number numbers is room knows first =
     let next : state.side.next_sheet < 2 ^ 50 = room.sheets in
-    let has : HasText number (sheets_shown state) = stale-shown front.sheets
-    (sheets_shown state) number numbers due.fit.has.sheets due.first in
+    let has : HasText number (sheets_shown state) = stale-shown known (sheets_shown state) number numbers knows first in
     let on = shown-on state.client.css_on state.side.sheets number has.text has.is in
     let within : (1 ≤ number) × (number < state.side.next_sheet) =
-    shown-number number 1 state.side.next_sheet (sheets_shown state) has.text (shown-below state due.fit.is_state).numbers has.is in
+    shown-number number 1 state.side.next_sheet (sheets_shown state) has.text (shown-below state is).numbers has.is in
     record {
       text = has.text;
       shown = on.1;
       css = on.0;
-      dom = not-off state.client.dom_on (λ off. let no : true ≡ false = sym on.0 ∙ due.fit.is_state.now.css_off off in absurd cc);
+      dom = not-off state.client.dom_on (λ off. let no : true ≡ false = sym on.0 ∙ is.now.css_off off in absurd cc);
       low = within.0;
       high = let below : number < state.side.next_sheet = within.1 in omega (arith, next, below);
     }
+
+due-shown : (n : Spent) (front : FrontValue) (s : RunState) (number : ℕ) (numbers : List ℕ)
+    → IsDue IsFit front_fetcher most_fetches n front s number numbers
+    → IsShownSheet s.back number
+due-shown n front s number numbers due =
+    stale-is-shown s.back front.sheets number numbers due.fit.is_state (fit-room n front s [] due.fit) due.fit.has.sheets due.first
 
 numbered : (number : ℕ) → 1 ≤ number → number < 2 ^ 53 → is_sheet number ≡ true
 numbered number low high = both (nat_lt 0 number) (is_counted number) (lt-ltb 0 number (omega (arith, low))) (lt-ltb number (2 ^ 53) high)
@@ -130,20 +137,20 @@ numbered number low high = both (nat_lt 0 number) (is_counted number) (lt-ltb 0 
 -- ---- what is answered
 
 -- a reply with a text is one without a zero byte
-texted-is-text : (id number : ℕ) (text : List ℕ) → is_counted id ≡ true → IsText (move_text (texted id number text))
+pub texted-is-text : (id number : ℕ) (text : List ℕ) → is_counted id ≡ true → IsText (move_text (texted id number text))
 texted-is-text id number text counted = texts_have_no_zero (message_data (reply id (body_data (SheetText text))))
     (reply_plain id (SheetText text) counted refl)
 
 -- the step on the fetch
-fetch-step : (n : Spent) (number : ℕ) (state : State) → n.fetches + 1 ≤ most_fetches → (s : IsShownSheet state number)
-    → frame_step false (front_fetcher.text n.fetches number) state
-    ≡ record { state = state; moves = texted (2 ^ 30 + n.fetches) number s.text ∷ [] }
-fetch-step n number state few s =
-    ap (λ r. asked_step r state) (fetcher-asked n.fetches number few (omega (arith, s.high)))
-    ∙ shown-told (2 ^ 30 + n.fetches) number s.text state s.dom s.css s.high (numbered number s.low s.high) s.shown
+pub fetch-step : (count number : ℕ) (state : State) → count + 1 ≤ most_fetches → (s : IsShownSheet state number)
+    → frame_step false (front_fetcher.text count number) state
+    ≡ record { state = state; moves = texted (2 ^ 30 + count) number s.text ∷ [] }
+fetch-step count number state few s =
+    ap (λ r. asked_step r state) (fetcher-asked count number few (omega (arith, s.high)))
+    ∙ shown-told (2 ^ 30 + count) number s.text state s.dom s.css s.high (numbered number s.low s.high) s.shown
 
 -- a reply with the text of a sheet, to the fetch that waits alone
-fetched-front : (v : FrontValue) (count number : ℕ) (text : List ℕ) → v.asks ≡ fetch_ask count number ∷ []
+pub fetched-front : (v : FrontValue) (count number : ℕ) (text : List ℕ) → v.asks ≡ fetch_ask count number ∷ []
     → is_counted (2 ^ 30 + count) ≡ true → IsUtf8 text
     → (after : FrontValue) × (take_frame v (move_text (texted (2 ^ 30 + count) number text)) ≡ Ok after)
     × (after.sheets ≡ with_fetched number text v.sheets) × (unstyled after ≡ record (unstyled v) { asks = [] })
@@ -190,7 +197,7 @@ gives-text n front after run number numbers due taken =
     let s : IsShownSheet state number = due-shown n front run number numbers due in
     let text = front_fetcher.text n.fetches number in
     let move = texted (2 ^ 30 + n.fetches) number s.text in
-    let done : frame_step false text state ≡ record { state = state; moves = move ∷ [] } = fetch-step n number state due.left s in
+    let done : frame_step false text state ≡ record { state = state; moves = move ∷ [] } = fetch-step n.fetches number state due.left s in
     let few : n.fetches + 1 ≤ most_fetches = due.left in
     let counted : is_counted (2 ^ 30 + n.fetches) ≡ true = lt-ltb (2 ^ 30 + n.fetches) (2 ^ 53) (omega (arith, few)) in
     let utf8 : IsUtf8 s.text = shown-utf8 number s.text state.side.sheets due.fit.is_state.now.sheets.texts s.shown in
@@ -232,7 +239,7 @@ fetch_laws = record {
   few = few-stale;
   known = λ front number numbers first. stale-known front.sheets number numbers first;
   letters = λ n front state number numbers due. fetcher-text n.fetches number due.left;
-  next = λ n front state number numbers due. let s : IsShownSheet state.back number = due-shown n front state number numbers due in
+  next = λ n front state number numbers room due. let s : IsShownSheet state.back number = due-shown n front state number numbers due in
       fetcher-next n number due.left (omega (arith, s.high));
   answer = λ n front after state number numbers room. gives-text n front after state number numbers;
 }

@@ -1,8 +1,8 @@
 mod ZeroFree
-mod NumberLemmas
+pub mod NumberLemmas
 mod StepLemmas
-mod PlaceLemmas
-mod SendLemmas
-mod BothLemmas
+pub mod PlaceLemmas
+pub mod SendLemmas
+pub mod BothLemmas
 mod WholeLemmas
 mod TakeLemmas

@@ -10,7 +10,7 @@ use Rattle.front_mirror.specs.Front.{FrontValue, take_frame, FrontState, plain_a
 use Rattle.front_mirror.proofs.FoldLemmas.{take_frame-more}
 use Rattle.session_runs.specs.Fold.{asks_joined}
 use Rattle.session_runs.specs.PairFit.{ReadLaws}
-use Rattle.session_runs.specs.Pairs.{SessionAsks, Second, FrontPair, front_pair}
+use Rattle.session_runs.specs.Pairs.{to_root, SessionAsks, Second, FrontPair, front_pair}
 use Rattle.session_runs.specs.Pairs.{first_pair, join_two, join_way, join_pair}
 use Rattle.session_runs.proofs.Folds.{joined-append}
 use Rattle.session_runs.proofs.PairFolds.{later-pair}
@@ -158,6 +158,29 @@ second-asks u up down frame method s w is stands asks =
 pub second-fetches : SecondFetches
 second-fetches u up down frame sheet s w is stands asks =
     second-waits u up down frame s w (fetch_ask w.value.fetches sheet) (λ f. after_fetch f sheet) is stands asks refl
+
+-- ---- frames that ask for nothing
+
+-- after a frame that names no ask they are the fold of what they took as before
+pub both-unasked : (u : UpReads) (up down frame text : List ℕ) (s : FrontsState) → IsFoldOfBoth u up down s → IsText frame
+    → u.way frame ≡ to_root text → u.asks text ≡ [] → IsFoldOfBoth u (up ++ framed frame) down s
+both-unasked u up down frame text s is letters way asks = record {
+  asked = is.asked;
+  value =
+      let r = value_reads u in
+      let p = pair_value is.asked s.pair in
+      sent-more u up down frame p is.whole letters is.value
+      ∙ ap (λ way. Ok (join_way r way p)) way
+      ∙ ap (λ more. Ok (record p { one = asks_more p.one more })) asks
+      ∙ ap (λ asks. Ok (record p { one = record p.one { asks = asks } })) (append-nil p.one.asks);
+  taken = is.taken;
+  rest = is.rest;
+  well = is.well;
+  unread = is.unread;
+  whole = whole-more up frame letters is.whole;
+  were_attached = is.were_attached;
+  second = is.second;
+}
 
 -- ---- commands
 

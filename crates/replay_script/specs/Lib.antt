@@ -9,3 +9,4 @@ pub mod Names
 pub mod Loads
 pub mod PairLines
 pub mod PairSeen
+pub mod PairScript

@@ -23,7 +23,7 @@ still-like : (s t : Stream) → IsLike s t → IsStill t → IsStill s
 still-like s t like still = record { flying = like.flying ∙ still.flying; held = like.held ∙ still.held }
 
 -- one frame arrives where the stream was still
-arriving-one : (text : List ℕ) (s : Stream) → IsText text → IsStill s
+pub arriving-one : (text : List ℕ) (s : Stream) → IsText text → IsStill s
     → arriving (length (put_last (framed text) s).flying) (put_last (framed text) s) ≡ text ∷ []
 arriving-one text s letters still =
     let bytes = s.flying ++ framed text in
@@ -94,7 +94,7 @@ module _ {S F E X A N L M R : Type 0} (machine : Machine S F E X N) (HasRoom : S
       fits-sent_up machine HasRoom IsNext IsTurn Fit laws start text fetcher.one_more v letters
       (subst (λ frames. IsNext v.spent v.state frames text (fetcher.one_more v.spent))
       (sym (awaited-none v.up rests.up.flying rests.up.held))
-      (fetching.next v.spent front v.state number numbers due)) fits in
+      (fetching.next v.spent front v.state number numbers has due)) fits in
       let fits2 : Fits machine.take machine.join Fit start after = fits-settled machine HasRoom IsNext IsTurn Fit laws start v1
       (subst (RoomThroughout machine.step HasRoom v.state) (sym (arriving-one text v.up letters rests.up)) (has, tt)) fits1 in
       let rests2 : IsAtRest after = settled-rests machine Fit start v1 fits2 in

@@ -10,3 +10,9 @@ pub mod RunLaws
 pub mod PairFolds
 pub mod PairLaws
 pub mod PairRuns
+pub mod LinkRuns
+pub mod RefreshLemmas
+pub mod CalmLemmas
+pub mod CameLemmas
+pub mod SeenLemmas
+pub mod FetchPairs

@@ -16,6 +16,7 @@ use Rattle.session_runs.specs.Pairs.{ClientPair, client_pair, ClientSteps, tagge
 use Rattle.session_runs.specs.Pairs.{pair_step, pair_act}
 use Rattle.session_runs.specs.PairRuns.{pair_machine, NextIsCalm, NextInPair}
 use Rattle.session_runs.specs.PairFit.{ReadLaws, BothHaveRoom, IsNoTarget, IsWritten, LeadsClient, ClientLaws, root_asked, session_asked}
+use Rattle.session_runs.specs.PairFit.{AttachedIsTold}
 use Rattle.session_runs.specs.PairFit.{root_asks, session_asks, IsCalm, calm_root, calm_second}
 use Rattle.session_runs.specs.PairFit.{AreCalm, TwoFit, neither, both, Calm, MayTarget, may_attach, may_detach, PairFit, is_calm}
 use Rattle.session_runs.specs.PairFit.{is_targeting, next_frame, next_target}
@@ -152,18 +153,27 @@ module _ {V E A P C D X T : Type 0} (r : FrontReads V E A T) (b : ClientSteps P 
   root-leads : (text : List ℕ) (one : V) (o : Option (Second V T)) (xs : List (SessionAsks A T)) (top : ℕ) (side : P) (root second : C)
       (a : Option ℕ) (next : ℕ) (frames : List (List ℕ)) (asks : List A) → HasRoom side root → HasRoom side second → MaySend text
       → Shows one side root (r.asks text ++ root_asks r frames) → TwoFit r b IsNumber Shows side second next asks o a
-      → asks ≡ session_asks r frames → AreCalm r b MaySend a frames → top < next
+      → asks ≡ session_asks r frames → AreCalm r b MaySend a frames → top < next → AttachedIsTold r b IsNumber second top a
       → ((k : ℕ) → IsNumber k → next ≤ k → asks_of_session r (b.text_of k) xs ≡ [])
       → StepLeads (front_pair one o [] xs top) (root_step r b text (client_pair side root second a next)) frames
-  root-leads text one _ xs top side root second _ next frames asks room room2 may shows neither same calm low asked =
+  root-leads text one _ xs top side root second _ next frames asks room room2 may shows neither same calm low told asked =
       let done = b.own text side root in
       let own = (laws.owns text one side root (root_asks r frames) room may shows).0 in
       record {
         after = front_pair own.after None [] xs top;
         goes = goes-one r b reads IsNumber Shows one None [] xs top done.sent done.side done.client (root_asks r frames) own;
-        fit = (record { one = own.shows; two = neither; calm = calm; none_waiting = refl; top = low; asked = asked });
+        fit = (record {
+          one = own.shows;
+          two = neither;
+          calm = calm;
+          none_waiting = refl;
+          top = low;
+          attached_told = refl;
+          asked = asked;
+        });
       }
-  root-leads text one _ xs top side root second _ next frames asks room room2 may shows (both k v number few shows2) same calm low asked =
+  root-leads text one _ xs top side root second _ next frames asks room room2 may shows (both k v number few shows2) same calm low told
+      asked =
       let done = b.own text side root in
       let owns = laws.owns text one side root (root_asks r frames) room may shows in
       let own = owns.0 in
@@ -186,6 +196,7 @@ module _ {V E A P C D X T : Type 0} (r : FrontReads V E A T) (b : ClientSteps P 
           calm = calm;
           none_waiting = refl;
           top = low;
+          attached_told = told;
           asked = asked;
         });
       }
@@ -195,11 +206,11 @@ module _ {V E A P C D X T : Type 0} (r : FrontReads V E A T) (b : ClientSteps P 
   second-leads : (k : ℕ) → IsNumber k → (text : List ℕ) (one v : V) (xs : List (SessionAsks A T)) (top : ℕ) (side : P) (root second : C)
       (next : ℕ) (frames : List (List ℕ)) → HasRoom side root → HasRoom side second → MaySend text
       → Shows one side root (root_asks r frames) → Shows v side second (r.asks text ++ session_asks r frames)
-      → AreCalm r b MaySend (Some k) frames → k < next → top < next
+      → AreCalm r b MaySend (Some k) frames → k < next → top < next → k ≤ top
       → ((k : ℕ) → IsNumber k → next ≤ k → asks_of_session r (b.text_of k) xs ≡ [])
       → StepLeads (front_pair one (Some (record { text = b.text_of k; value = v })) [] xs top)
       (second_step r b k text (client_pair side root second (Some k) next)) frames
-  second-leads k number text one v xs top side root second next frames room room2 may shows shows2 calm few low asked =
+  second-leads k number text one v xs top side root second next frames room room2 may shows shows2 calm few low told asked =
       let done = b.own text side second in
       let owns = laws.owns text v side second (session_asks r frames) room2 may shows2 in
       let own = owns.0 in
@@ -221,6 +232,7 @@ module _ {V E A P C D X T : Type 0} (r : FrontReads V E A T) (b : ClientSteps P 
           calm = calm;
           none_waiting = refl;
           top = low;
+          attached_told = told;
           asked = asked;
         });
       }
@@ -231,14 +243,15 @@ module _ {V E A P C D X T : Type 0} (r : FrontReads V E A T) (b : ClientSteps P 
       → IsCalm r b MaySend a way
       → Shows one side root (root_asked r way ++ root_asks r frames)
       → TwoFit r b IsNumber Shows side second next (session_asked r way ++ session_asks r frames) o a
-      → AreCalm r b MaySend a frames → top < next
+      → AreCalm r b MaySend a frames → top < next → AttachedIsTold r b IsNumber second top a
       → ((k : ℕ) → IsNumber k → next ≤ k → asks_of_session r (b.text_of k) xs ≡ [])
       → StepLeads (front_pair one o [] xs top) (way_step r b way (client_pair side root second a next)) frames
-  calm-leads _ one o xs top side root second a next frames room room2 (calm_root text may) shows two calm low asked =
-      root-leads text one o xs top side root second a next frames (session_asks r frames) room room2 may shows two refl calm low asked
+  calm-leads _ one o xs top side root second a next frames room room2 (calm_root text may) shows two calm low told asked =
+      root-leads text one o xs top side root second a next frames (session_asks r frames) room room2 may shows two refl calm low told asked
   calm-leads _ one _ xs top side root second _ next frames room room2 (calm_second k text may) shows
-      (both j v number few shows2) calm low asked =
-      let leads = second-leads k number text one v xs top side root second next frames room room2 may shows shows2 calm few low asked in
+      (both j v number few shows2) calm low told asked =
+      let leads = second-leads k number text one v xs top side root second next frames room room2 may shows shows2 calm few low told asked
+      in
       subst (λ same. StepLeads (front_pair one (Some (record { text = b.text_of k; value = v })) [] xs top)
       (cond same (second_step r b k text (client_pair side root second (Some k) next))
       (answers_with r b (b.unknown_reply text) (client_pair side root second (Some k) next))) frames)
@@ -301,6 +314,7 @@ module _ {V E A P C D X T : Type 0} (r : FrontReads V E A T) (b : ClientSteps P 
           calm = tt;
           none_waiting = refl;
           top = omega arith;
+          attached_told = omega arith;
           asked = λ k low more. asked k low (omega (arith, more));
         });
       }
@@ -317,7 +331,15 @@ module _ {V E A P C D X T : Type 0} (r : FrontReads V E A T) (b : ClientSteps P 
             (take-reply one (Some (record { text = t; value = v })) xs top id detach text session_dropped
             (laws.detached_down id target) target
             (laws.detached_says id target));
-        fit = (record { one = shows; two = neither; calm = tt; none_waiting = refl; top = low; asked = asked });
+        fit = (record {
+          one = shows;
+          two = neither;
+          calm = tt;
+          none_waiting = refl;
+          top = low;
+          attached_told = refl;
+          asked = asked;
+        });
       })
 
   -- ---- the script's own step
@@ -330,12 +352,13 @@ module _ {V E A P C D X T : Type 0} (r : FrontReads V E A T) (b : ClientSteps P 
     goes : Goes r b reads IsNumber (front_pair one o ws xs top) (front_pair one1 two1 ws xs top) (pair_act r b x s).sent
     shows : Shows one1 (pair_act r b x s).state.side (pair_act r b x s).state.root asks
     two : TwoFit r b IsNumber Shows (pair_act r b x s).state.side (pair_act r b x s).state.second s.next asks2 two1 s.attached
+    told : AttachedIsTold r b IsNumber (pair_act r b x s).state.second top s.attached
 
   act-leads : (x : X) (one : V) (o : Option (Second V T)) (ws : List WaitingTarget) (xs : List (SessionAsks A T)) (top : ℕ) (side : P)
       (root second : C) (a : Option ℕ) (next : ℕ) (asks asks2 : List A) → HasRoom side root → HasRoom side second → IsTurn x
-      → Shows one side root asks → TwoFit r b IsNumber Shows side second next asks2 o a
+      → Shows one side root asks → TwoFit r b IsNumber Shows side second next asks2 o a → AttachedIsTold r b IsNumber second top a
       → Acted x one o ws xs top (client_pair side root second a next) asks asks2
-  act-leads x one _ ws xs top side root second _ next asks asks2 room room2 turn shows neither =
+  act-leads x one _ ws xs top side root second _ next asks asks2 room room2 turn shows neither told =
       let done = b.act x side root in
       let own = laws.acts x one side root asks room turn shows in
       record {
@@ -347,8 +370,9 @@ module _ {V E A P C D X T : Type 0} (r : FrontReads V E A T) (b : ClientSteps P 
             (goes-none r b reads IsNumber (front_pair own.after None ws xs top));
         shows = own.shows;
         two = neither;
+        told = refl;
       }
-  act-leads x one _ ws xs top side root second _ next asks asks2 room room2 turn shows (both k v number few shows2) =
+  act-leads x one _ ws xs top side root second _ next asks asks2 room room2 turn shows (both k v number few shows2) told =
       let done = b.act x side root in
       let other = b.act x side second in
       let own = laws.acts x one side root asks room turn shows in
@@ -366,6 +390,7 @@ module _ {V E A P C D X T : Type 0} (r : FrontReads V E A T) (b : ClientSteps P 
         shows = own.shows;
         two = both k out.after number few
             (subst (λ side. Shows out.after side other.client asks2) (laws.acts_alike x side root second) out.shows);
+        told = told;
       }
 
   -- ---- what is sent up
@@ -479,6 +504,7 @@ module _ {V E A P C D X T : Type 0} (r : FrontReads V E A T) (b : ClientSteps P 
           calm = calm-last s.attached frames ask c.calm is;
           none_waiting = j.waiting ∙ c.none_waiting;
           top = subst (λ n. n < s.next) (sym j.top) c.top;
+          attached_told = subst (λ n. AttachedIsTold r b IsNumber s.second n s.attached) (sym j.top) c.attached_told;
           asked = j.asked;
         })
     fit-asks n m ask p s frames (next_frame are is) (is_targeting t) =
@@ -494,7 +520,15 @@ module _ {V E A P C D X T : Type 0} (r : FrontReads V E A T) (b : ClientSteps P 
           may_target = is;
           waits = ap (λ (q : FrontPair V A T). q.waiting) joins ∙ ap (λ ws. ws ++ w ∷ []) c.none_waiting;
           so_far = subst (λ (q : FrontPair V A T). Calm r b IsNumber Shows MaySend (record q { waiting = [] }) s []) (sym joins)
-              (record { one = c0.one; two = c0.two; calm = c0.calm; none_waiting = refl; top = c0.top; asked = c0.asked });
+              (record {
+                one = c0.one;
+                two = c0.two;
+                calm = c0.calm;
+                none_waiting = refl;
+                top = c0.top;
+                attached_told = c0.attached_told;
+                asked = c0.asked;
+              });
         })
     fit-asks n m ask p s frames (next_target w none is) (is_targeting t) =
         let wrong : t.frame ∷ [] ≡ [] = sym t.frames_are ∙ none in absurd cc
@@ -511,7 +545,7 @@ module _ {V E A P C D X T : Type 0} (r : FrontReads V E A T) (b : ClientSteps P 
         subst (λ ws. Leads (take_pair r) Fit (front_pair p.one p.two ws p.asked p.top) (pair_step r b s frame) frames) (sym c.none_waiting)
         (as-leads (front_pair p.one p.two [] p.asked p.top) (pair_step r b s frame) frames
         (calm-leads (r.way frame) p.one p.two p.asked p.top s.side s.root s.second s.attached s.next frames room.0 room.1 c.calm.0 c.one
-        c.two c.calm.1 c.top c.asked))
+        c.two c.calm.1 c.top c.attached_told c.asked))
     fit-answers n frame p s frames room (is_targeting t) =
         let same : frame ≡ t.frame = cons-head t.frames_are in
         let none : frames ≡ [] = cons-tail t.frames_are in
@@ -533,7 +567,7 @@ module _ {V E A P C D X T : Type 0} (r : FrontReads V E A T) (b : ClientSteps P 
         → Leads (take_pair r) Fit p (pair_act r b x s) frames
     fit-turns n x p s frames room turn (is_calm c) =
         let acted = act-leads x p.one p.two p.waiting p.asked p.top s.side s.root s.second s.attached s.next (root_asks r frames)
-        (session_asks r frames) room.0 room.1 turn c.one c.two in
+        (session_asks r frames) room.0 room.1 turn c.one c.two c.attached_told in
         record {
           after = front_pair acted.one1 acted.two1 p.waiting p.asked p.top;
           is_fold = acted.goes.is_fold;
@@ -544,13 +578,14 @@ module _ {V E A P C D X T : Type 0} (r : FrontReads V E A T) (b : ClientSteps P 
             calm = c.calm;
             none_waiting = c.none_waiting;
             top = c.top;
+            attached_told = acted.told;
             asked = c.asked;
           });
         }
     fit-turns n x p s frames room turn (is_targeting t) =
         let c = t.so_far in
         let acted = act-leads x p.one p.two p.waiting p.asked p.top s.side s.root s.second s.attached s.next []
-        [] room.0 room.1 turn c.one c.two in
+        [] room.0 room.1 turn c.one c.two c.attached_told in
         record {
           after = front_pair acted.one1 acted.two1 p.waiting p.asked p.top;
           is_fold = acted.goes.is_fold;
@@ -567,6 +602,7 @@ module _ {V E A P C D X T : Type 0} (r : FrontReads V E A T) (b : ClientSteps P 
               calm = tt;
               none_waiting = refl;
               top = c.top;
+              attached_told = acted.told;
               asked = c.asked;
             };
           });
@@ -596,6 +632,7 @@ module _ {V E A P C D X T : Type 0} (r : FrontReads V E A T) (b : ClientSteps P 
           calm = calm-last s.attached frames ask c.calm is;
           none_waiting = j.waiting ∙ c.none_waiting;
           top = subst (λ n. n < s.next) (sym j.top) c.top;
+          attached_told = subst (λ n. AttachedIsTold r b IsNumber s.second n s.attached) (sym j.top) c.attached_told;
           asked = j.asked;
         }
 
@@ -612,14 +649,14 @@ module _ {V E A P C D X T : Type 0} (r : FrontReads V E A T) (b : ClientSteps P 
         (sym c.none_waiting)
         (as-calm (front_pair p.one p.two [] p.asked p.top) (pair_step r b s frame) frames
         (calm-leads (r.way frame) p.one p.two p.asked p.top s.side s.root s.second s.attached s.next frames room.0 room.1 c.calm.0 c.one
-        c.two c.calm.1 c.top c.asked))
+        c.two c.calm.1 c.top c.attached_told c.asked))
 
     calm-turns : (n : N) (x : X) (p : FrontPair V A T) (s : ClientPair P C) (frames : List (List ℕ)) → BothHaveRoom r b IsNumber HasRoom s
         → IsTurn x → CalmFit p s frames
         → Leads (take_pair r) CalmFit p (pair_act r b x s) frames
     calm-turns n x p s frames room turn c =
         let acted = act-leads x p.one p.two p.waiting p.asked p.top s.side s.root s.second s.attached s.next (root_asks r frames)
-        (session_asks r frames) room.0 room.1 turn c.one c.two in
+        (session_asks r frames) room.0 room.1 turn c.one c.two c.attached_told in
         record {
           after = front_pair acted.one1 acted.two1 p.waiting p.asked p.top;
           is_fold = acted.goes.is_fold;
@@ -630,6 +667,7 @@ module _ {V E A P C D X T : Type 0} (r : FrontReads V E A T) (b : ClientSteps P 
             calm = c.calm;
             none_waiting = c.none_waiting;
             top = c.top;
+            attached_told = acted.told;
             asked = c.asked;
           };
         }

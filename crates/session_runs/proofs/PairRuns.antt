@@ -74,7 +74,15 @@ module _ {V E A P C D X T N : Type 0} (r : FrontReads V E A T) (b : ClientSteps 
         fits-first machine Room CalmNext (λ n. IsTurn) CalmFit
         (calm_laws r b reads HasRoom IsNumber MaySend IsTurn IsOutward Shows laws one_turn) (first_pair r) nothing told
         (client_pair side b.fresh b.fresh None 1)
-        (record { one = shows; two = neither; calm = tt; none_waiting = refl; top = omega arith; asked = λ k low more. refl })
+        (record {
+          one = shows;
+          two = neither;
+          calm = tt;
+          none_waiting = refl;
+          top = omega arith;
+          attached_told = refl;
+          asked = λ k low more. refl;
+        })
 
     -- ---- an attach or a detach, between two settles
 

@@ -89,7 +89,7 @@ pub record FetchLaws {S F E X A N M R : Type 0} (machine : Machine S F E X N) (H
   -- a fetch that is due is a text that may be sent
   pub letters : (n : N) (front : F) (state : S) (number : ℕ) (numbers : List ℕ)
       → IsDue Fit fetcher most n front state number numbers → IsText (fetcher.text (fetcher.count n) number)
-  pub next : (n : N) (front : F) (state : S) (number : ℕ) (numbers : List ℕ)
+  pub next : (n : N) (front : F) (state : S) (number : ℕ) (numbers : List ℕ) → HasRoom state
       → IsDue Fit fetcher most n front state number numbers → IsNext n state [] (fetcher.text (fetcher.count n) number) (fetcher.one_more n)
   -- and what the state answers gives the text
   pub answer : (n : N) (front after : F) (state : S) (number : ℕ) (numbers : List ℕ) → HasRoom state

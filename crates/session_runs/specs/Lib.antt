@@ -9,3 +9,5 @@ pub mod Pairs
 pub mod PairFit
 pub mod PairRuns
 pub mod PairLaws
+pub mod LinkRuns
+pub mod PairCame

@@ -134,6 +134,11 @@ module _ {V E A P C D X T : Type 0} (r : FrontReads V E A T) (b : ClientSteps P 
   abbrev pub BothHaveRoom : (P → C → Type 0) → ClientPair P C → Type 0
   BothHaveRoom HasRoom s = HasRoom s.side s.root × HasRoom s.side s.second × IsNumber s.next
 
+  -- where no session is attached the second client knows nothing; the number of one that is attached was told
+  abbrev pub AttachedIsTold : C → ℕ → Option ℕ → Type 0
+  AttachedIsTold second top None = second ≡ b.fresh
+  AttachedIsTold second top (Some k) = k ≤ top
+
   module _ (Shows : V → P → C → List A → Type 0) where
     -- A second front end stands just where a session is attached, and shows it.
     pub data TwoFit (side : P) (second : C) (next : ℕ) (asks : List A) : Option (Second V T) → Option ℕ → Type 0 where
@@ -149,6 +154,7 @@ module _ {V E A P C D X T : Type 0} (r : FrontReads V E A T) (b : ClientSteps P 
         pub calm : AreCalm r b MaySend s.attached frames
         pub none_waiting : p.waiting ≡ []
         pub top : p.top < s.next
+        pub attached_told : AttachedIsTold s.second p.top s.attached
         pub asked : (k : ℕ) → IsNumber k → s.next ≤ k → asks_of_session r (b.text_of k) p.asked ≡ []
 
       -- An attach or a detach is all that waits, and all else is calm.
