@@ -454,6 +454,48 @@ def _(n):
     return script
 
 
+def siblings(n, act):
+    """100 acts on n children of one parent that all panels show; act takes the number of the act."""
+    script = Replay(wide(n)).ask("DOM.getDocument", ALL).line({"settle": True}).begins()
+    for i in range(100):
+        script.line({"act": act(i)})
+    return script.line({"settle": True})
+
+
+def attribute(node):
+    return {"do": "setAttr", "node": node, "name": "a", "value": "b"}
+
+
+@row("100 attributes set on the first of n children in panels", NODES, False)
+def _(n):
+    return siblings(n, lambda i: attribute(3))
+
+
+@row("100 attributes set on the last of n children in panels", NODES, False)
+def _(n):
+    return siblings(n, lambda i: attribute(n + 2))
+
+
+@row("100 attributes set on the middle of n children in panels", NODES, False)
+def _(n):
+    return siblings(n, lambda i: attribute(3 + n // 2))
+
+
+@row("100 appends to n children in panels", NODES, False)
+def _(n):
+    return siblings(n, lambda i: {"do": "insert", "parent": 2, "before": 0, "node": {"e": "p"}})
+
+
+@row("100 children put in at the middle of n in panels", NODES, False)
+def _(n):
+    return siblings(n, lambda i: {"do": "insert", "parent": 2, "before": 3 + n // 2, "node": {"e": "p"}})
+
+
+@row("100 children of n taken out in panels, at the middle", NODES, False)
+def _(n):
+    return siblings(n, lambda i: {"do": "remove", "node": 3 + n // 2 + i})
+
+
 @row("{\"show\":\"front\"} of n nodes", NODES)
 def _(n):
     return Replay(rows(n)).ask("DOM.getDocument", ALL).line({"settle": True}).begins().line({"show": "front"})

@@ -97,3 +97,26 @@ place_then previous x ks i other there is =
     ap (λ (p : ℕ). insert ks p x) e
     ∙ place_behind previous x ks (there_behind previous (is_in previous ks) other there)
     ∙ sym (not_first previous (x ∷ ks) (id_behind previous x ks) other)
+
+-- ---- a place where an id stands
+
+pub got-inside : (ks : List ℕ) (i k : ℕ) → slice_get ks i ≡ Some k → i < length ks
+got-inside [] i k e = absurd cc
+got-inside (x ∷ ks) zero k e = omega arith
+got-inside (x ∷ ks) (suc i) k e = let h = got-inside ks i k e in omega arith
+
+pub place-low : (x : ℕ) (ks : List ℕ) → id_place x ks ≤ length ks
+place-low x [] = omega arith
+place-low x (k ∷ ks) = at (k == x) (place-low x ks) where
+  at : (b : Bool) → id_place x ks ≤ length ks → cond {A = ℕ} b 0 (suc (id_place x ks)) ≤ suc (length ks)
+  at true h = omega arith
+  at false h = omega arith
+
+-- where an id stands somewhere, it stands at the first place
+pub place-got : (x : ℕ) (ks : List ℕ) (i : ℕ) → slice_get ks i ≡ Some x → slice_get ks (id_place x ks) ≡ Some x
+place-got x [] i e = absurd cc
+place-got x (k ∷ ks) zero e = let same : k ≡ x = cc in rw (eq-eqb k x same) e
+place-got x (k ∷ ks) (suc i) e = elim (cases_eq k x) [
+  | inl same ↦ rw (eq-eqb k x same) (ap (λ (y : ℕ). Some y) same)
+  | inr other ↦ rw (ne_eqb k x other) (place-got x ks i e)
+]

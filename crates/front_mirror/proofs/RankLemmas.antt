@@ -1,6 +1,7 @@
 -- The rank of a node by its parent and its earlier siblings.
-use Rattle.std.proofs.Common.{◌⊎◌, ◌≡◌, ◌≢◌, ℕ, zero, suc, ◌+◌, ◌<◌, ◌≤◌, ◌==◌, Bool, true, false, cond, Option, Some, None, IsSome}
+use Rattle.std.proofs.Common.{◌⊎◌, ◌≡◌, ◌≢◌, ℕ, zero, suc, ◌+◌, ◌-◌, ◌<◌, ◌≤◌, ◌==◌, Bool, true, false, cond}
 use Rattle.std.proofs.Common.{◌&&◌, refl, sym, ap, ◌∙◌, subst, arith, inl, inr, ◌++◌, ◌^◌, length, length-append, unwrap_or}
+use Rattle.std.proofs.Common.{List, Option, Some, None, IsSome, option_map, slice_get}
 use Rattle.std.proofs.lemmas.Bool.{eq-eqb}
 use Rattle.node_tree.specs.Nodes.{Nodes, none, node, Branch, node_count, branch_count, tree_at, width, is_no_node}
 use Rattle.node_tree.specs.Keys.{tally, has, find, parent_of}
@@ -11,8 +12,10 @@ use Rattle.front_mirror.specs.Walks.{rank_of, count_first, walk_in}
 use Rattle.client_views.specs.Views.{IsMirror, is_document_tree}
 use Rattle.node_tree.specs.Labels.{is_document}
 use Rattle.front_mirror.specs.Shown.{known_at, root_id, no_node}
+use Rattle.front_mirror.specs.Tables.{root_ids}
 use Rattle.front_mirror.proofs.GrowLemmas.{rank-child}
-use Rattle.front_mirror.proofs.ChildLemmas.{known-found, ChildFound, child_is}
+use Rattle.front_mirror.proofs.ChildLemmas.{known-found, ChildFound, child_found, child_is}
+use Rattle.front_mirror.proofs.LookLemmas.{ids-width, ids-at}
 use Rattle.front_mirror.proofs.OrderLemmas.{splits, walk-count, walk_in-count}
 
 -- ---- how many nodes the first trees have
@@ -51,6 +54,11 @@ child-place x (node r c t) w e = at (r.id == x) (child-place x t w) e where
       → cond b (Some (record { row = r; children = c })) (child_of seen_id x t) ≡ Some w → (i : ℕ) × (tree_at i (node r c t) ≡ Some w)
   at true later f = (0, f)
   at false later f = let h = later f in (suc h.0, h.1)
+
+pub count_first-all : (i : ℕ) (n : Nodes Seen) → width n ≤ i → count_first i n ≡ node_count n
+count_first-all i none past = refl
+count_first-all zero (node r c t) past = absurd (omega arith)
+count_first-all (suc i) (node r c t) past = let h = count_first-all i t (omega arith) in omega arith
 
 -- ---- the root, and a child
 
@@ -187,30 +195,49 @@ module _ (parent : ℕ) (n : Nodes Seen) (mirror : IsMirror n) (known : IsSome (
       let h = count_first-le (i + 1) (known_at parent n).children in
       omega arith
 
-  pub counted-here : (id : ℕ) → child ≡ id → (j : ℕ) (w : Branch Seen) → tree_at j (known_at parent n).children ≡ Some w → w.row.id ≡ id
-      → count_first i (known_at parent n).children ≡ count_first j (known_at parent n).children
-  counted-here id same j w there e =
-      let key = found_key seen_id child n f.tree f.found in
-      same_place parent n mirror (known_at parent n) (known-found parent n known) i j f.tree w f.there there (key ∙ same ∙ sym e)
+  -- what is counted without the children so far
+  pub rest-fits : (count size first : ℕ)
+      → count + count_first i (known_at parent n).children ≡ node_count (known_at parent n).children + first
+      → size ≡ branch_count (known_at child n) → size ≤ count
+  rest-fits count size first e s =
+      let more = counted-more (count_first i (known_at parent n).children) size refl s in
+      let h = count_first-le (i + 1) (known_at parent n).children in
+      omega arith
 
-  pub others-more : (id : ℕ) → child ≢ id → ((j : ℕ) (w : Branch Seen) → j < i → tree_at j (known_at parent n).children ≡ Some w
-      → w.row.id ≢ id)
-      → (j : ℕ) (w : Branch Seen) → j < i + 1 → tree_at j (known_at parent n).children ≡ Some w → w.row.id ≢ id
-  others-more id other before j w less there e = elim (nat_cases j i) [
-    | inl lt ↦ before j w lt there e
-    | inr ge ↦
-        let same : j ≡ i = omega arith in
-        let at : tree_at i (known_at parent n).children ≡ Some w = subst (λ k. tree_at k (known_at parent n).children ≡ Some w) same
-        there in
-        let both : ◌≡◌ {A = Option (Branch Seen)} (Some f.tree) (Some w) = sym f.there ∙ at in
-        let is : f.tree ≡ w = cc in
-        other (sym (found_key seen_id child n f.tree f.found) ∙ ap (λ (b : Branch Seen). b.row.id) is ∙ e)
-  ]
+  pub rest-less : (count size first : ℕ)
+      → count + count_first i (known_at parent n).children ≡ node_count (known_at parent n).children + first
+      → size ≡ branch_count (known_at child n)
+      → count - size + count_first (i + 1) (known_at parent n).children ≡ node_count (known_at parent n).children + first
+  rest-less count size first e s =
+      let more = counted-more (count_first i (known_at parent n).children) size refl s in
+      let h = rest-fits count size first e s in
+      omega arith
 
-pub tree-inside : (i : ℕ) (n : Nodes Seen) (w : Branch Seen) → tree_at i n ≡ Some w → i < width n
-tree-inside i none w e = absurd cc
-tree-inside zero (node r c t) w e = omega arith
-tree-inside (suc i) (node r c t) w e = let h = tree-inside i t w e in omega arith
+-- behind the last child stand all below the node
+pub rest-all : (i count first : ℕ) (n : Nodes Seen) → width n ≤ i → count + count_first i n ≡ node_count n + first → count ≡ first
+rest-all i count first n past e = let h = count_first-all i n past in omega arith
+
+-- ---- a child of an id
+
+-- a place where the id stands has as many nodes before it as each other one
+pub place-counts : (parent id : ℕ) (n : Nodes Seen) (mirror : IsMirror n) (known : IsSome (find seen_id parent n)) (ids : List ℕ)
+    (place : ℕ) → ids ≡ root_ids (known_at parent n).children
+    → ((i : ℕ) → slice_get ids i ≡ Some id → slice_get ids place ≡ Some id)
+    → (i : ℕ) (w : Branch Seen) → tree_at i (known_at parent n).children ≡ Some w → w.row.id ≡ id
+    → count_first place (known_at parent n).children ≡ count_first i (known_at parent n).children
+place-counts parent id n mirror known ids place is there i w at named =
+    let own : slice_get ids i ≡ Some id =
+    ap (λ (l : List ℕ). slice_get l i) is ∙ ids-at (known_at parent n).children i
+    ∙ ap (λ (o : Option (Branch Seen)). option_map (λ (b : Branch Seen). b.row.id) o) at ∙ ap (λ (x : ℕ). Some x) named
+    in
+    let f = child_found parent id place n mirror known
+    (sym (there i own) ∙ ap (λ (l : List ℕ). slice_get l place) is ∙ ids-at (known_at parent n).children place)
+    in
+    let key = found_key seen_id id n f.tree f.found in
+    same_place parent n mirror (known_at parent n) (known-found parent n known) place i f.tree w f.there at (key ∙ sym named)
+
+pub place-within : (ids : List ℕ) (n : Nodes Seen) (place : ℕ) → ids ≡ root_ids n → place ≤ length ids → place ≤ width n
+place-within ids n place is h = let e : length ids ≡ width n = ap length is ∙ ids-width n in omega arith
 
 -- the rank from that of the parent
 module _ (id parent : ℕ) (n : Nodes Seen) (mirror : IsMirror n) (known : IsSome (find seen_id id n))

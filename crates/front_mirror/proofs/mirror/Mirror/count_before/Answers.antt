@@ -1,58 +1,31 @@
--- The children before the one that is looked for, each with all below it.
-use Rattle.std.proofs.Common.{arith, sym, ◌∙◌}
+-- The place of the id is that of each child of that id.
+use Rattle.std.proofs.Common.{◌∙◌}
 use Rattle.front_mirror.specs.Shown.{known_at}
-use Rattle.front_mirror.proofs.ChildLemmas.{child_found, child_known}
-use Rattle.front_mirror.proofs.RankLemmas.{count_first-zero, counted-more, counted-fits, counted-here, others-more, tree-inside}
+use Rattle.front_mirror.proofs.RankLemmas.{place-within, place-counts}
 use Rattle.front_mirror.proofs.mirror.Mirror.count_before.Goals as goal
 
-pub loop-i-init : goal.loop-i-init
-loop-i-init c = record {
-  counted = sym (count_first-zero (known_at c.args.parent c.args.self.now).children);
-  others = λ j w less there e. absurd (omega arith);
+pub count_first-requires : goal.count_first-requires
+count_first-requires c = record {
+  known = c.requires.known;
+  inside = place-within c.at-slot.result.now.children (known_at c.args.parent c.args.self.now).children c.place_of-place.result
+      c.at-slot.ensures.children c.place_of-place.ensures.inside;
 }
 
-pub size-count-requires : goal.size-count-requires
-size-count-requires c =
-    let f = child_found c.args.parent c.child_at-child.result c.loop-i.i c.args.self.now c.valid.ensures c.requires.known
-    c.child_at-child.ensures
-    in
-    record { known = child_known c.args.parent c.child_at-child.result c.loop-i.i c.args.self.now f }
+pub count_but_rest-requires : goal.count_but_rest-requires
+count_but_rest-requires c = record {
+  known = c.requires.known;
+  inside = place-within c.at-slot.result.now.children (known_at c.args.parent c.args.self.now).children c.place_of-place.result
+      c.at-slot.ensures.children c.place_of-place.ensures.inside;
+}
 
-pub overflow_add-count : goal.overflow_add-count
-overflow_add-count c =
-    let f = child_found c.args.parent c.child_at-child.result c.loop-i.i c.args.self.now c.valid.ensures c.requires.known
-    c.child_at-child.ensures
-    in
-    let h = counted-fits c.args.parent c.args.self.now c.valid.ensures c.requires.known c.child_at-child.result c.loop-i.i f
-    c.loop-i.count c.size-count.result c.size-all.result c.loop-i.invariant.counted c.size-count.ensures c.size-all.ensures
-    c.size-all.type_inv
-    in
-    omega (arith, h)
-
-pub returns-then-child-id : goal.returns-then-child-id
-returns-then-child-id c =
-    let f = child_found c.args.parent c.child_at-child.result c.loop-i.i c.args.self.now c.valid.ensures c.requires.known
-    c.child_at-child.ensures
-    in
-    λ j w there e. c.loop-i.invariant.counted
-    ∙ counted-here c.args.parent c.args.self.now c.valid.ensures c.requires.known c.child_at-child.result c.loop-i.i f c.args.id
-    c.if-child-id.true j w there e
-
-pub loop-i-preserved : goal.loop-i-preserved
-loop-i-preserved c =
-    let f = child_found c.args.parent c.child_at-child.result c.loop-i.i c.args.self.now c.valid.ensures c.requires.known
-    c.child_at-child.ensures
-    in
-    record {
-      counted = counted-more c.args.parent c.args.self.now c.valid.ensures c.requires.known c.child_at-child.result c.loop-i.i f
-          c.loop-i.count c.size-count.result c.loop-i.invariant.counted c.size-count.ensures;
-      others = others-more c.args.parent c.args.self.now c.valid.ensures c.requires.known c.child_at-child.result c.loop-i.i f c.args.id
-          c.if-child-id.false c.loop-i.invariant.others;
-    }
+pub returns-then-place-half : goal.returns-then-place-half
+returns-then-place-half c = λ i w there named.
+    c.count_first.ensures
+    ∙ place-counts c.args.parent c.args.id c.args.self.now c.valid.ensures c.requires.known c.at-slot.result.now.children
+    c.place_of-place.result c.at-slot.ensures.children c.place_of-place.ensures.there i w there named
 
 pub returns : goal.returns
-returns c = λ j w there e.
-    absurd (c.loop-i.invariant.others j w
-    (let h = tree-inside j (known_at c.args.parent c.args.self.now).children w there in
-    omega (arith, h, c.loop-i-test.false, c.children_len-i-end.ensures))
-    there e)
+returns c = λ i w there named.
+    c.count_but_rest.ensures
+    ∙ place-counts c.args.parent c.args.id c.args.self.now c.valid.ensures c.requires.known c.at-slot.result.now.children
+    c.place_of-place.result c.at-slot.ensures.children c.place_of-place.ensures.there i w there named
