@@ -1,10 +1,13 @@
 #!/usr/bin/env python3
-"""A client of `inspect serve`: starts the program, sends commands, waits for replies, hands out events and keeps a mirror.
+"""A client of `inspect serve` and `inspect share`: starts the program, sends commands, waits for replies, hands out events and keeps a
+mirror.
 
     from inspect_client import Inspector, Refused
     with Inspector("inspect") as client:
         client.call("Replay.load", document=[{"e": "html"}])
         print(client.call("DOM.getDocument")["root"]["childNodeCount"])
+
+With the word share `attach` gives a second session on the same page, which has the same calls, events and a mirror of its own.
 
 Python 3.8 or later, and its standard library. One thread; it waits in `select` and never for one pipe alone, so that a large
 frame, which goes up in pieces, cannot stop while the program waits for its own messages to be read.
@@ -164,17 +167,71 @@ class Mirror:
             self.sheets[params["styleSheetId"]]["text"] = result["text"]
 
 
-class Inspector:
-    """A running program and its session. `events` holds what was told and not handed out yet, as (method, params)."""
+class Session:
+    """A session of a running program. `events` holds what was told and not handed out yet, as (method, params)."""
 
-    def __init__(self, program, pipe=False):
-        """Starts `program` with the word serve; with `pipe`, a command that takes descriptors 3 and 4, as `inspect-pipe`."""
+    def __init__(self, program, name):
+        self.program, self.name = program, name  # the name stands in each frame as its `sessionId`; the root's has none
+        self.mirror, self.events = Mirror(), collections.deque()
+        self.asked, self.answers, self.next_id = {}, {}, 1
+
+    def call(self, method, **params):
+        """Sends the command, waits for its reply, and answers the result; raises Refused where it was refused."""
+        return self.wait(self.send(method, params))
+
+    def send(self, method, params=None, ident=None):
+        """Sends the command and answers its id, under which `wait` finds the reply."""
+        if ident is None:
+            ident, self.next_id = self.next_id, self.next_id + 1
+        frame = {"id": ident, "method": method}
+        if params:
+            frame["params"] = params
+        if self.name:
+            frame["sessionId"] = self.name
+        self.asked[ident] = (method, params or {})
+        self.program.send_frame(json.dumps(frame, ensure_ascii=False, separators=(",", ":")).encode())
+        return ident
+
+    def wait(self, ident):
+        """The result of the command with this id."""
+        while ident not in self.answers:
+            self.program.turn(None)
+        answer = self.answers.pop(ident)
+        if "error" in answer:
+            raise Refused(answer["error"]["code"], answer["error"]["message"])
+        return answer["result"]
+
+    def next_event(self, seconds=0):
+        """The next event as (method, params), or None where none came in that time."""
+        if not self.events:
+            self.program.turn(seconds)
+        return self.events.popleft() if self.events else None
+
+    def take_event(self, method, params):
+        self.mirror.take_event(method, params)
+        self.events.append((method, params))
+
+    def take_reply(self, message):
+        method, params = self.asked.pop(message["id"])
+        if "result" in message:
+            self.mirror.take_reply(method, params, message["result"])
+            if method == "Target.attachToTarget":
+                name = message["result"]["sessionId"]
+                self.program.sessions[name] = Session(self.program, name)
+        self.answers[message["id"]] = message
+
+
+class Inspector(Session):
+    """A running program and its root session."""
+
+    def __init__(self, program, pipe=False, word="serve"):
+        """Starts `program` with that word; with `pipe`, a command that takes descriptors 3 and 4, as `inspect-pipe`."""
+        super().__init__(self, None)
         on_3_and_4 = ["sh", "-c", 'exec "$0" 3<&0 4>&1 </dev/null >&2', program]
-        self.process = subprocess.Popen(on_3_and_4 if pipe else [program, "serve"], stdin=subprocess.PIPE, bufsize=0,
+        self.process = subprocess.Popen(on_3_and_4 if pipe else [program, word], stdin=subprocess.PIPE, bufsize=0,
                                         stdout=subprocess.PIPE, stderr=subprocess.PIPE)
         self.up, self.down, self.told = self.process.stdin, self.process.stdout, self.process.stderr
-        self.mirror, self.events, self.strays = Mirror(), collections.deque(), collections.deque()
-        self.asked, self.answers, self.next_id = {}, {}, 1
+        self.sessions, self.strays = {}, collections.deque()
         self.unsent, self.pieces, self.said = bytearray(), [], b""
         self.watcher = None  # called with "->" or "<-" and the bytes of each frame
         self.ready = selectors.DefaultSelector()
@@ -194,20 +251,14 @@ class Inspector:
             self.process.wait()
             self.release()
 
-    def call(self, method, **params):
-        """Sends the command, waits for its reply, and answers the result; raises Refused where it was refused."""
-        return self.wait(self.send(method, params))
+    def attach(self):
+        """Attaches a session to the page, as `inspect share` can, and answers it."""
+        return self.sessions[self.call("Target.attachToTarget", targetId="page", flatten=True)["sessionId"]]
 
-    def send(self, method, params=None, ident=None):
-        """Sends the command and answers its id, under which `wait` finds the reply."""
-        if ident is None:
-            ident, self.next_id = self.next_id, self.next_id + 1
-        frame = {"id": ident, "method": method}
-        if params:
-            frame["params"] = params
-        self.asked[ident] = (method, params or {})
-        self.send_frame(json.dumps(frame, ensure_ascii=False, separators=(",", ":")).encode())
-        return ident
+    def detach(self, session):
+        """Detaches it: all that it had is gone, and no call of it may follow."""
+        self.call("Target.detachFromTarget", sessionId=session.name)
+        del self.sessions[session.name]
 
     def send_frame(self, frame):
         """Sends these bytes as a frame. An error reply without an id goes to `strays`."""
@@ -218,26 +269,11 @@ class Inspector:
         self.unsent += frame + b"\0"
         self.turn(0)
 
-    def wait(self, ident):
-        """The result of the command with this id."""
-        while ident not in self.answers:
-            self.turn(None)
-        answer = self.answers.pop(ident)
-        if "error" in answer:
-            raise Refused(answer["error"]["code"], answer["error"]["message"])
-        return answer["result"]
-
     def wait_stray(self):
         """The next error reply without an id, as (code, text)."""
         while not self.strays:
             self.turn(None)
         return self.strays.popleft()
-
-    def next_event(self, seconds=0):
-        """The next event as (method, params), or None where none came in that time."""
-        if not self.events:
-            self.turn(seconds)
-        return self.events.popleft() if self.events else None
 
     def turn(self, seconds):
         """Waits at most so long (None: without end) until a pipe is ready, and reads and writes what is."""
@@ -280,14 +316,11 @@ class Inspector:
         if self.watcher:
             self.watcher("<-", frame)
         message = json.loads(frame.decode())
+        session = self.sessions[message["sessionId"]] if "sessionId" in message else self
         if "method" in message:
-            self.mirror.take_event(message["method"], message["params"])
-            self.events.append((message["method"], message["params"]))
+            session.take_event(message["method"], message["params"])
         elif "id" in message:
-            method, params = self.asked.pop(message["id"])
-            if "result" in message:
-                self.mirror.take_reply(method, params, message["result"])
-            self.answers[message["id"]] = message
+            session.take_reply(message)
         else:
             self.strays.append((message["error"]["code"], message["error"]["message"]))
 

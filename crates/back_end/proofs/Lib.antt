@@ -49,6 +49,7 @@ pub mod FoundShown
 pub mod SeatRoom
 pub mod HeardLemmas
 pub mod PairLemmas
+mod UnheardSteps
 pub mod PairSteps
 pub mod GuestSeats
 pub mod GuestSteps
@@ -56,3 +57,4 @@ pub mod GuestUndo
 pub mod GuestSheets
 mod DomainLemmas
 pub mod LoadSpelt
+mod CommandRoutes

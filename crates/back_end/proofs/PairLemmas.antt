@@ -11,6 +11,7 @@ use Rattle.node_binding.proofs.StandsLemmas.{Stands-begun}
 use Rattle.pipe_frames.specs.Frames.{IsText, framed}
 use Rattle.cdp_messages.specs.declared.command.Asked.{Asked}
 use Rattle.cdp_messages.specs.declared.command.ReadErr.{ReadErr}
+use Rattle.cdp_messages.specs.declared.command.Refused.{Refused}
 use Rattle.cdp_messages.specs.Answers.{ReadsAsked}
 use Rattle.cdp_messages.specs.Asked.{asked}
 use Rattle.cdp_messages.specs.SessionFrames.{session_asked}
@@ -377,15 +378,21 @@ new-pairs-stand mux side page can texts new = record {
   fresh = λ none. refl;
 }
 
--- what the frame of the root is for the second client
+-- what the root asks is for the second client
+pub command-outside : (r : Result Asked Refused) (mux : Mux) (side : PageSide) (p : Pair) → AskedTexts r → PairStandsFor mux side p
+    → PairHasRoomLeft mux side
+    → IsOutside (asked_step r (root_state p)).state.side (second_state p) (outside_step (asked_outward r (root_state p)) (second_state p))
+command-outside r mux side p texts stands left =
+    let are = pair-states mux side p stands in
+    let room = pair-room mux side p stands left in
+    asked-outside r (root_state p) (second_state p) texts are.0 room.root are.1 room.second refl
+
+-- what its frame is
 pub root-asked-outside : (own : Bool) (frame : List ℕ) (mux : Mux) (side : PageSide) (p : Pair) → PairStandsFor mux side p
     → PairHasRoomLeft mux side
     → IsOutside (asked_step (asked frame own) (root_state p)).state.side (second_state p)
     (outside_step (asked_outward (asked frame own) (root_state p)) (second_state p))
-root-asked-outside own frame mux side p stands left =
-    let are = pair-states mux side p stands in
-    let room = pair-room mux side p stands left in
-    asked-outside (asked frame own) (root_state p) (second_state p) (frame-texts own frame) are.0 room.root are.1 room.second refl
+root-asked-outside own frame mux side p stands left = command-outside (asked frame own) mux side p (frame-texts own frame) stands left
 
 -- and that of the attached session for the root
 pub second-asked-outside : (frame : List ℕ) (mux : Mux) (side : PageSide) (p : Pair) → PairStandsFor mux side p

@@ -28,6 +28,7 @@ use Rattle.back_end.proofs.FrameLemmas.{asked-steps-well}
 use Rattle.back_end.proofs.StepLemmas.{turn-steps-well}
 use Rattle.back_end.proofs.OutsideSteps.{asked-outside, turn-sides}
 use Rattle.back_end.proofs.PairLemmas.{fresh-state}
+use Rattle.back_end.proofs.UnheardSteps.{heard-step}
 use Rattle.back_end.proofs.StartLemmas.{IsState-first}
 
 -- ---- states that can be
@@ -131,6 +132,7 @@ frame-root Attached own frame p is room =
     let other = outside_step (asked_outward r (second_state p)) (root_state p) in
     let out = asked-outside r (second_state p) (root_state p) (session-texts frame) is.second room.second is.root room.root refl in
     ap (λ (side : Side). record { side = side; client = other.state.client }) (sym out.side_is)
+    ∙ sym (ap (λ (done : Step). done.state) (heard-step r (second_state p) (root_state p) refl))
 frame-root Answered own frame p is room = refl
 
 frame-second : (routed : Routed) (own : Bool) (frame : List ℕ) (p : Pair) → IsPair p → PairHasRoom p
@@ -141,6 +143,7 @@ frame-second Root own frame p is room session attached =
     let other = outside_step (asked_outward r (root_state p)) (second_state p) in
     let out = asked-outside r (root_state p) (second_state p) (frame-texts own frame) is.root room.root is.second room.second refl in
     second-same p.sessions.attached session (asked_step r (root_state p)).state.side other.state attached out.side_is
+    ∙ sym (ap (λ (done : Step). done.state) (heard-step r (root_state p) (second_state p) refl))
 frame-second Attached own frame p is room session attached = refl
 frame-second Answered own frame p is room session attached =
     second-same (routing frame p.sessions).sessions.attached session p.side (second_state p) attached refl
@@ -170,17 +173,23 @@ frame-sent Root own frame p routed =
     let mine = asked_step r (root_state p) in
     let other = outside_step (asked_outward r (root_state p)) (second_state p) in
     let said = left-unsaid frame p (λ e. let no : ◌≡◌ {A = Routed} Root Answered = sym routed ∙ e in absurd cc) in
-    inr (ap (λ (bs : List ℕ). bs ++ frames_of_moves mine.moves) (attached-one p.sessions.attached other.moves)
-    ∙ ap (λ (bs : List ℕ). attached_frames p.sessions.attached (other.moves ++ []) ++ bs)
+    let attached = attached_frames p.sessions.attached in
+    let heard = heard-step r (root_state p) (second_state p) refl in
+    inr (ap (λ (bs : List ℕ). bs ++ frames_of_moves mine.moves)
+    (attached-one p.sessions.attached other.moves ∙ sym (ap (λ (done : Step). attached done.moves) heard))
+    ∙ ap (λ (bs : List ℕ). attached (coming_steps (frame_to_second Root own frame p) (second_state p)).moves ++ bs)
     (sent-one mine.moves ∙ said-none (routing frame p.sessions).said (frames_of_moves (mine.moves ++ [])) said))
 frame-sent Attached own frame p routed =
     let r = session_asked frame in
     let mine = asked_step r (second_state p) in
     let other = outside_step (asked_outward r (second_state p)) (root_state p) in
     let said = left-unsaid frame p (λ e. let no : ◌≡◌ {A = Routed} Attached Answered = sym routed ∙ e in absurd cc) in
+    let heard = heard-step r (second_state p) (root_state p) refl in
+    let told = (coming_steps (frame_to_root Attached own frame p) (root_state p)).moves in
     inl (ap (λ (bs : List ℕ). bs ++ attached_frames p.sessions.attached mine.moves)
-    (sent-one other.moves ∙ said-none (routing frame p.sessions).said (frames_of_moves (other.moves ++ [])) said)
-    ∙ ap (λ (bs : List ℕ). (message_frames (routing frame p.sessions).said ++ frames_of_moves (other.moves ++ [])) ++ bs)
+    (sent-one other.moves ∙ sym (ap (λ (done : Step). frames_of_moves done.moves) heard)
+    ∙ said-none (routing frame p.sessions).said (frames_of_moves told) said)
+    ∙ ap (λ (bs : List ℕ). (message_frames (routing frame p.sessions).said ++ frames_of_moves told) ++ bs)
     (attached-one p.sessions.attached mine.moves))
 frame-sent Answered own frame p routed =
     let said = message_frames (routing frame p.sessions).said in

@@ -14,7 +14,7 @@ use Rattle.session_mux.specs.declared.router.Routed.TheVariants.{Root, Attached,
 use Rattle.session_mux.specs.Routes.{routing}
 use Rattle.back_end.specs.States.{State, new_client}
 use Rattle.back_end.specs.Steps.{Step, idle, followed_by, asked_step, Turn, turn_step}
-use Rattle.back_end.specs.Outside.{Outward, asked_outward, outside_step}
+use Rattle.back_end.specs.Outside.{Outward, made, turned, asked_outward, outside_step}
 use Rattle.back_end.specs.Laws.{IsTurn}
 use Rattle.back_end.specs.Pairs.{Pair, root_state, second_state, loaded_pair, IsPair, PairHasRoom, attached_frames, pair_step, pair_turn}
 
@@ -47,8 +47,7 @@ StepsKeepPairs = (i : Incoming) (p : Pair) → CanCome i → IsPair p → PairHa
 
 -- ---- what comes to one client
 
--- What one client's step turns on: a frame of its own, as it was asked; what a frame of the other client is to the page; a step of a
--- script.
+-- What one client's step turns on: a frame of its own, as it was asked; the edits of a frame of the other client; a step of a script.
 pub data Coming : Type 0 where
   asks : Result Asked Refused → Coming
   hears : Outward → Coming
@@ -65,15 +64,21 @@ abbrev pub coming_steps : List Coming → State → Step
 coming_steps [] state = idle state
 coming_steps (c ∷ cs) state = followed_by (coming_step c state) (coming_steps cs)
 
+-- a frame of the other client is heard of where it edits, or makes what a script does
+abbrev pub heard : Outward → List Coming
+heard (made page []) = []
+heard (made page (e ∷ es)) = hears (made page (e ∷ es)) ∷ []
+heard (turned x) = hears (turned x) ∷ []
+
 -- what a frame is to the root, by whose it is
 abbrev pub frame_to_root : Routed → Bool → List ℕ → Pair → List Coming
 frame_to_root Root own frame p = asks (asked frame own) ∷ []
-frame_to_root Attached own frame p = hears (asked_outward (session_asked frame) (second_state p)) ∷ []
+frame_to_root Attached own frame p = heard (asked_outward (session_asked frame) (second_state p))
 frame_to_root Answered own frame p = []
 
 -- and to the second client
 abbrev pub frame_to_second : Routed → Bool → List ℕ → Pair → List Coming
-frame_to_second Root own frame p = hears (asked_outward (asked frame own) (root_state p)) ∷ []
+frame_to_second Root own frame p = heard (asked_outward (asked frame own) (root_state p))
 frame_to_second Attached own frame p = asks (session_asked frame) ∷ []
 frame_to_second Answered own frame p = []
 
@@ -155,7 +160,8 @@ SessionsAreToldAlone =
     (session : ℕ) (is : List Incoming) (p : Pair) → IsPair p → StaysAttached session is p
     → all_second_moves is p ≡ (coming_steps (all_to_second is p) (second_state p)).moves
 
--- So two sessions, of any numbers, that begin alike and to which the same comes are told the same, whatever else comes to the two roots.
+-- So two sessions, of any numbers, that begin alike and to which the same comes are told the same, whatever else comes to the two roots:
+-- frames that edit nothing are none of what comes.
 abbrev pub EqualSessionsAreToldAlike : Type 0
 EqualSessionsAreToldAlike =
     (one two : ℕ) (is js : List Incoming) (p q : Pair) → IsPair p → StaysAttached one is p → IsPair q → StaysAttached two js q

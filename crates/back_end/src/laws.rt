@@ -49,7 +49,7 @@ pub fn outside_law()
 {}
 
 /// Two clients of one page: each step leads from a state that can be to one that can be, and each client goes on by its own state and by
-/// what comes to it alone: its own frames, what the other's frames are to the page, and the steps of a script. A session begins with a
+/// what comes to it alone: its own frames, the edits that the other's frames make, and the steps of a script. A session begins with a
 /// client that has asked for nothing. So two sessions that begin alike, and to which the same comes, are told the same, whatever else
 /// their roots ask, open, watch or switch; and so are two roots, but for what is answered at once.
 pub fn two_clients_law()

@@ -1,12 +1,12 @@
 // Two clients of one page on one pipe.
-ghost use Rattle.std.specs.Prelude.{◌≡◌, ◌++◌, ◌↔◌, ℕ, List, IsTrue, true, false, Option, Some, IfOk, IfSome, OnOk, OnErr, IsErr};
+ghost use Rattle.std.specs.Prelude.{◌≡◌, ◌++◌, ◌↔◌, ℕ, List, IsTrue, true, false, Option, Some, Ok, IfOk, IfSome, OnOk, OnErr, IsErr};
 ghost use Rattle.undo_marks.specs.Marks.{no_marks};
 ghost use Rattle.node_binding.specs.Bindings.{empty_from};
 ghost use Rattle.dom_breakpoints.specs.Watched.{unwatched};
 ghost use Rattle.dom_search.specs.Searches.{no_searches};
 ghost use Rattle.page_forms.specs.Acts.{IsInsertable};
 ghost use Rattle.page_forms.specs.Pages.{loaded_page, CanLoadPage};
-ghost use Rattle.cdp_messages.specs.Asked.{asked};
+ghost use Rattle.cdp_messages.specs.Asked.{asked, fits_command};
 ghost use Rattle.cdp_messages.specs.SessionFrames.{session_asked};
 ghost use Rattle.cdp_messages.specs.Replies.{Message};
 ghost use Rattle.session_mux.specs.Sessions.{no_sessions};
@@ -14,15 +14,17 @@ ghost use Rattle.session_mux.specs.Tags.{AreMessages};
 ghost use Rattle.back_end.specs.declared.guest.Guest.{Guest};
 ghost use Rattle.back_end.specs.Plans.{act_fault};
 ghost use Rattle.back_end.specs.Steps.{acts, loads};
+ghost use Rattle.back_end.specs.Texts.{HasServedTexts};
 ghost use Rattle.back_end.specs.Pairs.{Pair, pair_step, pair_turn, root_step, attached_step, sent_to};
 ghost use Rattle.back_end.specs.PairSeats.{PairStandsFor, IsPairSeated, PairHasRoomLeft, IsUnused, IsGuestAt, IsGuestOf, seat_again};
 ghost use Rattle.back_end.specs.PairSeats.{WasToldOf, IsRenewed};
 
 use crate::faults::ActFault;
 use crate::guest::Guest;
+use crate::load_scan::scan_load;
 use crate::seat::Seat;
 use crate::side::PageSide;
-use cdp_messages::read_session_command;
+use cdp_messages::{Asked, ReadErr, read_command, read_session_command};
 use page_forms::{Act, PageForm};
 use session_mux::{Routed, Router, tag};
 use std::alloc::{AllocError, Global};
@@ -181,8 +183,59 @@ impl Mux {
         Ok(())
     }
 
-    // Answers one frame, by whose it is.
+    // Answers one frame. While no session is attached, one that asks anything is the root's, and is not routed; one that loads a page in
+    // its usual form is known by its tokens.
     fn serve(
+        &mut self,
+        side: &mut PageSide,
+        bytes: &[u8],
+        own: bool,
+        out: &mut Vec<u8>,
+    ) -> Result<(), AllocError>
+        requires room { PairHasRoomLeft self.old side.old }
+        requires seated { ∥ ((p : Pair) × PairStandsFor self.old side.old p) ∥₁ }
+        ensures stands { (p : Pair) → PairStandsFor self.old side.old p
+            → OnOk result (PairStandsFor self.new side.new (pair_step own bytes.now p).state) }
+        ensures sent { (p : Pair) → PairStandsFor self.old side.old p
+            → OnOk result (out.new.items ≡ out.old.items ++ (pair_step own bytes.now p).sent) }
+        ensures life { self.new.is_dead ≡ self.old.is_dead }
+    {
+        if self.router.attached().is_some() {
+            return self.serve_routed(side, bytes, own, out);
+        }
+        if own {
+            if let Ok(_load) = scan_load(self.alloc, bytes) {
+                return self.serve_root(side, bytes, own, out);
+            }
+        }
+        self.serve_read(side, bytes, own, out)
+    }
+
+    // Answers one frame, read as what it asks before anything else: one that is refused is routed.
+    fn serve_read(
+        &mut self,
+        side: &mut PageSide,
+        bytes: &[u8],
+        own: bool,
+        out: &mut Vec<u8>,
+    ) -> Result<(), AllocError>
+        requires room { PairHasRoomLeft self.old side.old }
+        requires seated { ∥ ((p : Pair) × PairStandsFor self.old side.old p) ∥₁ }
+        ensures stands { (p : Pair) → PairStandsFor self.old side.old p
+            → OnOk result (PairStandsFor self.new side.new (pair_step own bytes.now p).state) }
+        ensures sent { (p : Pair) → PairStandsFor self.old side.old p
+            → OnOk result (out.new.items ≡ out.old.items ++ (pair_step own bytes.now p).sent) }
+        ensures life { self.new.is_dead ≡ self.old.is_dead }
+    {
+        match read_command(self.alloc, bytes, own) {
+            Ok(request) => self.serve_command(side, request, out),
+            Err(ReadErr::Refused(_)) => self.serve_routed(side, bytes, own, out),
+            Err(ReadErr::Memory) => Err(AllocError),
+        }
+    }
+
+    // Answers one frame, by whose it is.
+    fn serve_routed(
         &mut self,
         side: &mut PageSide,
         bytes: &[u8],
@@ -227,6 +280,32 @@ impl Mux {
         let mut said = Vec::new(self.alloc);
         self.root
             .serve_frame(side, &mut guest, bytes, own, &mut said)?;
+        self.reseat_second(guest, out)?;
+        out.extend_from_slice(&said)?;
+        Ok(())
+    }
+
+    // Serves what the root asks; the second client is its guest.
+    fn serve_command(
+        &mut self,
+        side: &mut PageSide,
+        request: Asked,
+        out: &mut Vec<u8>,
+    ) -> Result<(), AllocError>
+        requires fits { fits_command request.command ≡ true }
+        requires texts { HasServedTexts request.command }
+        requires room { PairHasRoomLeft self.old side.old }
+        requires seated { ∥ ((p : Pair) × PairStandsFor self.old side.old p) ∥₁ }
+        ensures stands { (p : Pair) → PairStandsFor self.old side.old p
+            → OnOk result (PairStandsFor self.new side.new (root_step (Ok request) p).state) }
+        ensures sent { (p : Pair) → PairStandsFor self.old side.old p
+            → OnOk result (out.new.items ≡ out.old.items ++ (root_step (Ok request) p).sent) }
+        ensures life { self.new.is_dead ≡ self.old.is_dead }
+    {
+        let mut guest = self.second_as_guest();
+        let mut said = Vec::new(self.alloc);
+        self.root
+            .serve_asked(side, &mut guest, Ok(request), &mut said)?;
         self.reseat_second(guest, out)?;
         out.extend_from_slice(&said)?;
         Ok(())

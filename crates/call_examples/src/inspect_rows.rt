@@ -2,8 +2,9 @@
 //
 // `replay` has a list of a script and of the numbers of the calls of the source, the sink and the link that fail; 0 is none. `deep`
 // has the number of levels of a page's elements, which is a script with a load alone. `words` has a list of a script and a list of the
-// program's words. `lie` has a list of a script, a place in what the link gives, and the byte that the link gives there instead. `brief`
-// has a list of a script, which runs with a panel that shows a lie before it is told of anything, and gives up at its second call.
+// program's words. `lie` has a list of a script, a place in what the link gives, the byte that the link gives there instead, and the
+// program's word where it is not `replay`. `brief` has a list of a script, which runs with a panel that shows a lie before it is told of
+// anything, and gives up at its second call.
 use crate::brief_panels::BriefPanel;
 use crate::row_parts::{Answer, list_at, number_or_zero, push_layers, text_or_empty};
 use cdp_json::texts_of;
@@ -78,8 +79,21 @@ fn lie(alloc: Global, args: &Value, answer: &mut Answer) -> Result<(), AllocErro
         Some(byte) => *byte,
         None => b'?',
     };
+    let word = match text_or_empty(args, 3) {
+        "" => "replay",
+        word => word,
+    };
+    let mut words = Vec::new(alloc);
+    words.push(String::from_str(alloc, word)?)?;
     let mut link = LyingLink::new(alloc, number_or_zero(args, 1), to);
-    run(alloc, text_or_empty(args, 0), [0, 0], &mut link, answer)
+    push_replay(
+        alloc,
+        words.as_slice(),
+        text_or_empty(args, 0),
+        [0, 0],
+        &mut link,
+        answer,
+    )
 }
 
 /// Replays with a panel that has memory for one call.

@@ -3,16 +3,16 @@ use Rattle.std.proofs.Common.{◌≡◌, ◌∙◌, ℕ, List, [], Option, Some,
 use Rattle.std.specs.Result.{IsErrAnd}
 use Rattle.std.proofs.lemmas.Result.{err_from_is_err_and}
 use Rattle.pipe_frames.specs.Whole.{IsAllOf}
-use Rattle.inspect_replay.specs.declared.status.Status.{Status}
-use Rattle.inspect_replay.specs.declared.status.Status.TheVariants as status
-use Rattle.inspect_replay.specs.declared.stop.Stop.{Stop}
-use Rattle.inspect_replay.specs.declared.stop.Stop.TheVariants.{Line, TooLong, ReadFault, WriteFault, LinkFault, FrontRefused, NoRoom}
-use Rattle.inspect_replay.specs.declared.stop.Stop.TheVariants.{Memory}
+use Rattle.replay_parts.specs.declared.status.Status.{Status}
+use Rattle.replay_parts.specs.declared.status.Status.TheVariants as status
+use Rattle.replay_parts.specs.declared.stop.Stop.{Stop}
+use Rattle.replay_parts.specs.declared.stop.Stop.TheVariants.{Line, TooLong, ReadFault, WriteFault, LinkFault, FrontRefused, NoRoom}
+use Rattle.replay_parts.specs.declared.stop.Stop.TheVariants.{Memory}
 use Rattle.inspect_replay.specs.Serving.{IsServeStatus}
 use Rattle.pipe_frames.proofs.WholeLemmas.{Appends-nil}
-use Rattle.inspect_replay.specs.Says.{Phase, untouched, reading, underway, ended, anywhen, Lie, Says, says, status_of}
-use Rattle.inspect_replay.specs.Answers.{OnTrue, is_too_long, LimitsAt, InReadOnly, FitsLimits, InputTells, IsInputStop, TookAt, RunTook}
-use Rattle.inspect_replay.specs.Answers.{Took, IsHonest}
+use Rattle.replay_parts.specs.Says.{Phase, untouched, reading, underway, ended, anywhen, Lie, Says, says, status_of}
+use Rattle.replay_parts.specs.Answers.{OnTrue, is_too_long, LimitsAt, InReadOnly, FitsLimits, InputTells, IsInputStop, TookAt, RunTook}
+use Rattle.replay_parts.specs.Answers.{Took, IsHonest}
 
 -- an input that is not read is refused by its limits
 pub stop-limits : (stop : Stop) (input : List ℕ) → InputTells (Err stop) input → FitsLimits (status_of stop) input

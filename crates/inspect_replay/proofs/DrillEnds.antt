@@ -1,8 +1,6 @@
 -- What the calls of a drill answer, from what their parts answer.
-use Rattle.std.proofs.Common.{◌≡◌, ℕ, ◌+◌, ◌≤◌, List, [], length, map, Option, Some, Result, Ok, Err, refl, sym, ap, ◌∙◌, subst, arith}
+use Rattle.std.proofs.Common.{◌≡◌, ℕ, ◌+◌, ◌≤◌, List, [], length, map, Option, Some, Result, Ok, Err, refl, sym, subst, arith}
 use Rattle.std.specs.Prelude.{OnOk, IfErr}
-use Rattle.std.specs.Result.{IsErrAnd}
-use Rattle.std.proofs.lemmas.Result.{err_from_is_err_and}
 use Rattle.front_mirror.specs.declared.panels.Panel.{Ghosts}
 use Rattle.front_mirror.specs.declared.panels.PanelKind.{PanelKind}
 use Rattle.pipe_frames.specs.Pipe.{Pipe, IsLevel}
@@ -16,15 +14,15 @@ use Rattle.inspect_world.specs.Costs.{lines_cost}
 use Rattle.inspect_world.specs.Scripts.{loaded_world}
 use Rattle.inspect_world.specs.Links.{Started, run_started}
 use Rattle.inspect_replay.specs.declared.ends.Ends.{Ends}
-use Rattle.inspect_replay.specs.declared.status.Status.{Status}
-use Rattle.inspect_replay.specs.declared.stop.Stop.{Stop}
-use Rattle.inspect_replay.specs.declared.stop.Stop.TheVariants.{Line, TooLong, ReadFault, WriteFault, LinkFault, FrontRefused, NoRoom}
-use Rattle.inspect_replay.specs.declared.stop.Stop.TheVariants.{Memory}
-use Rattle.inspect_replay.specs.Says.{Counts, status_of}
+use Rattle.replay_parts.specs.declared.status.Status.{Status}
+use Rattle.replay_parts.specs.declared.stop.Stop.{Stop}
+use Rattle.replay_parts.specs.declared.stop.Stop.TheVariants.{Line, TooLong, ReadFault, WriteFault, LinkFault, FrontRefused, NoRoom}
+use Rattle.replay_parts.specs.declared.stop.Stop.TheVariants.{Memory}
+use Rattle.replay_parts.specs.Says.{Counts, status_of}
 use Rattle.inspect_replay.specs.Starts.{IsNew}
 use Rattle.inspect_replay.specs.Runs.{InPlay}
-use Rattle.inspect_replay.specs.Stops.{GoesWell, HasStopCause}
-use Rattle.inspect_replay.specs.Answers.{Prints, Took, StatusRose}
+use Rattle.replay_parts.specs.Stops.{GoesWell, HasStopCause}
+use Rattle.replay_parts.specs.Answers.{Prints, Took, StatusRose}
 use Rattle.inspect_replay.specs.Followed.{FollowsRun}
 use Rattle.inspect_replay.specs.Drilled.{IsOfWriting, WritesAtEnd, DrillWrites, IsDrillStatus, lines_more}
 use Rattle.inspect_replay.proofs.RunLemmas.{begins, play-begins}
@@ -60,12 +58,6 @@ writes-some (Err Memory) before after of = tt
 -- no part of the text was
 pub prints-none : (stop : Stop) (taken : Option (List ℕ)) (text : List ℕ) → Prints {T = Unit {0}} (Err stop) taken taken text
 prints-none stop taken text = record { part = []; rest = text; whole = refl; wrote = Appends-nil taken }
-
--- ---- want of memory
-
--- the one reason
-pub memory-is : (result : Result (Unit {0}) Stop) → IsErrAnd result (λ stop. stop ≡ Memory) → result ≡ Err Memory
-memory-is result lost = let p = err_from_is_err_and result lost in p.1 ∙ ap (λ (stop : Stop). Err stop) p.2
 
 -- ---- the whole call
 

@@ -41,11 +41,11 @@ use Rattle.inspect_world.specs.RunStates.{RunState, run_step, run_turn}
 use Rattle.back_end.specs.Laws.{IsTurn}
 use Rattle.inspect_world.specs.Held.{Ends, InWorld}
 use Rattle.inspect_replay.specs.declared.ends.Ends.{Ends as ProgramEnds}
-use Rattle.inspect_replay.specs.declared.stop.Stop.{Stop}
+use Rattle.replay_parts.specs.declared.stop.Stop.{Stop}
 use Rattle.back_end.specs.Seats.{StandsFor, HasRoomLeft}
 use Rattle.inspect_replay.specs.Runs.{InRunWith, InRun, AnswersOne, AnswersAll, Steps, FetchesOne, FetchesAll, ends_of}
-use Rattle.inspect_replay.specs.Moments.{moment}
-use Rattle.inspect_replay.specs.Stops.{GoesWell}
+use Rattle.replay_parts.specs.Moments.{moment}
+use Rattle.replay_parts.specs.Stops.{GoesWell}
 use Rattle.back_end.proofs.SeatLemmas.{on_ok}
 use Rattle.session_runs.proofs.Worlds.{answered-cons}
 use Rattle.inspect_world.proofs.Pipes.{waiting-is}
@@ -53,6 +53,7 @@ use Rattle.inspect_world.proofs.Scripts.{turn-left}
 use Rattle.inspect_world.proofs.FetchesFit.{fetched-if-spends, few-then}
 use Rattle.inspect_world.proofs.Ends.{world-room, world-ids, world-sent, world-fetched, world-raw, world-turned, world-answered}
 use Rattle.inspect_world.proofs.Ends.{world-given_up, world-delivered_down, never-refuses}
+use Rattle.replay_parts.proofs.ValueLemmas.{refs-seen}
 
 -- ---- a step is made
 
@@ -123,12 +124,6 @@ turned_in up0 down0 up down up1 down1 w x whole seat seat1 side side1 e old out 
 pub whole-plain : (o : Option Data) → holds_of_some is_plain o ≡ true → IsTrue (is_whole_where_there o)
 whole-plain None plain = refl
 whole-plain (Some d) plain = ap not (has_float-is_plain d plain)
-
--- what an optional value behind a reference is seen as
-pub refs-seen : (r : Option (Bor Value)) (o : Option Value) → option_copied r ≡ o
-    → option_map (λ (p : Bor Value). view p.now) r ≡ option_map view o
-refs-seen None o e = ap (option_map view) e
-refs-seen (Some p) o e = ap (option_map view) e
 
 -- the frame of an ask, as its line has it
 pub frame-seen : (next : ℕ) (ask : Ask) (frame method : List ℕ) (params session : Option (Bor Value))

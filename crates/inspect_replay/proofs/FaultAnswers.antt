@@ -1,12 +1,12 @@
 -- No fault is hidden: the answer of the whole call is the one fault that rose.
 use Rattle.std.proofs.Common.{◌≡◌, ◌<◌, ◌∙◌, ℕ, Vec, Result, Ok, Err, arith, refl, sym, ap, subst}
 use Rattle.std.specs.declared.alloc.Global.{Global}
-use Rattle.inspect_replay.specs.declared.status.Status.{Status}
-use Rattle.inspect_replay.specs.declared.status.Status.TheVariants as answers
-use Rattle.inspect_replay.specs.declared.stop.Stop.{Stop}
-use Rattle.inspect_replay.specs.declared.stop.Stop.TheVariants.{ReadFault}
-use Rattle.inspect_replay.specs.Says.{Counts, OthersStill, says, status_of}
-use Rattle.inspect_replay.specs.Answers.{AnswersFaults}
+use Rattle.replay_parts.specs.declared.status.Status.{Status}
+use Rattle.replay_parts.specs.declared.status.Status.TheVariants as answers
+use Rattle.replay_parts.specs.declared.stop.Stop.{Stop}
+use Rattle.replay_parts.specs.declared.stop.Stop.TheVariants.{ReadFault}
+use Rattle.replay_parts.specs.Says.{Counts, OthersStill, says, status_of}
+use Rattle.replay_parts.specs.Answers.{AnswersFaults}
 
 -- where no count rose, none is to be told
 pub no-faults : (c : Counts) (status : Status) → c.source_after ≡ c.source_before → c.sink_after ≡ c.sink_before

@@ -8,7 +8,7 @@ use Rattle.std.specs.Io.KnownBytes.{Appends}
 use Rattle.front_mirror.specs.declared.panels.Panel.{Ghosts}
 use Rattle.pipe_frames.specs.Pipe.{Pipe, given_since, sent_since}
 use Rattle.pipe_frames.specs.Frames.{IsText, Frames, framed, frames_of, held_after, continued}
-use Rattle.pipe_frames.proofs.WholeLemmas.{Appends-nil, Appends-append}
+use Rattle.pipe_frames.proofs.WholeLemmas.{Appends-append}
 use Rattle.node_tree.specs.Nodes.{Nodes}
 use Rattle.node_tree.specs.Seen.{Seen}
 use Rattle.page_tree.specs.Forms.{max_nodes}
@@ -41,20 +41,21 @@ use Rattle.inspect_world.proofs.LinkLemmas.{follows-fewer, front-full, seat-full
 use Rattle.inspect_world.proofs.LinkLemmas.{follows-fetched, follows-raw, follows-given_up, follows-answered, follows-turned}
 use Rattle.inspect_world.proofs.LinkLemmas.{follows-delivered_down, follows-refused, follows-fold, follows-replies}
 use Rattle.inspect_replay.specs.declared.ends.Ends.{Ends}
-use Rattle.inspect_replay.specs.declared.stop.Stop.{Stop}
-use Rattle.inspect_replay.specs.declared.stop.Stop.TheVariants.{Line, TooLong, ReadFault, WriteFault, LinkFault, FrontRefused, NoRoom}
-use Rattle.inspect_replay.specs.declared.stop.Stop.TheVariants.{Memory}
-use Rattle.inspect_replay.specs.declared.status.Status.{Status}
-use Rattle.inspect_replay.specs.declared.status.Status.TheVariants as status
-use Rattle.inspect_replay.specs.Says.{Phase, untouched, reading, underway, ended, anywhen, Lie, PartRose, Says, says, status_of}
-use Rattle.inspect_replay.specs.Answers.{InReadOnly, source_counts, IsInputStop}
+use Rattle.replay_parts.specs.declared.stop.Stop.{Stop}
+use Rattle.replay_parts.specs.declared.stop.Stop.TheVariants.{Line, TooLong, ReadFault, WriteFault, LinkFault, FrontRefused, NoRoom}
+use Rattle.replay_parts.specs.declared.stop.Stop.TheVariants.{Memory}
+use Rattle.replay_parts.specs.declared.status.Status.{Status}
+use Rattle.replay_parts.specs.declared.status.Status.TheVariants as status
+use Rattle.replay_parts.specs.Says.{Phase, untouched, reading, underway, ended, anywhen, Lie, PartRose, Says, says, status_of}
+use Rattle.replay_parts.specs.Answers.{InReadOnly, source_counts, IsInputStop}
 use Rattle.back_end.specs.Seats.{StandsFor, HasRoomLeft}
 use Rattle.inspect_replay.specs.Followed.{AllCame, GivesNoMore, Passed, FoldsAt, fold_since, StatusFolds, StopFolds, EndsShown}
-use Rattle.inspect_replay.specs.Followed.{AnswersInOrder, FollowsWith, FollowsRun, FollowsAnswer, PrintedSome, LessAt, StatusLess, IsWell}
-use Rattle.inspect_replay.specs.Prints.{IsRead, ReadsAt}
+use Rattle.inspect_replay.specs.Followed.{AnswersInOrder, FollowsWith, FollowsRun, FollowsAnswer, LessAt, StatusLess, IsWell}
+use Rattle.replay_parts.specs.Printed.{PrintedSome}
+use Rattle.replay_parts.specs.Reads.{IsRead, ReadsAt}
 use Rattle.inspect_replay.specs.Runs.{ends_of}
-use Rattle.inspect_replay.specs.Moments.{moment}
-use Rattle.inspect_replay.specs.Stops.{GoesWell}
+use Rattle.replay_parts.specs.Moments.{moment}
+use Rattle.replay_parts.specs.Stops.{GoesWell}
 use Rattle.back_end.proofs.SeatRoom.{room-of}
 use Rattle.inspect_replay.specs.Starts.{IsNew}
 use Rattle.back_end.proofs.StartLemmas.{stands-first}
@@ -347,21 +348,6 @@ told-run state0 up0 down0 up down e e1 replies pauses is run =
           (record { replies = replies; pauses = pauses }) run.so_far;
       none_whole = run.none_whole;
     })
-
-pub some-printed : {T : Type 0} (result : Result T Stop) (before after : Option (List ℕ)) (text : List ℕ)
-    → OnOk result (Appends before after text) → OnOk result (PrintedSome before after)
-some-printed (Ok value) before after text printed = record { written = text; printed = printed }
-some-printed (Err stop) before after text printed = tt
-
-pub none-printed : {T : Type 0} (result : Result T Stop) (taken : Option (List ℕ)) → OnOk result (PrintedSome taken taken)
-none-printed (Ok value) taken = record { written = []; printed = Appends-nil taken }
-none-printed (Err stop) taken = tt
-
-pub more-printed : (before middle after : Option (List ℕ)) → PrintedSome before middle → PrintedSome middle after → PrintedSome before after
-more-printed before middle after a b = record {
-  written = a.written ++ b.written;
-  printed = Appends-append before middle after a.written b.written a.printed b.printed;
-}
 
 -- the closing part, where it was printed
 pub closes-shown : {P : Type 0} {g : Ghosts P} (result : Result (Unit {0}) Stop) (state0 : Started) (up0 down0 up down : Pipe)

@@ -15,10 +15,9 @@ pub mod TellLemmas
 pub mod DrillEnds
 pub mod AnswerLemmas
 pub mod FaultAnswers
-pub mod PageLemmas
 pub mod ServeLemmas
 pub mod ClientLemmas
 pub mod ServeEnds
 pub mod ReadLemmas
-pub mod SheetLineLemmas
 pub mod ServeRoom
+pub mod PairLemmas

@@ -7,7 +7,6 @@ use Rattle.front_mirror.specs.declared.panels.Panel.{Ghosts}
 use Rattle.pipe_frames.specs.Pipe.{Pipe}
 use Rattle.pipe_frames.specs.Whole.{WrotePart}
 use Rattle.pipe_frames.proofs.WholeLemmas.{Appends-append, WrotePart-all, WrotePart-longer, WrotePart-after}
-use Rattle.pipe_frames.specs.Fault.{Rose}
 use Rattle.node_tree.specs.Keys.{first_of}
 use Rattle.css_objects.specs.declared.rules.Matched.{Matched}
 use Rattle.replay_script.specs.Forms as forms_of
@@ -32,17 +31,16 @@ use Rattle.inspect_world.specs.Scripts.{report_refused}
 use Rattle.inspect_world.proofs.LineSizes.{line-long}
 use Rattle.inspect_world.proofs.Scripts.{left-fewer}
 use Rattle.inspect_replay.specs.declared.ends.Ends.{Ends}
-use Rattle.inspect_replay.specs.declared.stop.Stop.{Stop}
-use Rattle.inspect_replay.specs.declared.stop.Stop.TheVariants.{Line, TooLong, ReadFault, WriteFault, LinkFault, FrontRefused, NoRoom}
-use Rattle.inspect_replay.specs.declared.stop.Stop.TheVariants.{Memory}
+use Rattle.replay_parts.specs.declared.stop.Stop.{Stop}
+use Rattle.replay_parts.specs.declared.stop.Stop.TheVariants.{Line, TooLong, ReadFault, WriteFault, LinkFault, FrontRefused, NoRoom}
+use Rattle.replay_parts.specs.declared.stop.Stop.TheVariants.{Memory}
 use Rattle.inspect_replay.specs.Runs.{InPlay}
-use Rattle.inspect_replay.specs.Says.{Phase, untouched, reading, underway, ended, anywhen, Part, source, sink, link, PartRose, Says, says}
-use Rattle.inspect_replay.specs.Says.{OthersStill, status_of}
-use Rattle.inspect_replay.specs.Moments.{moment, scene}
-use Rattle.inspect_replay.specs.Stops.{AmidRun, two_counts, HasStopCause, HasRunCause, GoesWell}
-use Rattle.inspect_replay.specs.Answers.{InRunOnly, RunTells, RunTook, Prints}
+use Rattle.replay_parts.specs.Moments.{moment, scene}
+use Rattle.replay_parts.specs.Stops.{HasStopCause, GoesWell}
+use Rattle.replay_parts.specs.Answers.{RunTells, RunTook, Prints}
 use Rattle.inspect_replay.specs.Prints.{CarriesOut, CarriesLine, numbered_line, IsRead}
-use Rattle.inspect_replay.proofs.RunLemmas.{part-took, part-tells}
+use Rattle.inspect_replay.proofs.RunLemmas.{part-took}
+use Rattle.replay_parts.proofs.StopLemmas.{part-tells, closed-tells}
 
 -- ---- a part of a run that prints a text, as an answer of a run
 
@@ -56,13 +54,6 @@ pub printed-prints : (result : Result (Unit {0}) Stop) (before after : Option (L
     → OnOk result (Appends before after text) → OnErr result (WrotePart before after text) → Prints result before after text
 printed-prints (Ok value) before after text ok err = ok
 printed-prints (Err stop) before after text ok err = err
-
--- it tells nothing of lines
-pub closed-tells : (result : Result (Unit {0}) Stop) (sink0 sink1 link0 link1 : ℕ) (bad : Option (ℕ × LineFault)) → bad ≡ None
-    → HasStopCause sink0 sink1 link0 link1 result
-    → RunTells result bad
-closed-tells (Ok value) sink0 sink1 link0 link1 bad none cause = none
-closed-tells (Err stop) sink0 sink1 link0 link1 bad none cause = part-tells stop sink0 sink1 link0 link1 bad cause
 
 -- a line that drops no panel and shows no matched styles lacks nothing
 pub plain-lacking : (there : ℕ → Bool) (panels : List (Option PanelKind)) (form : LineForm) → closed_by form ≡ None
@@ -392,63 +383,6 @@ closed-took (Err stop) sink0 sink1 link0 link1 taken0 taken taken1 bad forms w n
     (subst (λ b. WrotePart taken0 taken1 (text ++ closing_unless b last)) (sym none)
     (WrotePart-after taken0 taken taken1 text (closing_text last) wrote printed))
 
-rose-at : (phase : Phase) (P Q : Type 0) → AmidRun phase P → (P → Q) → InRunOnly phase Q
-rose-at untouched P Q amid f = absurd amid
-rose-at reading P Q amid f = absurd amid
-rose-at underway P Q amid f = f amid
-rose-at ended P Q amid f = absurd amid
-rose-at anywhen P Q amid f = f amid
-
--- a stop amid a run is one of a run
-pub stop-run : (result : Result (Unit {0}) Stop) (sink0 sink1 link0 link1 : ℕ) → HasStopCause sink0 sink1 link0 link1 result
-    → HasRunCause sink0 sink1 link0 link1 result
-stop-run (Ok value) sink0 sink1 link0 link1 cause =
-    record { sink_later = cause.sink_later; link_later = cause.link_later; rose = tt; others = cause.others }
-stop-run (Err stop) sink0 sink1 link0 link1 cause =
-    let s : Says = says (status_of stop) in
-    record {
-      sink_later = cause.sink_later;
-      link_later = cause.link_later;
-      rose = rose-at s.phase (PartRose (two_counts sink0 sink1 link0 link1) s.failed)
-          (PartRose (two_counts sink0 sink1 link0 link1) s.failed) cause.rose (λ rose. rose);
-      others = cause.others;
-    }
-
--- a part of a run stops by a fault of what failed in the whole run, where nothing failed before
-pub later-cause : (result : Result (Unit {0}) Stop) (sink0 sink1 sink2 link0 link1 link2 : ℕ) → sink1 ≡ sink0 → link1 ≡ link0
-    → HasRunCause sink1 sink2 link1 link2 result → HasRunCause sink0 sink2 link0 link2 result
-later-cause result sink0 sink1 sink2 link0 link1 link2 same_sink same_link cause =
-    subst (λ n. HasRunCause n sink2 link0 link2 result) same_sink
-    (subst (λ n. HasRunCause sink1 sink2 n link2 result) same_link cause)
-
--- so does the part after the lines
-pub closed-cause : (result : Result (Unit {0}) Stop) (sink0 sink1 sink2 link0 link1 link2 : ℕ) → sink1 ≡ sink0 → link1 ≡ link0
-    → HasStopCause sink1 sink2 link1 link2 result → HasRunCause sink0 sink2 link0 link2 result
-closed-cause result sink0 sink1 sink2 link0 link1 link2 same_sink same_link cause =
-    later-cause result sink0 sink1 sink2 link0 link1 link2 same_sink same_link (stop-run result sink1 sink2 link1 link2 cause)
-
--- a line that is not read, where nothing failed before
-pub unread-cause : (stop : Stop) (number : ℕ) (bad : Option LineFault) (sink0 sink1 link0 link1 : ℕ) → sink1 ≡ sink0 → link1 ≡ link0
-    → IsRead {T = Unit {0}} (Err stop) number bad → HasRunCause {T = Unit {0}} sink0 sink1 link0 link1 (Err stop)
-unread-cause (Line n fault) number bad sink0 sink1 link0 link1 same_sink same_link read = record {
-  sink_later = omega (arith, same_sink);
-  link_later = omega (arith, same_link);
-  rose = tt;
-  others = (refl, same_sink, same_link);
-}
-unread-cause TooLong number bad sink0 sink1 link0 link1 same_sink same_link read = absurd read
-unread-cause ReadFault number bad sink0 sink1 link0 link1 same_sink same_link read = absurd read
-unread-cause WriteFault number bad sink0 sink1 link0 link1 same_sink same_link read = absurd read
-unread-cause LinkFault number bad sink0 sink1 link0 link1 same_sink same_link read = absurd read
-unread-cause (FrontRefused place kind) number bad sink0 sink1 link0 link1 same_sink same_link read = absurd read
-unread-cause NoRoom number bad sink0 sink1 link0 link1 same_sink same_link read = absurd read
-unread-cause Memory number bad sink0 sink1 link0 link1 same_sink same_link read = record {
-  sink_later = omega (arith, same_sink);
-  link_later = omega (arith, same_link);
-  rose = tt;
-  others = (refl, same_sink, same_link);
-}
-
 -- the lines stopped
 pub stopped-took : (stop : Stop) (taken0 taken : Option (List ℕ)) (bad : Option (ℕ × LineFault)) (forms : List LineForm)
     (w : World RunState)
@@ -475,128 +409,6 @@ stopped-took stop taken0 taken bad forms w tells took = by stop tells took
     by (FrontRefused place kind) tells took = absurd took
     by NoRoom tells took = absurd took
     by Memory tells took = WrotePart-longer taken0 taken text (closing_unless (rest_refused bad forms w) last) took
-
--- ---- causes
-
--- no count rises from nothing to nothing
-zero-rose : Rose 0 0 → ⊥
-zero-rose rose = omega arith
-
--- a part over a link alone
-link-alone : (sink0 link0 link1 : ℕ) (failed : Option Part) → PartRose (two_counts 0 0 link0 link1) failed
-    → PartRose (two_counts sink0 sink0 link0 link1) failed
-link-alone sink0 link0 link1 None rose = tt
-link-alone sink0 link0 link1 (Some source) rose = rose
-link-alone sink0 link0 link1 (Some sink) rose = absurd (zero-rose rose)
-link-alone sink0 link0 link1 (Some link) rose = rose
-
--- and a sink alone
-sink-alone : (sink0 sink1 link0 link1 : ℕ) (failed : Option Part) → PartRose (two_counts sink0 sink1 0 0) failed
-    → PartRose (two_counts sink0 sink1 link0 link1) failed
-sink-alone sink0 sink1 link0 link1 None rose = tt
-sink-alone sink0 sink1 link0 link1 (Some source) rose = rose
-sink-alone sink0 sink1 link0 link1 (Some sink) rose = rose
-sink-alone sink0 sink1 link0 link1 (Some link) rose = absurd (zero-rose rose)
-
-run-at : (phase : Phase) (P Q : Type 0) → InRunOnly phase P → (P → Q) → InRunOnly phase Q
-run-at untouched P Q in_run f = absurd in_run
-run-at reading P Q in_run f = absurd in_run
-run-at underway P Q in_run f = f in_run
-run-at ended P Q in_run f = f in_run
-run-at anywhen P Q in_run f = f in_run
-
--- the others over a link alone
-others-of-link : (sink0 link0 link1 : ℕ) (failed : Option Part) → OthersStill (two_counts 0 0 link0 link1) failed
-    → OthersStill (two_counts sink0 sink0 link0 link1) failed
-others-of-link sink0 link0 link1 None others = (refl, refl, others.2)
-others-of-link sink0 link0 link1 (Some source) others = (refl, others.1)
-others-of-link sink0 link0 link1 (Some sink) others = others
-others-of-link sink0 link0 link1 (Some link) others = (refl, refl)
-
--- and over a sink alone, where the link did not fail before
-others-of-sink : (sink0 sink1 link0 link1 : ℕ) (failed : Option Part) → link1 ≡ link0 → OthersStill (two_counts sink0 sink1 0 0) failed
-    → OthersStill (two_counts sink0 sink1 link0 link1) failed
-others-of-sink sink0 sink1 link0 link1 None same others = (refl, others.1, same)
-others-of-sink sink0 sink1 link0 link1 (Some source) same others = (others.0, same)
-others-of-sink sink0 sink1 link0 link1 (Some sink) same others = (refl, same)
-others-of-sink sink0 sink1 link0 link1 (Some link) same others = others
-
-amid-at : (phase : Phase) (P Q : Type 0) → AmidRun phase P → (P → Q) → AmidRun phase Q
-amid-at untouched P Q amid f = absurd amid
-amid-at reading P Q amid f = absurd amid
-amid-at underway P Q amid f = f amid
-amid-at ended P Q amid f = absurd amid
-amid-at anywhen P Q amid f = f amid
-
--- a call over a link alone, beside a sink that was not used
-pub link-cause : (result : Result (Unit {0}) Stop) (sink0 link0 link1 : ℕ) → HasStopCause 0 0 link0 link1 result
-    → HasStopCause sink0 sink0 link0 link1 result
-link-cause (Ok value) sink0 link0 link1 cause = record {
-  sink_later = omega arith;
-  link_later = cause.link_later;
-  rose = tt;
-  others = (refl, refl, cause.others.2);
-}
-link-cause (Err stop) sink0 link0 link1 cause =
-    let s : Says = says (status_of stop) in
-    record {
-      sink_later = omega arith;
-      link_later = cause.link_later;
-      rose = amid-at s.phase (PartRose (two_counts 0 0 link0 link1) s.failed)
-          (PartRose (two_counts sink0 sink0 link0 link1) s.failed) cause.rose (link-alone sink0 link0 link1 s.failed);
-      others = others-of-link sink0 link0 link1 s.failed cause.others;
-    }
-
--- a call over a sink alone, beside a link that was not used
-pub sink-cause : (result : Result (Unit {0}) Stop) (sink0 sink1 link0 : ℕ) → HasStopCause sink0 sink1 0 0 result
-    → HasStopCause sink0 sink1 link0 link0 result
-sink-cause (Ok value) sink0 sink1 link0 cause = record {
-  sink_later = cause.sink_later;
-  link_later = omega arith;
-  rose = tt;
-  others = (refl, cause.others.1, refl);
-}
-sink-cause (Err stop) sink0 sink1 link0 cause =
-    let s : Says = says (status_of stop) in
-    record {
-      sink_later = cause.sink_later;
-      link_later = omega arith;
-      rose = amid-at s.phase (PartRose (two_counts sink0 sink1 0 0) s.failed)
-          (PartRose (two_counts sink0 sink1 link0 link0) s.failed) cause.rose (sink-alone sink0 sink1 link0 link0 s.failed);
-      others = others-of-sink sink0 sink1 link0 link0 s.failed refl cause.others;
-    }
-
--- a settle, and then what a call over the sink alone does
-pub settled-cause : (result : Result (Unit {0}) Stop) (sink0 sink1 link0 link1 : ℕ) → HasStopCause {T = Unit {0}} 0 0 link0 link1 (Ok tt)
-    → HasStopCause sink0 sink1 0 0 result → HasStopCause sink0 sink1 link0 link1 result
-settled-cause result sink0 sink1 link0 link1 settles cause =
-    subst (λ n. HasStopCause sink0 sink1 link0 n result) (sym settles.others.2) (sink-cause result sink0 sink1 link0 cause)
-
--- a settle, and then what was printed, where a line may be refused
-pub settled-run : (result : Result (Unit {0}) Stop) (sink0 sink1 link0 link1 : ℕ) → HasStopCause {T = Unit {0}} 0 0 link0 link1 (Ok tt)
-    → HasRunCause sink0 sink1 0 0 result
-    → HasRunCause sink0 sink1 link0 link1 result
-settled-run (Ok value) sink0 sink1 link0 link1 settles cause = record {
-  sink_later = cause.sink_later;
-  link_later = settles.link_later;
-  rose = tt;
-  others = (refl, cause.others.1, settles.others.2);
-}
-settled-run (Err stop) sink0 sink1 link0 link1 settles cause =
-    let s : Says = says (status_of stop) in
-    record {
-      sink_later = cause.sink_later;
-      link_later = settles.link_later;
-      rose = run-at s.phase (PartRose (two_counts sink0 sink1 0 0) s.failed)
-          (PartRose (two_counts sink0 sink1 link0 link1) s.failed) cause.rose (sink-alone sink0 sink1 link0 link1 s.failed);
-      others = others-of-sink sink0 sink1 link0 link1 s.failed settles.others.2 cause.others;
-    }
-
--- or a settle that did not come through
-pub settled-stop : (stop : Stop) (sink0 link0 link1 : ℕ) → HasStopCause {T = Unit {0}} 0 0 link0 link1 (Err stop)
-    → HasRunCause {T = Unit {0}} sink0 sink0 link0 link1 (Err stop)
-settled-stop stop sink0 link0 link1 cause =
-    stop-run (Err stop) sink0 sink0 link0 link1 (link-cause (Err stop) sink0 link0 link1 cause)
 
 -- a line that did not settle
 pub stopped-line : {P : Type 0} {g : Ghosts P} (stop : Stop) (sink0 sink1 link0 link1 number : ℕ) (form : LineForm)

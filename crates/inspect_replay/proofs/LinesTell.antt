@@ -19,46 +19,22 @@ use Rattle.front_mirror.specs.Front.{FrontState}
 use Rattle.inspect_world.specs.Links.{Begun, Started, run_started, knows_styles, came_styles}
 use Rattle.inspect_world.proofs.LinkLemmas.{follows-fold, follows-showing}
 use Rattle.inspect_replay.specs.declared.ends.Ends.{Ends}
-use Rattle.inspect_replay.specs.declared.stop.Stop.{Stop}
-use Rattle.inspect_replay.specs.declared.stop.Stop.TheVariants.{Line, TooLong, ReadFault, WriteFault, LinkFault, FrontRefused, NoRoom}
-use Rattle.inspect_replay.specs.declared.stop.Stop.TheVariants.{Memory}
-use Rattle.inspect_replay.specs.Says.{Phase, untouched, reading, underway, ended, anywhen, PartRose, Says, says, says_of, status_of}
-use Rattle.inspect_replay.specs.Moments.{Moment}
-use Rattle.inspect_replay.specs.Stops.{AmidRun, two_counts, HasStopCause}
-use Rattle.inspect_replay.specs.Answers.{AtEnd, RunTells}
+use Rattle.replay_parts.specs.declared.stop.Stop.{Stop}
+use Rattle.replay_parts.specs.declared.stop.Stop.TheVariants.{Line, TooLong, ReadFault, WriteFault, LinkFault, FrontRefused, NoRoom}
+use Rattle.replay_parts.specs.declared.stop.Stop.TheVariants.{Memory}
+use Rattle.replay_parts.specs.Says.{says, says_of, status_of}
+use Rattle.replay_parts.specs.Moments.{Moment}
+use Rattle.replay_parts.specs.Stops.{HasStopCause}
+use Rattle.replay_parts.specs.Answers.{AtEnd, RunTells}
 use Rattle.inspect_replay.specs.Followed.{AllCame, EndsShown, AnswersInOrder, Passed, fold_since, FollowsRun, LineFollows}
 use Rattle.inspect_replay.specs.Followed.{passing, LinePasses, LineTells, LinesCarried}
 use Rattle.inspect_replay.specs.Prints.{numbered_line, IsRead}
 use Rattle.inspect_replay.specs.Runs.{ends_of}
-use Rattle.inspect_replay.proofs.LinesRun.{closed-tells, plain-lacking, no-number, some-number}
-use Rattle.inspect_replay.proofs.RunLemmas.{part-tells}
+use Rattle.inspect_replay.proofs.LinesRun.{plain-lacking, no-number, some-number}
 use Rattle.inspect_replay.proofs.FollowLemmas.{run-came}
+use Rattle.replay_parts.proofs.StopLemmas.{part-tells, closed-tells, came-through}
 
 -- ---- one line
-
-pub at-end : (phase : Phase) (P : Type 0) → P → AtEnd phase P
-at-end untouched P p = tt
-at-end reading P p = tt
-at-end underway P p = tt
-at-end ended P p = p
-at-end anywhen P p = tt
-
--- a stop amid a run is at no end
-not-ended : (phase : Phase) (P Q : Type 0) → AmidRun phase P → AtEnd phase Q
-not-ended untouched P Q amid = tt
-not-ended reading P Q amid = tt
-not-ended underway P Q amid = tt
-not-ended ended P Q amid = absurd amid
-not-ended anywhen P Q amid = tt
-
--- a call that came to its end, or not
-pub tells-came : (result : Result (Unit {0}) Stop) (sink0 sink1 link0 link1 : ℕ) (P : Type 0)
-    → HasStopCause sink0 sink1 link0 link1 result
-    → OnOk result P → AtEnd (says_of result).phase P
-tells-came (Ok value) sink0 sink1 link0 link1 P cause p = p
-tells-came (Err stop) sink0 sink1 link0 link1 P cause p =
-    let s : Says = says (status_of stop) in
-    not-ended s.phase (PartRose (two_counts sink0 sink1 link0 link1) s.failed) P cause.rose
 
 -- what came of a run that follows
 pub ok-came : {P : Type 0} {g : Ghosts P} (result : Result (Unit {0}) Stop) (state0 : Started) (up0 down0 up down : Pipe) (e : Ends P g)
@@ -68,7 +44,7 @@ ok-came (Ok value) state0 up0 down0 up down e run = run-came state0 up0 down0 up
 ok-came (Err stop) state0 up0 down0 up down e run = tt
 
 -- a line that shows no matched styles lacks none
-pub plain-tells : {P : Type 0} {g : Ghosts P} (result : Result (Unit {0}) Stop) (old new : Moment P g) (number : ℕ) (form : LineForm)
+pub plain-tells : {P : Type 0} {g : Ghosts P} (result : Result (Unit {0}) Stop) (old new : Moment (Ends P g)) (number : ℕ) (form : LineForm)
     (sink0 sink1 link0 link1 : ℕ)
     → closed_by form ≡ None → styles_ask form ≡ None → HasStopCause sink0 sink1 link0 link1 result → LineFollows old new result
     → LineTells old new (numbered_line number form) result
@@ -76,12 +52,12 @@ plain-tells result old new number form sink0 sink1 link0 link1 keeps none cause 
     let passed = fold_since up0 down0 new.up new.down in (
       closed-tells result sink0 sink1 link0 link1 (numbered_or number (want_fault (came_styles passed.fold) state0.panels form) None)
           (ap (λ o. numbered_or number o None) (plain-lacking (came_styles passed.fold) state0.panels form keeps none)) cause,
-      tells-came result sink0 sink1 link0 link1 (AllCame passed state0.shown) cause
+      came-through result sink0 sink1 link0 link1 (AllCame passed state0.shown) cause
           (ok-came result state0 up0 down0 new.up new.down new.ends (follows state0 up0 down0 run).0),
     )
 
 -- a line that drops no panel keeps them
-pub keeps-passing : {P : Type 0} {g : Ghosts P} (result : Result (Unit {0}) Stop) (old new : Moment P g) (form : LineForm)
+pub keeps-passing : {P : Type 0} {g : Ghosts P} (result : Result (Unit {0}) Stop) (old new : Moment (Ends P g)) (form : LineForm)
     → closed_by form ≡ None
     → LineFollows old new result → LinePasses old new form result
 keeps-passing result old new form keeps follows = λ state0 up0 down0 run.
@@ -98,7 +74,7 @@ pub stopped-tells : (stop : Stop) (sink0 sink1 link0 link1 number : ℕ) (form :
     × AtEnd (says_of {T = Unit {0}} (Err stop)).phase (AllCame passed state0.shown)
 stopped-tells stop sink0 sink1 link0 link1 number form state0 passed cause = (
   part-tells stop sink0 sink1 link0 link1 (numbered_or number (want_fault (came_styles passed.fold) state0.panels form) None) cause,
-  tells-came (Err stop) sink0 sink1 link0 link1 (AllCame passed state0.shown) cause tt,
+  came-through (Err stop) sink0 sink1 link0 link1 (AllCame passed state0.shown) cause tt,
 )
 
 -- ---- the lines
@@ -182,7 +158,8 @@ lacks-none : (there : ℕ → Bool) (panels : List (Option PanelKind)) (form : L
 lacks-none there panels form panel styles = ap (λ o. first_of o (styles_fault there form)) panel ∙ styles
 
 -- a line was carried out
-pub carried-on : {P : Type 0} {g : Ghosts P} (begun : Begun) (up0 down0 up down : Pipe) (old new : Moment P g) (initial : List (List ℕ))
+pub carried-on : {P : Type 0} {g : Ghosts P} (begun : Begun) (up0 down0 up down : Pipe) (old new : Moment (Ends P g))
+    (initial : List (List ℕ))
     (number : ℕ)
     (line : List ℕ) (more : List (List ℕ)) (form : LineForm)
     → (c : Carried begun up0 down0 up down initial number (line ∷ more) old.ends) → line_fault number line ≡ None
@@ -255,7 +232,8 @@ read-tells NoRoom begun up0 down0 up down initial number line more e c read = tt
 read-tells Memory begun up0 down0 up down initial number line more e c read = tt
 
 -- no line is left
-pub carried-all : {P : Type 0} {g : Ghosts P} (begun : Begun) (up0 down0 : Pipe) (new : Moment P g) (initial : List (List ℕ)) (number : ℕ)
+pub carried-all : {P : Type 0} {g : Ghosts P} (begun : Begun) (up0 down0 : Pipe) (new : Moment (Ends P g)) (initial : List (List ℕ))
+    (number : ℕ)
     (lines : List (List ℕ))
     → lines ≡ []
     → Carried begun up0 down0 new.up new.down initial number lines new.ends → LinesCarried begun up0 down0 new initial
@@ -269,7 +247,7 @@ carried-all begun up0 down0 new initial number lines none c = record {
 }
 
 -- and then none is refused
-pub carried-tells : {P : Type 0} {g : Ghosts P} (begun : Begun) (up0 down0 : Pipe) (new : Moment P g) (lines : List (List ℕ))
+pub carried-tells : {P : Type 0} {g : Ghosts P} (begun : Begun) (up0 down0 : Pipe) (new : Moment (Ends P g)) (lines : List (List ℕ))
     → LinesCarried begun up0 down0 new lines
     → first_refused (came_styles (fold_since up0 down0 new.up new.down).fold) begun.panels 2 lines ≡ None
 carried-tells begun up0 down0 new lines c = c.none _
@@ -278,7 +256,7 @@ carried-tells begun up0 down0 new lines c = c.none _
 -- nor after the closing part
 pub closing-tells : {P : Type 0} {g : Ghosts P} (result : Result (Unit {0}) Stop) (sink0 sink1 link0 link1 : ℕ) (begun : Begun)
     (up0 down0 up down : Pipe)
-    (new : Moment P g) (before after : Option (List ℕ)) (lines : List (List ℕ))
+    (new : Moment (Ends P g)) (before after : Option (List ℕ)) (lines : List (List ℕ))
     → (c : LinesCarried begun up0 down0 new lines) → HasStopCause sink0 sink1 link0 link1 result
     → OnOk result (EndsShown before after (fold_since up0 down0 up down) × AnswersInOrder up0 down0 up down
     × AllCame (fold_since up0 down0 up down) c.shown)

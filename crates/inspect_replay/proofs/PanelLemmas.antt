@@ -1,85 +1,40 @@
--- A line that drops a panel, and the lines of a show of the panels.
-use Rattle.std.proofs.Common.{◌≡◌, ℕ, zero, suc, ◌+◌, ◌<◌, ◌≤◌, List, [], ◌∷◌, ◌++◌, length, drop, Bool, true, false, Option, None}
-use Rattle.std.proofs.Common.{refl, sym, ◌∙◌, ap, subst, arith, is_some, append_assoc, append-nil, Result, Ok, Err}
+-- A line that drops a panel.
+use Rattle.std.proofs.Common.{◌≡◌, ℕ, ◌+◌, List, [], ◌++◌, Bool, true, false, Option, None}
+use Rattle.std.proofs.Common.{sym, ◌∙◌, ap, subst, Result}
 use Rattle.std.specs.Result.{OnOk}
-use Rattle.std.proofs.lemmas.List.{drop_all}
-use Rattle.node_tree.specs.Nodes.{Nodes}
-use Rattle.node_tree.specs.Seen.{Seen}
 use Rattle.node_tree.specs.Keys.{first_of}
 use Rattle.front_mirror.specs.declared.panels.Panel.{Ghosts}
 use Rattle.pipe_frames.specs.Pipe.{Pipe}
 use Rattle.pipe_frames.proofs.WholeLemmas.{Appends-nil}
 use Rattle.front_mirror.specs.declared.panels.PanelKind.{PanelKind}
 use Rattle.front_mirror.specs.Front.{FrontState}
-use Rattle.front_mirror.specs.Places.{slot_at, emptied_at, open_at, closed_at}
 use Rattle.replay_script.specs.Forms.{close}
-use Rattle.replay_script.specs.Script.{standing, stands_open, without, dropped, numbered_or, panel_missing, want_fault}
+use Rattle.replay_script.specs.Script.{stands_open, dropped, numbered_or, panel_missing, want_fault}
 use Rattle.session_runs.specs.Stream.{awaited}
 use Rattle.session_runs.specs.World.{settled}
 use Rattle.inspect_world.specs.World.{World, Audience}
 use Rattle.inspect_world.specs.RunStates.{RunState, run_step}
 use Rattle.inspect_world.specs.Held.{with_panels}
 use Rattle.inspect_world.specs.Links.{came_styles}
-use Rattle.inspect_world.specs.PanelTexts.{panel_text, panels_after}
 use Rattle.inspect_world.specs.Scripts.{panel_dropped, has_styles}
 use Rattle.inspect_world.proofs.Ends.{world-panels}
 use Rattle.inspect_world.proofs.LinkLemmas.{follows-panels}
 use Rattle.inspect_world.proofs.FetchesFit.{play-line}
 use Rattle.inspect_replay.specs.declared.ends.Ends.{Ends}
-use Rattle.inspect_replay.specs.declared.stop.Stop.{Stop}
-use Rattle.inspect_replay.specs.declared.stop.Stop.TheVariants.{Line}
+use Rattle.replay_parts.specs.declared.stop.Stop.{Stop}
+use Rattle.replay_parts.specs.declared.stop.Stop.TheVariants.{Line}
 use Rattle.replay_script.specs.declared.faults.LineFault.TheVariants.{NoPanel}
-use Rattle.inspect_replay.specs.Says.{says_of}
-use Rattle.inspect_replay.specs.Moments.{moment, scene}
+use Rattle.replay_parts.specs.Says.{says_of}
+use Rattle.replay_parts.specs.Moments.{moment, scene}
 use Rattle.inspect_replay.specs.Runs.{InRun, InPlay, ends_of}
-use Rattle.inspect_replay.specs.Stops.{HasRunCause}
-use Rattle.inspect_replay.specs.Answers.{RunTells, RunTook}
-use Rattle.inspect_replay.specs.Followed.{AllCame, Passed, IsWell, StopFolds, fold_since, FollowsRun, LinePasses, LineTells, PrintedSome}
+use Rattle.replay_parts.specs.Answers.{RunTells, RunTook}
+use Rattle.inspect_replay.specs.Followed.{AllCame, Passed, IsWell, StopFolds, fold_since, FollowsRun, LinePasses, LineTells}
 use Rattle.inspect_replay.specs.Prints.{CarriesLine, numbered_line, drops}
 use Rattle.inspect_replay.proofs.FollowLemmas.{run-fewer, run-good, run-came, stop-folds}
-use Rattle.inspect_replay.proofs.LinesTell.{at-end}
-
--- ---- places
-
-standing-is : (i : ℕ) (panels : List (Option PanelKind)) → standing i panels ≡ slot_at i panels
-standing-is i [] = refl
-standing-is zero (panel ∷ panels) = refl
-standing-is (suc i) (panel ∷ panels) = standing-is i panels
-
--- a panel stands open at a place as the front end finds it
-pub stands-open : (place : ℕ) (panels : List (Option PanelKind)) → is_some (open_at place panels) ≡ stands_open place panels
-stands-open zero panels = refl
-stands-open (suc i) panels = ap is_some (sym (standing-is i panels))
-
-without-is : (i : ℕ) (panels : List (Option PanelKind)) → emptied_at i panels ≡ without i panels
-without-is i [] = refl
-without-is zero (panel ∷ panels) = refl
-without-is (suc i) (panel ∷ panels) = ap (λ ps. panel ∷ ps) (without-is i panels)
-
--- and is dropped there as the front end does it
-pub dropped-is : (place : ℕ) (panels : List (Option PanelKind)) → closed_at place panels ≡ dropped place panels
-dropped-is zero panels = refl
-dropped-is (suc i) panels = without-is i panels
+use Rattle.replay_parts.proofs.StopLemmas.{at-end}
+use Rattle.replay_parts.proofs.ClosedPanels.{dropped-tells}
 
 -- ---- a line that drops a panel
-
--- it fails nothing outside
-pub panel-cause : (result : Result (Unit {0}) Stop) (number sink link : ℕ) (there : Bool) → result ≡ drops number there
-    → HasRunCause sink sink link link result
-panel-cause result number sink link there is = subst (λ r. HasRunCause sink sink link link r) (sym is) (at there) where
-  at : (b : Bool) → HasRunCause sink sink link link (drops number b)
-  at true = record { sink_later = omega arith; link_later = omega arith; rose = tt; others = (refl, refl, refl) }
-  at false = record { sink_later = omega arith; link_later = omega arith; rose = tt; others = (refl, refl, refl) }
-
--- it prints nothing
-pub panel-printed : (result : Result (Unit {0}) Stop) (taken : Option (List ℕ)) → OnOk result (PrintedSome taken taken)
-panel-printed (Ok value) taken = record { written = []; printed = Appends-nil taken }
-panel-printed (Err stop) taken = tt
-
--- it is refused where none stands open, and tells nothing else
-dropped-tells : (number : ℕ) (there : Bool) → RunTells (drops number there) (numbered_or number (first_of (panel_missing there) None) None)
-dropped-tells number true = refl
-dropped-tells number false = refl
 
 module _ {P : Type 0} {g : Ghosts P} (result : Result (Unit {0}) Stop) (number place : ℕ) (honest : Type 0) (up down : Pipe)
     (e e1 : Ends P g)
@@ -169,34 +124,3 @@ module _ {P : Type 0} {g : Ghosts P} (result : Result (Unit {0}) Stop) (number p
       took : (there : Bool) → RunTook (drops number there) taken taken []
       took true = Appends-nil taken
       took false = Appends-nil taken
-
--- ---- the lines of a show
-
--- the next panel
-pub panels-step : (tree : Nodes Seen) (before i : ℕ) (panels : List (Option PanelKind)) → i < length panels
-    → panels_after before (drop i panels) tree
-    ≡ panel_text (before + 1) (slot_at i panels) tree ++ panels_after (before + 1) (drop (suc i) panels) tree
-panels-step tree before i [] less = absurd (no-less i less) where
-  no-less : (i : ℕ) → i < 0 → ⊥
-  no-less i less = omega (arith, less)
-panels-step tree before zero (panel ∷ panels) less = refl
-panels-step tree before (suc i) (panel ∷ panels) less =
-    let fewer : suc i < suc (length panels) = less in panels-step tree before i panels (omega (arith, fewer))
-
--- what is written so far and what is left are the whole
-pub panels-turn : (tree : Nodes Seen) (old new whole : List ℕ) (i : ℕ) (panels : List (Option PanelKind)) → i < length panels
-    → new ≡ old ++ panel_text (i + 1) (open_at (i + 1) panels) tree → old ++ panels_after i (drop i panels) tree ≡ whole
-    → new ++ panels_after (i + 1) (drop (i + 1) panels) tree ≡ whole
-panels-turn tree old new whole i panels less is h =
-    let one : suc i ≡ i + 1 = omega arith in
-    let at : open_at (i + 1) panels ≡ slot_at i panels = ap (λ n. open_at n panels) (sym one) in
-    ap (λ text. text ++ panels_after (i + 1) (drop (i + 1) panels) tree) (is ∙ ap (λ o. old ++ panel_text (i + 1) o tree) at)
-    ∙ append_assoc old (panel_text (i + 1) (slot_at i panels) tree) (panels_after (i + 1) (drop (i + 1) panels) tree)
-    ∙ ap (λ n. old ++ (panel_text (i + 1) (slot_at i panels) tree ++ panels_after (i + 1) (drop n panels) tree)) (sym one)
-    ∙ ap (λ text. old ++ text) (sym (panels-step tree i i panels less)) ∙ h
-
--- no panel is left
-pub panels-end : (tree : Nodes Seen) (text whole : List ℕ) (i : ℕ) (panels : List (Option PanelKind)) → length panels ≤ i
-    → text ++ panels_after i (drop i panels) tree ≡ whole → text ≡ whole
-panels-end tree text whole i panels all h =
-    sym (append-nil text) ∙ ap (λ ps. text ++ panels_after i ps tree) (sym (drop_all i panels all)) ∙ h

@@ -1,6 +1,6 @@
 -- A run goes on line by line, and writes what the lines print.
-use Rattle.std.proofs.Common.{◌≡◌, ℕ, suc, ◌+◌, ◌≤◌, min, Bool, false, option_and_then, List, [], ◌∷◌, ◌++◌, length, map, drop, Option}
-use Rattle.std.proofs.Common.{Some, None, refl, sym, ◌∙◌, ap, subst, arith, append-nil, codes, Result, Ok, Err}
+use Rattle.std.proofs.Common.{◌≡◌, ℕ, ◌+◌, ◌≤◌, min, Bool, false, option_and_then, List, [], ◌∷◌, ◌++◌, length, map, drop, Option}
+use Rattle.std.proofs.Common.{Some, None, refl, sym, ◌∙◌, ap, subst, arith, codes, Result, Ok, Err}
 use Rattle.std.proofs.lemmas.List.{drop-map, drop_min, length-map}
 use Rattle.std.specs.Option.{option_map_or}
 use Rattle.std.specs.Result.{OnOk, OnErr}
@@ -18,7 +18,6 @@ use Rattle.replay_script.specs.Faults.{line_fault}
 use Rattle.replay_script.specs.Lines.{lines_of}
 use Rattle.replay_script.specs.Script.{numbered_or, panels_after, panels_left, want_fault, first_refused, refused_of_lines}
 use Rattle.replay_script.specs.Script.{script_refused, first_bad, good_lines, fault_of_lines, script_fault, script_forms}
-use Rattle.replay_script.specs.declared.faults.LineFault.{LineFault}
 use Rattle.page_forms.specs.Pages.{LoadedPage, CanLoadPage}
 use Rattle.node_tree.specs.Nodes.{Nodes}
 use Rattle.node_tree.specs.Seen.{Seen}
@@ -38,17 +37,13 @@ use Rattle.back_end.specs.declared.side.PageSide.{PageSide}
 use Rattle.back_end.specs.States.{loaded_state, page_nodes, book_in, sheets_shown, view_of}
 use Rattle.back_end.specs.Steps.{acts}
 use Rattle.inspect_world.specs.RunStates.{RunState, run_step, run_turn}
-use Rattle.node_tree.specs.Watches.{watch_name}
-use Rattle.node_tree.specs.declared.watches.WatchKind.TheVariants as watch
-use Rattle.inspect_world.specs.ShownPauses.{pauses_in, watched_text, pause_line, pause_lines, seen_pause_line, seen_pause_lines}
-use Rattle.cdp_messages.specs.declared.down.PauseData.{PauseData}
-use Rattle.cdp_messages.specs.declared.down.PauseData.TheVariants as pause
+use Rattle.inspect_world.specs.ShownPauses.{pauses_in, seen_pause_lines}
 use Rattle.front_mirror.specs.declared.pauses.SeenPause.{SeenPause}
 use Rattle.back_end.specs.Laws.{IsTurn}
 use Rattle.back_end.specs.Plans.{act_fault}
 use Rattle.back_end.proofs.SeatLemmas.{on_ok}
 use Rattle.back_end.specs.Seats.{IsSeated}
-use Rattle.inspect_world.specs.Costs.{least_line, line_cost, line_bytes}
+use Rattle.inspect_world.specs.Costs.{least_line, line_cost}
 use Rattle.inspect_world.specs.Fits.{most_bytes, HasLeft, IsPlainFrame}
 use Rattle.inspect_world.specs.FreshRuns.{front_fetcher, refreshes, fresh_line, Together}
 use Rattle.inspect_world.specs.ActTexts.{act_text}
@@ -63,12 +58,12 @@ use Rattle.back_end.specs.Starts.{IsNewSeat}
 use Rattle.back_end.proofs.StartLemmas.{stands-first}
 use Rattle.inspect_replay.specs.Starts.{IsNew}
 use Rattle.inspect_replay.specs.declared.ends.Ends.{Ends}
-use Rattle.inspect_replay.specs.declared.stop.Stop.{Stop}
+use Rattle.replay_parts.specs.declared.stop.Stop.{Stop}
 use Rattle.inspect_replay.specs.Runs.{InRun, InPlay, Spends, Steps, Refreshes, ends_of}
-use Rattle.inspect_replay.specs.Says.{Phase, untouched, reading, underway, ended, anywhen, Lie, Counts, PartRose, Says, says, status_of}
-use Rattle.inspect_replay.specs.Moments.{moment, passage, scene}
-use Rattle.inspect_replay.specs.Stops.{AmidRun, two_counts, HasStopCause, GoesWell}
-use Rattle.inspect_replay.specs.Answers.{Absent, AtEnd, InRunOnly, TookAt, RunTells, RunTook, Prints}
+use Rattle.replay_parts.specs.Says.{Phase, untouched, reading, underway, ended, anywhen, Lie, Counts, PartRose, Says, says, status_of}
+use Rattle.replay_parts.specs.Moments.{moment, passage, scene}
+use Rattle.replay_parts.specs.Stops.{AmidRun, two_counts, HasStopCause, GoesWell}
+use Rattle.replay_parts.specs.Answers.{Absent, InRunOnly, TookAt, RunTook, Prints}
 use Rattle.inspect_replay.specs.Prints.{CarriesOut, NumberedLine, numbered_line, Closes}
 use Rattle.replay_script.proofs.ScriptLemmas.{first_bad-good, good_lines-good}
 use Rattle.inspect_world.proofs.Scripts.{left-one, left-fewer, cost-least}
@@ -77,8 +72,10 @@ use Rattle.inspect_world.specs.SheetTexts.{sheet_lines, known_lines}
 use Rattle.inspect_world.proofs.ShownSheets.{fresh-lines}
 use Rattle.inspect_world.proofs.FetchesFit.{ShownThen, play-line, play-loaded, play-told, shown-then, refreshed-told}
 use Rattle.inspect_replay.proofs.EndLemmas.{run-front}
-use Rattle.inspect_world.proofs.Inputs.{input-script, Script, length-lines_of, bytes-lines_of}
+use Rattle.inspect_world.proofs.Inputs.{input-script, Script}
 use Rattle.inspect_world.proofs.Ends.{world-first, world-told}
+use Rattle.replay_parts.proofs.StopLemmas.{after-ok}
+use Rattle.replay_parts.proofs.PauseLineLemmas.{same-pauses}
 
 -- counts of which nothing is asked
 abbrev pub no_counts : Counts
@@ -105,20 +102,6 @@ pub part-took : (stop : Stop) (sink0 sink1 link0 link1 : ℕ) (before after : Op
 part-took stop sink0 sink1 link0 link1 before after text cause well wrote =
     let s : Says = says (status_of stop) in
     took-at s.phase s.lie (PartRose (two_counts sink0 sink1 link0 link1) s.failed) before after text cause.rose well wrote
-
--- it tells nothing of lines
-tells-at : (phase : Phase) (P Q : Type 0) → AmidRun phase P → InRunOnly phase (AtEnd phase Q)
-tells-at untouched P Q amid = absurd amid
-tells-at reading P Q amid = absurd amid
-tells-at underway P Q amid = tt
-tells-at ended P Q amid = absurd amid
-tells-at anywhen P Q amid = tt
-
-pub part-tells : (stop : Stop) (sink0 sink1 link0 link1 : ℕ) (bad : Option (ℕ × LineFault))
-    → HasStopCause {T = Unit {0}} sink0 sink1 link0 link1 (Err stop) → RunTells {T = Unit {0}} (Err stop) bad
-part-tells stop sink0 sink1 link0 link1 bad cause =
-    let s : Says = says (status_of stop) in
-    tells-at s.phase (PartRose (two_counts sink0 sink1 link0 link1) s.failed) (bad ≡ s.line) cause.rose
 
 -- ---- one line
 
@@ -231,10 +214,6 @@ abbrev pub SettlesTo : {P : Type 0} {g : Ghosts P} → Type 0 → Type 0 → Pip
 SettlesTo honest honest1 up down up1 down1 e e1 =
     (up0 down0 : Pipe) (w : World RunState) → HasLeft w.spent 0 → InRun honest up0 down0 up down w e
     → InRun honest1 up0 down0 up1 down1 (refreshes front_fetcher w) e1
-
-pub after-ok : {T P : Type 0} (result : Result T Stop) → P → OnOk result P
-after-ok (Ok value) p = p
-after-ok (Err stop) p = tt
 
 -- a change of the page: what the page and its sheets say is refused is what the script's own state says
 page-is : {P : Type 0} {g : Ghosts P} (honest : Type 0) (up0 down0 up down : Pipe) (lines : ℕ) (w : World RunState) (e : Ends P g)
@@ -416,17 +395,6 @@ replies-same number w e1 kept shown told u =
 
 abbrev pub pauses_text : List SeenPause → List ℕ
 pauses_text kept = codes "# pauses" ++ 10 ∷ seen_pause_lines kept
-
--- the line of a pause is the same as a front end keeps it
-same-pause : (p : PauseData) → seen_pause_line (seen_pause p) ≡ pause_line p
-same-pause (pause.Subtree node target insertion) = refl
-same-pause (pause.Attribute node) = ap (λ text. text ++ 10 ∷ []) (append-nil (watched_text (watch_name watch.Attribute) node))
-same-pause (pause.Removed node) = ap (λ text. text ++ 10 ∷ []) (append-nil (watched_text (watch_name watch.Removed) node))
-
-same-pauses : (ps : List PauseData) → seen_pause_lines (map seen_pause ps) ≡ pause_lines ps
-same-pauses [] = refl
-same-pauses (p ∷ ps) = ap (λ text. text ++ seen_pause_lines (map seen_pause ps)) (same-pause p) ∙ ap (λ text. pause_line p ++ text)
-    (same-pauses ps)
 
 map-id : {A : Type 0} (xs : List A) → map (λ (x : A). x) xs ≡ xs
 map-id [] = refl
@@ -696,21 +664,6 @@ script-refused there kinds input first more page lines good is =
     (first_refused there (panels_left first (map Some kinds)) 2 more)) good
     ∙ ap (λ o. numbered_or 1 (option_and_then (want_fault there (map Some kinds)) o)
     (first_refused there (option_map_or (λ form. panels_after form (map Some kinds)) o (map Some kinds)) 2 more)) is
-
-pub few-lines : (input first : List ℕ) (more : List (List ℕ)) (limit : ℕ) → lines_of input ≡ first ∷ more → length input ≤ limit
-    → length more ≤ limit
-few-lines input first more limit lines few =
-    let all : length (lines_of input) ≤ length input = length-lines_of input in
-    let count : length (lines_of input) ≡ suc (length more) = ap length lines in
-    omega (arith, all, count, few)
-
--- nor in them
-pub few-bytes : (input first : List ℕ) (more : List (List ℕ)) (limit : ℕ) → lines_of input ≡ first ∷ more → length input ≤ limit
-    → line_bytes more ≤ limit
-few-bytes input first more limit lines few =
-    let all : line_bytes (lines_of input) ≤ length input = bytes-lines_of input in
-    let count : line_bytes (lines_of input) ≡ line_bytes more + length first = ap line_bytes lines in
-    omega (arith, all, count, few)
 
 -- ---- the start
 

@@ -1,21 +1,21 @@
 -- What came was read and answered by the end of the source, or until the call stopped.
 use Rattle.std.proofs.Common.{◌≡◌, ℕ, zero, suc, ◌+◌, ◌^◌, ◌≤◌, List, [], ◌∷◌, ◌++◌, length, take, Option, Some, None, Result, Ok, Err}
 use Rattle.std.proofs.Common.{refl, sym, ◌∙◌, ap, subst, append_assoc, append-nil, length-append, arith}
-use Rattle.std.specs.Io.KnownBytes.{Appends, Consumes, IsAtEnd}
+use Rattle.std.specs.Io.KnownBytes.{Consumes, IsAtEnd}
 use Rattle.pipe_frames.specs.Fault.{next_count}
 use Rattle.pipe_frames.specs.Whole.{ReadPart}
 use Rattle.pipe_frames.specs.Frames.{frames_of, frames_from}
 use Rattle.pipe_frames.proofs.WholeLemmas.{Consumes-nil, Consumes-append}
-use Rattle.inspect_replay.specs.declared.status.Status.{Status}
-use Rattle.inspect_replay.specs.declared.status.Status.TheVariants as status
-use Rattle.inspect_replay.specs.declared.stop.Stop.{Stop}
-use Rattle.inspect_replay.specs.declared.stop.Stop.TheVariants.{Line, TooLong, ReadFault, WriteFault, LinkFault, FrontRefused, NoRoom}
-use Rattle.inspect_replay.specs.declared.stop.Stop.TheVariants.{Memory}
+use Rattle.replay_parts.specs.declared.status.Status.{Status}
+use Rattle.replay_parts.specs.declared.status.Status.TheVariants as status
+use Rattle.replay_parts.specs.declared.stop.Stop.{Stop}
+use Rattle.replay_parts.specs.declared.stop.Stop.TheVariants.{Line, TooLong, ReadFault, WriteFault, LinkFault, FrontRefused, NoRoom}
+use Rattle.replay_parts.specs.declared.stop.Stop.TheVariants.{Memory}
 use Rattle.std.specs.Result.{IsOk, IsErrAnd}
 use Rattle.std.proofs.lemmas.Result.{err_from_is_err_and}
 use Rattle.inspect_replay.specs.Followed.{Passed, StatusFolds}
-use Rattle.inspect_replay.specs.Says.{Counts, OthersStill, says_of, status_of}
-use Rattle.inspect_replay.specs.Answers.{StatusRose}
+use Rattle.replay_parts.specs.Says.{Counts, OthersStill, says_of, status_of}
+use Rattle.replay_parts.specs.Answers.{StatusRose}
 use Rattle.inspect_replay.specs.Served.{Served, first_alone}
 use Rattle.inspect_replay.specs.Serving.{HaltedIn, HaltedWithin, AnsweredWhole, ServeCall, ServedRead, ServedAll, ServedLimit}
 use Rattle.inspect_replay.specs.Serving.{AnswersTook, IsServeStatus, IsShareStatus, ServeMoment}

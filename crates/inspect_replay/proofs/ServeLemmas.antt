@@ -1,5 +1,5 @@
 -- A service answers the frames that came, in whatever pieces they come.
-use Rattle.std.proofs.Common.{◌≡◌, ◌↔◌, ℕ, List, [], ◌∷◌, ◌++◌, Option, None, Result, Ok, Err, refl, sym, ◌∙◌, ap, subst, append_assoc}
+use Rattle.std.proofs.Common.{◌≡◌, ℕ, List, [], ◌∷◌, ◌++◌, Option, None, Result, Ok, Err, refl, sym, ◌∙◌, ap, subst, append_assoc}
 use Rattle.std.proofs.Common.{append-nil, arith}
 use Rattle.std.specs.Result.{OnOk, IsErrAnd}
 use Rattle.std.proofs.lemmas.Result.{err_from_is_err_and}
@@ -13,18 +13,16 @@ use Rattle.std.proofs.lemmas.List.Elements.{All-nil}
 use Rattle.page_forms.specs.declared.sheets.SheetForm.{SheetForm}
 use Rattle.page_forms.specs.Pages.{CanLoadPage}
 use Rattle.page_forms.specs.Texts.{PageHasTexts}
-use Rattle.back_end.specs.declared.side.PageSide.{PageSide}
 use Rattle.back_end.specs.Seats.{first_page}
 use Rattle.session_runs.specs.World.{Stepped, steps}
-use Rattle.inspect_replay.specs.declared.clients.Clients.{Clients}
-use Rattle.inspect_replay.specs.declared.clients.Clients.TheVariants.{Alone, Paired}
 use Rattle.inspect_replay.specs.declared.service.Service.{Service}
-use Rattle.inspect_replay.specs.declared.stop.Stop.{Stop}
-use Rattle.inspect_replay.specs.declared.stop.Stop.TheVariants.{Line, TooLong, ReadFault, WriteFault, LinkFault, FrontRefused, NoRoom}
-use Rattle.inspect_replay.specs.declared.stop.Stop.TheVariants.{Memory}
+use Rattle.replay_parts.specs.declared.stop.Stop.{Stop}
+use Rattle.replay_parts.specs.declared.stop.Stop.TheVariants.{Line, TooLong, ReadFault, WriteFault, LinkFault, FrontRefused, NoRoom}
+use Rattle.replay_parts.specs.declared.stop.Stop.TheVariants.{Memory}
 use Rattle.inspect_replay.specs.Served.{Served, served_step, served_run, served, HasRoomFor, RoomForEach, ClientsStandFor}
 use Rattle.inspect_replay.specs.Serving.{AllAnswered, EndsBy, HaltedIn, IsServing, ServeMoment, serve_moment, SoFar, with_more}
 use Rattle.inspect_replay.specs.Serving.{Serves, Answered, PartServed, ServesOn}
+use Rattle.replay_parts.proofs.StopLemmas.{wrote-none}
 
 -- ---- steps on frames
 
@@ -123,13 +121,9 @@ halted-longer stop now xs more before after halted = record {
   ends = ends-longer stop (steps served_step now halted.answered) halted.others more before after halted.ends;
 }
 
--- a sink that took nothing took the front part of any text
-unwritten : (taken : Option (List ℕ)) (text : List ℕ) → WrotePart taken taken text
-unwritten taken text = record { part = []; rest = text; whole = refl; wrote = Appends-nil taken }
-
 -- no memory is left for the first of them
 pub lost-first : (now : Served) (frames : List (List ℕ)) (taken : Option (List ℕ)) → HaltedIn Memory now frames taken taken
-lost-first now frames taken = record { answered = []; others = frames; cut = refl; room = tt; ends = unwritten taken [] }
+lost-first now frames taken = record { answered = []; others = frames; cut = refl; room = tt; ends = wrote-none taken [] }
 
 -- there is no room for it
 pub full-first : (now : Served) (frame : List ℕ) (taken : Option (List ℕ)) → (HasRoomFor now → ⊥)

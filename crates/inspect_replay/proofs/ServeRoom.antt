@@ -17,7 +17,7 @@ use Rattle.session_runs.specs.World.{steps}
 use Rattle.inspect_world.specs.Links.{bytes_among}
 use Rattle.inspect_world.proofs.CountLemmas.{command-ids, ids-left, few-edits, frames-within, bytes-append}
 use Rattle.back_end.proofs.StartLemmas.{IsState-first}
-use Rattle.inspect_replay.specs.declared.stop.Stop.TheVariants.{NoRoom}
+use Rattle.replay_parts.specs.declared.stop.Stop.TheVariants.{NoRoom}
 use Rattle.inspect_replay.specs.Served.{Served, alone, paired, first_alone, served_step, HasRoomFor}
 use Rattle.inspect_replay.specs.Serving.{HaltedIn}
 use Rattle.inspect_replay.proofs.ServeLemmas.{nothing-loaded, no-texts}

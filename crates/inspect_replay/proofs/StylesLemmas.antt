@@ -1,13 +1,9 @@
--- The lines of matched styles, and a line that shows them.
-use Rattle.std.proofs.Common.{◌≡◌, ℕ, zero, suc, ◌+◌, ◌≤◌, min, length, drop, List, [], ◌∷◌, ◌++◌, map, Bool, cond, ◌==◌, is_some, Option}
-use Rattle.std.proofs.Common.{Some, None, refl, sym, ◌∙◌, ap, subst, arith, Result, Ok}
+-- A line that shows matched styles.
+use Rattle.std.proofs.Common.{◌≡◌, ℕ, ◌+◌, List, is_some, Option}
+use Rattle.std.proofs.Common.{None, refl, sym, ◌∙◌, ap, subst, Result, Ok}
 use Rattle.front_mirror.specs.declared.panels.Panel.{Ghosts}
 use Rattle.pipe_frames.specs.Pipe.{Pipe}
 use Rattle.css_objects.specs.declared.rules.Matched.{Matched}
-use Rattle.css_objects.specs.declared.rules.RuleMatch.{RuleMatch}
-use Rattle.css_objects.specs.declared.styles.StyleProperty.{StyleProperty}
-use Rattle.inspect_world.specs.StylesTexts.{ShownBlock, rule_block, competing, property_lines}
-use Rattle.front_mirror.specs.declared.replies.MatchedReply.{MatchedReply}
 use Rattle.front_mirror.specs.Front.{matched_in}
 use Rattle.replay_script.specs.Forms.{show_styles}
 use Rattle.replay_script.specs.Script.{numbered_or, styles_missing, want_fault}
@@ -15,57 +11,22 @@ use Rattle.session_runs.specs.World.{settled}
 use Rattle.inspect_world.specs.World.{World}
 use Rattle.inspect_world.specs.RunStates.{RunState, styles_under, run_step}
 use Rattle.inspect_world.specs.Costs.{least_line}
-use Rattle.inspect_world.specs.Fits.{kept_styles}
 use Rattle.inspect_world.specs.FreshRuns.{front_fetcher, refreshes}
 use Rattle.inspect_world.specs.Scripts.{styles_at, styles_shown}
 use Rattle.inspect_world.specs.Links.{Started, came_styles}
 use Rattle.inspect_world.proofs.FetchesFit.{ShownThen, refreshed-told}
 use Rattle.inspect_replay.specs.declared.ends.Ends.{Ends}
-use Rattle.inspect_replay.specs.declared.stop.Stop.{Stop}
+use Rattle.replay_parts.specs.declared.stop.Stop.{Stop}
 use Rattle.inspect_replay.specs.Runs.{InRun}
-use Rattle.inspect_replay.specs.Says.{says_of}
-use Rattle.inspect_replay.specs.Moments.{moment, scene}
-use Rattle.inspect_replay.specs.Answers.{AtEnd, RunTells, RunTook}
+use Rattle.replay_parts.specs.Says.{says_of}
+use Rattle.replay_parts.specs.Moments.{moment, scene}
+use Rattle.replay_parts.specs.Answers.{AtEnd, RunTells, RunTook}
 use Rattle.inspect_replay.specs.Followed.{AllCame, fold_since, FollowsRun}
 use Rattle.inspect_replay.specs.Prints.{CarriesLine, numbered_line}
-use Rattle.inspect_replay.proofs.RunLemmas.{SettlesTo, left-none, plays, after-ok, shown-settled}
-use Rattle.inspect_replay.proofs.LinesTell.{at-end}
+use Rattle.inspect_replay.proofs.RunLemmas.{SettlesTo, left-none, plays, shown-settled}
 use Rattle.inspect_replay.proofs.FollowLemmas.{run-came, run-kept}
-
--- ---- lines
-
--- past the end of the marks or of the properties nothing is left
-no-properties : (marks : List Bool) → property_lines marks [] ≡ []
-no-properties [] = refl
-no-properties (won ∷ marks) = refl
-
-pub properties-end : (marks : List Bool) (ps : List StyleProperty) (i end : ℕ) → end ≡ min (length marks) (length ps) → end ≤ i
-    → property_lines (drop i marks) (drop i ps) ≡ []
-properties-end [] ps zero end is past = refl
-properties-end [] ps (suc i) end is past = refl
-properties-end (won ∷ marks) [] zero end is past = refl
-properties-end (won ∷ marks) [] (suc i) end is past = no-properties (drop i marks)
-properties-end (won ∷ marks) (p ∷ ps) zero end is past =
-    let least : min (suc (length marks)) (suc (length ps))
-    ≤ 0 = subst (λ n. n ≤ 0) is past in absurd (no-least (length marks) (length ps) least)
-  where
-    no-least : (m n : ℕ) → min (suc m) (suc n) ≤ 0 → ⊥
-    no-least m n h = omega (arith, h)
-properties-end (won ∷ marks) (p ∷ ps) (suc i) end is past = properties-end marks ps i (min (length marks) (length ps)) refl
-    (omega (arith, is, past))
-
--- the blocks, rules first
-pub blocks_are : (rules : List RuleMatch) (more : List ShownBlock)
-    → map competing (map rule_block rules ++ more) ≡ map (λ m. competing (rule_block m)) rules ++ map competing more
-blocks_are [] more = refl
-blocks_are (r ∷ rules) more = ap (λ bs. competing (rule_block r) ∷ bs) (blocks_are rules more)
-
--- ---- a line that shows them
-
--- what a front end has kept, and what the client was told
-under-kept : (ask : ℕ) (rs : List MatchedReply) → styles_under ask (map kept_styles rs) ≡ matched_in ask rs
-under-kept ask [] = refl
-under-kept ask (r ∷ rs) = ap (λ o. cond (r.ask == ask) (Some r.matched) o) (under-kept ask rs)
+use Rattle.replay_parts.proofs.StopLemmas.{at-end, after-ok}
+use Rattle.replay_parts.proofs.StyleLineLemmas.{under-kept}
 
 shown-styles : {P : Type 0} {g : Ghosts P} (w : World RunState) (e1 : Ends P g) (ask : ℕ) → ShownThen w e1.front.value
     → matched_in ask e1.front.value.matched ≡ styles_at ask (settled run_step w)

@@ -18,10 +18,10 @@ use Rattle.inspect_world.specs.Links.{Started, Follows}
 use Rattle.inspect_world.proofs.FetchesFit.{ShownThen}
 use Rattle.inspect_world.proofs.LinkLemmas.{follows-fold, follows-replies}
 use Rattle.inspect_replay.specs.declared.ends.Ends.{Ends}
-use Rattle.inspect_replay.specs.declared.stop.Stop.{Stop}
-use Rattle.inspect_replay.specs.Moments.{moment, scene}
+use Rattle.replay_parts.specs.declared.stop.Stop.{Stop}
+use Rattle.replay_parts.specs.Moments.{moment, scene}
 use Rattle.inspect_replay.specs.Runs.{InRun, ends_of}
-use Rattle.inspect_replay.specs.Stops.{GoesWell}
+use Rattle.replay_parts.specs.Stops.{GoesWell}
 use Rattle.inspect_replay.specs.Followed.{FollowsRun, StopFolds, AnswersInOrder, fold_since}
 use Rattle.inspect_replay.specs.Tallies.{TalliesShown, tally_of, tally_in, tally_text}
 use Rattle.inspect_replay.specs.Drilled.{Tells}

@@ -1,6 +1,6 @@
 -- The words of the program, and the number of divs in those of a drill.
-use Rattle.std.proofs.Common.{◌≡◌, ℕ, ◌<◌, ◌≤◌, ◌^◌, ◌&&◌, nat_le, Bool, true}
-use Rattle.std.proofs.Common.{false, List, [], ◌∷◌, length, get_or, Some, None, Result, Ok, Err}
+use Rattle.std.proofs.Common.{◌≡◌, ℕ, suc, ◌<◌, ◌≤◌, ◌^◌, ◌&&◌, nat_le, Bool, true}
+use Rattle.std.proofs.Common.{false, List, [], ◌∷◌, length, map, get_or, Some, None, Result, Ok, Err}
 use Rattle.std.proofs.Common.{refl, sym, ap, ◌∙◌, subst, arith, decimal, codes}
 use Rattle.std.specs.Prelude.{bytes_eq, if◌then◌else◌}
 use Rattle.std.specs.Result.{OkIff}
@@ -10,7 +10,26 @@ use Rattle.std.proofs.lemmas.Fmt.{decimal_is_IsNumeral, decimal-digits_value, pa
 use Rattle.std.proofs.lemmas.Slice.Eq.{bytes_eq-Decides}
 use Rattle.std.proofs.lemmas.Str.Parse.{numerals_by_value, tells_digits, parse_plain}
 use Rattle.drill_script.specs.Given.{is_drill}
-use Rattle.inspect_replay.specs.Words.{is_count, count_in, drill_in, is_replay, is_serve, is_share}
+use Rattle.inspect_replay.specs.Words.{is_count, count_in, drill_in}
+
+-- a list of one
+pub one-item : {A B : Type 0} (f : A → B) (xs : List A) (x : A) → length xs ≡ 1 → x ≡ get_or xs 0 x → map f xs ≡ f x ∷ []
+one-item f [] x one is = let none : 0 ≡ 1 = one in let gone : ⊥ = omega (arith, none) in absurd gone
+one-item f (y ∷ []) x one is = ap (λ z. f z ∷ []) (sym is)
+one-item f (y ∷ z ∷ more) x one is = let many : suc (suc (length more)) ≡ 1 = one in let gone : ⊥ = omega (arith, many) in absurd gone
+
+-- `serve` and `share` have other second letters
+pub serve-not-share : (word : List ℕ) → bytes_eq word (codes "serve") ≡ true → bytes_eq word (codes "share") ≡ false
+serve-not-share word e = at (bytes_eq word (codes "share")) refl where
+  apart : ◌≡◌ {A = ℕ} 101 104 → ⊥
+  apart e = omega (arith, e)
+
+  at : (b : Bool) → bytes_eq word (codes "share") ≡ b → b ≡ false
+  at true f =
+      let both : codes "serve" ≡ codes "share" =
+      sym ((bytes_eq-Decides word (codes "serve")).0 e) ∙ (bytes_eq-Decides word (codes "share")).0 f in
+      absurd (apart (ap (λ (t : List ℕ). get_or t 1 0) both))
+  at false f = refl
 
 both_parts : (a b : Bool) → (a && b) ≡ true → (a ≡ true) × (b ≡ true)
 both_parts true true e = (refl, refl)
@@ -106,23 +125,3 @@ words-drill [] n e = absurd cc
 words-drill (word ∷ []) n e = absurd cc
 words-drill (word ∷ number ∷ []) n e = word-drills (bytes_eq word (codes "drill")) number n e
 words-drill (word ∷ number ∷ next ∷ more) n e = absurd cc
-
--- one word is not two
-pub replay-or-share : (words : List (List ℕ)) → is_replay words ≡ true → is_share words ≡ true → ⊥
-replay-or-share [] e f = absurd cc
-replay-or-share (word ∷ []) e f =
-    let both : codes "replay" ≡ codes "share" =
-    sym ((bytes_eq-Decides word (codes "replay")).0 e) ∙ (bytes_eq-Decides word (codes "share")).0 f in absurd cc
-replay-or-share (word ∷ next ∷ more) e f = absurd cc
-
--- the second letters of two of the words
-letters-apart : ◌≡◌ {A = ℕ} 101 104 → ⊥
-letters-apart e = omega (arith, e)
-
-pub serve-or-share : (words : List (List ℕ)) → is_serve words ≡ true → is_share words ≡ true → ⊥
-serve-or-share [] e f = absurd cc
-serve-or-share (word ∷ []) e f =
-    let both : codes "serve" ≡ codes "share" =
-    sym ((bytes_eq-Decides word (codes "serve")).0 e) ∙ (bytes_eq-Decides word (codes "share")).0 f in
-    letters-apart (ap (λ (t : List ℕ). get_or t 1 0) both)
-serve-or-share (word ∷ next ∷ more) e f = absurd cc

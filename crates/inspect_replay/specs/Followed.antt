@@ -15,12 +15,12 @@ use Rattle.replay_script.specs.Script.{numbered_or, panels_after, want_fault, fi
 use Rattle.inspect_world.specs.Links.{Begun, Started, run_started, one_line_more, came_styles, Follows, fold_of}
 use Rattle.inspect_world.specs.ShownReplies.{ShownReply, replies_in, reply_id}
 use Rattle.inspect_replay.specs.declared.ends.Ends.{Ends}
-use Rattle.inspect_replay.specs.declared.status.Status.{Status}
-use Rattle.inspect_replay.specs.declared.stop.Stop.{Stop}
-use Rattle.inspect_replay.specs.Says.{Phase, untouched, reading, underway, ended, anywhen, Lie, refused, no_room, says, says_of}
-use Rattle.inspect_replay.specs.Answers.{AtEnd, RunTells}
+use Rattle.replay_parts.specs.declared.status.Status.{Status}
+use Rattle.replay_parts.specs.declared.stop.Stop.{Stop}
+use Rattle.replay_parts.specs.Says.{Phase, untouched, reading, underway, ended, anywhen, Lie, refused, no_room, says, says_of}
+use Rattle.replay_parts.specs.Answers.{AtEnd, RunTells}
 use Rattle.inspect_replay.specs.Prints.{NumberedLine}
-use Rattle.inspect_replay.specs.Moments.{Moment, Scene}
+use Rattle.replay_parts.specs.Moments.{Moment, Scene}
 use Rattle.inspect_replay.specs.Runs.{ends_of}
 
 -- ---- what the clauses of the whole call say
@@ -108,13 +108,13 @@ pub record FollowsRun {P : Type 0} {g : Ghosts P} (state0 : Started) (up0 down0 
   pub none_whole : e.splitter.whole ≡ []
 
 -- a call goes on following, or stops as the fold says
-abbrev pub KeepsFollowing : {P : Type 0} {g : Ghosts P} {T : Type 0} → Moment P g → Moment P g → Result T Stop → Type 0
+abbrev pub KeepsFollowing : {P : Type 0} {g : Ghosts P} {T : Type 0} → Moment (Ends P g) → Moment (Ends P g) → Result T Stop → Type 0
 KeepsFollowing old new result =
     (state0 : Started) (up0 down0 : Pipe) → FollowsRun state0 up0 down0 old.up old.down old.ends
     → OnOk result (FollowsRun state0 up0 down0 new.up new.down new.ends) × StopFolds result (fold_since up0 down0 new.up new.down)
 
 -- a call that carries out a line, and may make a step of the script, goes on following or stops as the fold says
-abbrev pub LineFollows : {P : Type 0} {g : Ghosts P} {T : Type 0} → Moment P g → Moment P g → Result T Stop → Type 0
+abbrev pub LineFollows : {P : Type 0} {g : Ghosts P} {T : Type 0} → Moment (Ends P g) → Moment (Ends P g) → Result T Stop → Type 0
 LineFollows old new result =
     (state0 : Started) (up0 down0 : Pipe) → FollowsRun (one_line_more state0) up0 down0 old.up old.down old.ends
     → OnOk result (FollowsRun state0 up0 down0 new.up new.down new.ends) × StopFolds result (fold_since up0 down0 new.up new.down)
@@ -124,7 +124,7 @@ abbrev pub passing : LineForm → Started → Started
 passing form start = run_started start.state start.lines start.shown (panels_after form start.panels)
 
 -- a call that carries out any line goes on following or stops as the fold says
-abbrev pub LinePasses : {P : Type 0} {g : Ghosts P} {T : Type 0} → Moment P g → Moment P g → LineForm → Result T Stop → Type 0
+abbrev pub LinePasses : {P : Type 0} {g : Ghosts P} {T : Type 0} → Moment (Ends P g) → Moment (Ends P g) → LineForm → Result T Stop → Type 0
 LinePasses old new form result =
     (state0 : Started) (up0 down0 : Pipe) → FollowsRun (one_line_more state0) up0 down0 old.up old.down old.ends
     → OnOk result (FollowsRun (passing form state0) up0 down0 new.up new.down new.ends)
@@ -136,7 +136,8 @@ AllCame passed asks = All (λ ask. came_styles passed.fold ask ≡ true) asks
 
 -- A line is refused exactly where it drops a panel that does not stand open, or shows matched styles that did not come; what was shown
 -- before is there still.
-abbrev pub LineTells : {P : Type 0} {g : Ghosts P} {T : Type 0} → Moment P g → Moment P g → NumberedLine → Result T Stop → Type 0
+abbrev pub LineTells : {P : Type 0} {g : Ghosts P} {T : Type 0} → Moment (Ends P g) → Moment (Ends P g) → NumberedLine → Result T Stop
+    → Type 0
 LineTells old new line result =
     (state0 : Started) (up0 down0 : Pipe) → FollowsRun (one_line_more state0) up0 down0 old.up old.down old.ends
     → RunTells result (numbered_or line.number
@@ -144,7 +145,7 @@ LineTells old new line result =
     × AtEnd (says_of result).phase (AllCame (fold_since up0 down0 new.up new.down) state0.shown)
 
 -- The lines were carried out: while the matched styles of the asks that they show are there, none of them is refused.
-pub record LinesCarried {P : Type 0} {g : Ghosts P} (begun : Begun) (up0 down0 : Pipe) (new : Moment P g)
+pub record LinesCarried {P : Type 0} {g : Ghosts P} (begun : Begun) (up0 down0 : Pipe) (new : Moment (Ends P g))
     (lines : List (List ℕ)) : Type 0 where
   pub shown : List ℕ
   pub panels : List (Option PanelKind)
@@ -152,7 +153,8 @@ pub record LinesCarried {P : Type 0} {g : Ghosts P} (begun : Begun) (up0 down0 :
   pub none : (there : ℕ → Bool) → All (λ ask. there ask ≡ true) shown → first_refused there begun.panels 2 lines ≡ None
 
 -- a call that carries out these lines, the first of which has the number 2, goes on following or stops as the fold says
-abbrev pub LinesFollow : {P : Type 0} {g : Ghosts P} {T : Type 0} → Moment P g → Moment P g → List (List ℕ) → Result T Stop → Type 0
+abbrev pub LinesFollow : {P : Type 0} {g : Ghosts P} {T : Type 0} → Moment (Ends P g) → Moment (Ends P g) → List (List ℕ) → Result T Stop
+    → Type 0
 LinesFollow old new lines result =
     (begun : Begun) (up0 down0 : Pipe)
     → FollowsRun (run_started begun.state (length lines) [] begun.panels) up0 down0 old.up old.down old.ends
@@ -161,30 +163,26 @@ LinesFollow old new lines result =
     × RunTells result (first_refused (came_styles (fold_since up0 down0 new.up new.down).fold) begun.panels 2 lines)
 
 -- a call that leaves whole frames in the splitter goes on following or stops as the fold says
-abbrev pub KeepsFollowingWith : {P : Type 0} {g : Ghosts P} {T : Type 0} → Moment P g → Moment P g → Result T Stop → Type 0
+abbrev pub KeepsFollowingWith : {P : Type 0} {g : Ghosts P} {T : Type 0} → Moment (Ends P g) → Moment (Ends P g) → Result T Stop → Type 0
 KeepsFollowingWith old new result =
     (state0 : Started) (up0 down0 : Pipe) → FollowsRun state0 up0 down0 old.up old.down old.ends
     → OnOk result (FollowsWith state0 up0 down0 new.up new.down new.ends) × StopFolds result (fold_since up0 down0 new.up new.down)
 
 -- a call that answers all whole frames goes on following or stops as the fold says
-abbrev pub FollowsAnswers : {P : Type 0} {g : Ghosts P} {T : Type 0} → Moment P g → Moment P g → Result T Stop → Type 0
+abbrev pub FollowsAnswers : {P : Type 0} {g : Ghosts P} {T : Type 0} → Moment (Ends P g) → Moment (Ends P g) → Result T Stop → Type 0
 FollowsAnswers old new result =
     (state0 : Started) (up0 down0 : Pipe) → FollowsWith state0 up0 down0 old.up old.down old.ends
     → OnOk result (FollowsRun state0 up0 down0 new.up new.down new.ends) × StopFolds result (fold_since up0 down0 new.up new.down)
 
 -- a call that answers this frame, before those that the splitter holds, goes on following or stops as the fold says
-abbrev pub FollowsAnswer : {P : Type 0} {g : Ghosts P} {T : Type 0} → Moment P g → Moment P g → List ℕ → Result T Stop → Type 0
+abbrev pub FollowsAnswer : {P : Type 0} {g : Ghosts P} {T : Type 0} → Moment (Ends P g) → Moment (Ends P g) → List ℕ → Result T Stop
+    → Type 0
 FollowsAnswer old new frame result =
     (state0 : Started) (up0 down0 : Pipe) → Follows state0 up0 down0 old.up old.down (frame ∷ old.ends.splitter.whole) (ends_of old.ends)
     → OnOk result (FollowsWith state0 up0 down0 new.up new.down new.ends) × StopFolds result (fold_since up0 down0 new.up new.down)
 
--- something was printed, or nothing
-pub record PrintedSome (before after : Option (List ℕ)) : Type 0 where
-  pub written : List ℕ
-  pub printed : Appends before after written
-
 -- the closing part is printed
-abbrev pub ClosesShown : {P : Type 0} {g : Ghosts P} {T : Type 0} → Scene P g → Scene P g → Result T Stop → Type 0
+abbrev pub ClosesShown : {P : Type 0} {g : Ghosts P} {T : Type 0} → Scene (Ends P g) → Scene (Ends P g) → Result T Stop → Type 0
 ClosesShown old new result =
     (state0 : Started) (up0 down0 : Pipe) → FollowsRun state0 up0 down0 old.now.up old.now.down old.now.ends
     → OnOk result (EndsShown old.taken new.taken (fold_since up0 down0 new.now.up new.now.down)

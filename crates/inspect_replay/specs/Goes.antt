@@ -1,121 +1,92 @@
 -- What a call on the link and the ends keeps, whatever it answers, and where it leads: four facts of the moments before and after it.
-use Rattle.std.specs.Prelude.{ℕ, List, Result, OnOk}
+use Rattle.std.specs.Prelude.{ℕ, List}
 use Rattle.front_mirror.specs.declared.panels.Panel.{Ghosts}
 use Rattle.back_end.specs.Steps.{Turn}
 use Rattle.inspect_world.specs.Costs.{least_line}
 use Rattle.inspect_world.specs.RunStates.{RunState, run_turn}
 use Rattle.inspect_world.specs.World.{World, turned}
 use Rattle.replay_script.specs.Forms.{LineForm}
-use Rattle.inspect_replay.specs.declared.stop.Stop.{Stop}
-use Rattle.inspect_replay.specs.Says.{Counts}
-use Rattle.inspect_replay.specs.Stops.{HasStopCause, StopRose, RunRose}
-use Rattle.inspect_replay.specs.Moments.{Moment, Scene, passage, counts_between}
+use Rattle.replay_parts.specs.Stops.{StopRose, RunRose}
+pub use Rattle.replay_parts.specs.Manners.{Manner, Goes, Part, Plays}
+use Rattle.inspect_replay.specs.declared.ends.Ends.{Ends}
+use Rattle.replay_parts.specs.Moments.{passage}
 use Rattle.inspect_replay.specs.Runs.{Steps, Spends, TakesUp, AnswersAll, AnswersOne, SendsFetch, FetchesText, FetchesOne, FetchesAll}
 use Rattle.inspect_replay.specs.Runs.{Refreshes}
 use Rattle.inspect_replay.specs.Followed.{KeepsFollowing, KeepsFollowingWith, LineFollows, LinePasses, LinesFollow, FollowsAnswers}
 use Rattle.inspect_replay.specs.Followed.{FollowsAnswer}
-use Rattle.inspect_replay.specs.Followed.{PrintedSome}
 use Rattle.inspect_replay.specs.Prints.{NumberedLine, numbered_line, CarriesOut, CarriesLine, RunsLines}
 
 -- ---- calls that print nothing
 
--- how a call goes: what it keeps over every link, and over an honest one where it takes the run
-pub record Manner (P : Type 0) (g : Ghosts P) (T : Type 0) : Type 1 where
-  pub follows : Moment P g → Moment P g → Result T Stop → Type 0
-  pub steps : Moment P g → Moment P g → Result T Stop → Type 0
-
--- An honest link stays honest; a fault of the link is answered only where its count rose; the ends go on following the link; and
--- over an honest link the run goes where the script takes it.
-pub record Goes {P : Type 0} {g : Ghosts P} {T : Type 0} (manner : Manner P g T) (old new : Moment P g)
-    (result : Result T Stop) : Type 0 where
-  pub honest : old.honest → new.honest
-  pub cause : HasStopCause 0 0 old.faults new.faults result
-  pub follows : manner.follows old new result
-  pub steps : manner.steps old new result
-
 -- the run goes where this function takes it
-abbrev pub stepping : {P : Type 0} {g : Ghosts P} {T : Type 0} → (World RunState → World RunState) → Manner P g T
+abbrev pub stepping : {P : Type 0} {g : Ghosts P} {T : Type 0} → (World RunState → World RunState) → Manner (Ends P g) T
 stepping f = record { follows = λ old new result. KeepsFollowing old new result; steps = λ old new result. Steps old new result f }
 
 -- the same, while there is room for a line of so many bytes
-abbrev pub spending : {P : Type 0} {g : Ghosts P} {T : Type 0} → ℕ → (World RunState → World RunState) → Manner P g T
+abbrev pub spending : {P : Type 0} {g : Ghosts P} {T : Type 0} → ℕ → (World RunState → World RunState) → Manner (Ends P g) T
 spending bytes f = record {
   follows = λ old new result. KeepsFollowing old new result;
   steps = λ old new result. Spends bytes (passage old new) result f;
 }
 
 -- the script makes a step
-abbrev pub turning : {P : Type 0} {g : Ghosts P} {T : Type 0} → Turn → Manner P g T
+abbrev pub turning : {P : Type 0} {g : Ghosts P} {T : Type 0} → Turn → Manner (Ends P g) T
 turning x = record {
   follows = λ old new result. LineFollows old new result;
   steps = λ old new result. Spends least_line (passage old new) result (λ w. turned run_turn x w);
 }
 
 -- up to so many bytes are taken that come up
-abbrev pub taking_up : {P : Type 0} {g : Ghosts P} {T : Type 0} → ℕ → Manner P g T
+abbrev pub taking_up : {P : Type 0} {g : Ghosts P} {T : Type 0} → ℕ → Manner (Ends P g) T
 taking_up n = record { follows = λ old new result. KeepsFollowingWith old new result; steps = λ old new result. TakesUp old new n result }
 
 -- the frames that are whole are answered
-abbrev pub answering_all : {P : Type 0} {g : Ghosts P} {T : Type 0} → Manner P g T
+abbrev pub answering_all : {P : Type 0} {g : Ghosts P} {T : Type 0} → Manner (Ends P g) T
 answering_all = record { follows = λ old new result. FollowsAnswers old new result; steps = λ old new result. AnswersAll old new result }
 
 -- this frame is answered
-abbrev pub answering : {P : Type 0} {g : Ghosts P} {T : Type 0} → List ℕ → Manner P g T
+abbrev pub answering : {P : Type 0} {g : Ghosts P} {T : Type 0} → List ℕ → Manner (Ends P g) T
 answering frame = record {
   follows = λ old new result. FollowsAnswer old new frame result;
   steps = λ old new result. AnswersOne old new frame result;
 }
 
 -- the fetch of a sheet's text is sent
-abbrev pub sending_fetch : {P : Type 0} {g : Ghosts P} {T : Type 0} → ℕ → Manner P g T
+abbrev pub sending_fetch : {P : Type 0} {g : Ghosts P} {T : Type 0} → ℕ → Manner (Ends P g) T
 sending_fetch number = record {
   follows = λ old new result. KeepsFollowing old new result;
   steps = λ old new result. SendsFetch old new number result;
 }
 
 -- the text of a sheet is fetched
-abbrev pub fetching_text : {P : Type 0} {g : Ghosts P} {T : Type 0} → ℕ → Manner P g T
+abbrev pub fetching_text : {P : Type 0} {g : Ghosts P} {T : Type 0} → ℕ → Manner (Ends P g) T
 fetching_text number = record {
   follows = λ old new result. KeepsFollowing old new result;
   steps = λ old new result. FetchesText old new number result;
 }
 
 -- the same, unless the sheet is passed over
-abbrev pub fetching_one : {P : Type 0} {g : Ghosts P} {T : Type 0} → ℕ → Manner P g T
+abbrev pub fetching_one : {P : Type 0} {g : Ghosts P} {T : Type 0} → ℕ → Manner (Ends P g) T
 fetching_one number = record {
   follows = λ old new result. KeepsFollowing old new result;
   steps = λ old new result. FetchesOne old new number result;
 }
 
 -- the texts of these sheets are fetched
-abbrev pub fetching_all : {P : Type 0} {g : Ghosts P} {T : Type 0} → List ℕ → Manner P g T
+abbrev pub fetching_all : {P : Type 0} {g : Ghosts P} {T : Type 0} → List ℕ → Manner (Ends P g) T
 fetching_all numbers = record {
   follows = λ old new result. KeepsFollowing old new result;
   steps = λ old new result. FetchesAll old new numbers result;
 }
 
 -- all is delivered, and then the texts that are old are fetched
-abbrev pub settling : {P : Type 0} {g : Ghosts P} {T : Type 0} → Manner P g T
+abbrev pub settling : {P : Type 0} {g : Ghosts P} {T : Type 0} → Manner (Ends P g) T
 settling = record { follows = λ old new result. KeepsFollowing old new result; steps = λ old new result. Refreshes old new result }
 
 -- ---- calls that print
 
--- how such a call goes: what a fault says, what it keeps over every link, and over an honest one where it takes both runs
-pub record Part (P : Type 0) (g : Ghosts P) (T : Type 0) : Type 1 where
-  pub cause : Counts → Result T Stop → Type 0
-  pub follows : Moment P g → Moment P g → Result T Stop → Type 0
-  pub runs : Scene P g → Scene P g → Result T Stop → Type 0
-
--- The same four facts of a call that prints; and what it printed.
-pub record Plays {P : Type 0} {g : Ghosts P} {T : Type 0} (part : Part P g T) (old new : Scene P g) (result : Result T Stop) : Type 0 where
-  pub honest : old.now.honest → new.now.honest
-  pub cause : part.cause (counts_between old new) result
-  pub follows : part.follows old.now new.now result
-  pub some : OnOk result (PrintedSome old.taken new.taken)
-  pub runs : part.runs old new result
-
 -- a show, of any number
-abbrev pub showing : {P : Type 0} {g : Ghosts P} {T : Type 0} → LineForm → Part P g T
+abbrev pub showing : {P : Type 0} {g : Ghosts P} {T : Type 0} → LineForm → Part (Ends P g) T
 showing form = record {
   cause = λ c result. StopRose c result;
   follows = λ old new result. KeepsFollowing old new result;
@@ -123,7 +94,7 @@ showing form = record {
 }
 
 -- a line that is not refused
-abbrev pub carrying : {P : Type 0} {g : Ghosts P} {T : Type 0} → NumberedLine → Part P g T
+abbrev pub carrying : {P : Type 0} {g : Ghosts P} {T : Type 0} → NumberedLine → Part (Ends P g) T
 carrying line = record {
   cause = λ c result. StopRose c result;
   follows = λ old new result. LineFollows old new result;
@@ -131,7 +102,7 @@ carrying line = record {
 }
 
 -- a show of matched styles, which is refused where none came
-abbrev pub showing_styles : {P : Type 0} {g : Ghosts P} {T : Type 0} → NumberedLine → Part P g T
+abbrev pub showing_styles : {P : Type 0} {g : Ghosts P} {T : Type 0} → NumberedLine → Part (Ends P g) T
 showing_styles line = record {
   cause = λ c result. RunRose c result;
   follows = λ old new result. KeepsFollowing old new result;
@@ -139,7 +110,7 @@ showing_styles line = record {
 }
 
 -- any line
-abbrev pub carrying_line : {P : Type 0} {g : Ghosts P} {T : Type 0} → NumberedLine → Part P g T
+abbrev pub carrying_line : {P : Type 0} {g : Ghosts P} {T : Type 0} → NumberedLine → Part (Ends P g) T
 carrying_line line = record {
   cause = λ c result. RunRose c result;
   follows = λ old new result. LinePasses old new line.form result;
@@ -147,7 +118,7 @@ carrying_line line = record {
 }
 
 -- the lines after the load
-abbrev pub running : {P : Type 0} {g : Ghosts P} {T : Type 0} → List (List ℕ) → Part P g T
+abbrev pub running : {P : Type 0} {g : Ghosts P} {T : Type 0} → List (List ℕ) → Part (Ends P g) T
 running lines = record {
   cause = λ c result. RunRose c result;
   follows = λ old new result. LinesFollow old new lines result;

@@ -1,10 +1,4 @@
 pub mod Words
-pub mod Statuses
-pub mod Says
-pub mod Answers
-pub mod Stops
-pub mod Moved
-pub mod Moments
 pub mod Starts
 pub mod Runs
 pub mod Followed

@@ -1,25 +1,23 @@
 -- What the parts of a run over an honest link take it to, and print.
-use Rattle.std.specs.Prelude.{◌≡◌, ◌+◌, ℕ, Bool, true, false, List, Option, Some, None, Result, Ok, Err, OnOk, ⊤}
+use Rattle.std.specs.Prelude.{◌+◌, ℕ, List, Option, Some, None, Result, OnOk}
 use Rattle.front_mirror.specs.declared.panels.Panel.{Ghosts}
 use Rattle.pipe_frames.specs.Pipe.{Pipe}
 use Rattle.page_forms.specs.Pages.{LoadedPage}
 use Rattle.replay_script.specs.Forms.{LineForm, load, ask, show_front, show_page, show_sheets, show_replies, show_pauses}
 use Rattle.replay_script.specs.Forms.{show_panels, show_styles, close}
 use Rattle.replay_script.specs.Forms as forms
-use Rattle.replay_script.specs.declared.faults.LineFault.{LineFault}
-use Rattle.replay_script.specs.declared.faults.LineFault.TheVariants.{NoPanel}
 use Rattle.replay_script.specs.Script.{numbered_or, first_bad, good_lines}
 use Rattle.inspect_world.specs.World.{World}
 use Rattle.inspect_world.specs.RunStates.{RunState}
 use Rattle.inspect_world.specs.Costs.{line_cost, line_bytes}
 use Rattle.inspect_world.specs.Scripts.{after_line, after_lines, line_text, lines_text, closing_text, lacking, shown_lines, rest_refused}
-use Rattle.inspect_replay.specs.declared.stop.Stop.{Stop}
-use Rattle.inspect_replay.specs.declared.stop.Stop.TheVariants.{Line}
-use Rattle.inspect_replay.specs.Says.{Phase, untouched, reading, underway, ended, anywhen, says, status_of}
-use Rattle.inspect_replay.specs.Moments.{Scene}
+use Rattle.inspect_replay.specs.declared.ends.Ends.{Ends}
+use Rattle.replay_parts.specs.declared.stop.Stop.{Stop}
+use Rattle.replay_parts.specs.Moments.{Scene}
 use Rattle.inspect_replay.specs.Runs.{InPlay}
-use Rattle.inspect_replay.specs.Stops.{GoesWell}
-use Rattle.inspect_replay.specs.Answers.{RunTells, RunTook, Prints}
+use Rattle.replay_parts.specs.Stops.{GoesWell}
+use Rattle.replay_parts.specs.Answers.{RunTells, RunTook, Prints}
+pub use Rattle.replay_parts.specs.Reads.{IsRead, drops}
 
 -- a line with its number
 pub record NumberedLine : Type 0 where
@@ -31,7 +29,8 @@ abbrev pub numbered_line : ℕ → LineForm → NumberedLine
 numbered_line number form = record { number = number; form = form }
 
 -- a line is carried out, and prints what it prints
-abbrev pub CarriesOut : {P : Type 0} {g : Ghosts P} {T : Type 0} → Scene P g → Scene P g → NumberedLine → Result T Stop → Type 0
+abbrev pub CarriesOut : {P : Type 0} {g : Ghosts P} {T : Type 0} → Scene (Ends P g) → Scene (Ends P g) → NumberedLine → Result T Stop
+    → Type 0
 CarriesOut old new line result =
     (up0 down0 : Pipe) (more : ℕ) (w : World RunState)
     → InPlay old.now.honest up0 down0 old.now.up old.now.down (more + line_cost line.form) w old.now.ends
@@ -41,7 +40,8 @@ CarriesOut old new line result =
 
 -- any line is carried out, and prints what it prints; one that drops a panel where none stands open, or shows what did not come, is
 -- refused, and nothing is printed of it
-abbrev pub CarriesLine : {P : Type 0} {g : Ghosts P} {T : Type 0} → Scene P g → Scene P g → NumberedLine → Result T Stop → Type 0
+abbrev pub CarriesLine : {P : Type 0} {g : Ghosts P} {T : Type 0} → Scene (Ends P g) → Scene (Ends P g) → NumberedLine → Result T Stop
+    → Type 0
 CarriesLine old new line result =
     (up0 down0 : Pipe) (more : ℕ) (w : World RunState)
     → InPlay old.now.honest up0 down0 old.now.up old.now.down (more + line_cost line.form) w old.now.ends
@@ -50,7 +50,8 @@ CarriesLine old new line result =
     × RunTells result (numbered_or line.number (lacking line.form w) None)
 
 -- the lines after the load are carried out, up to the first that is refused
-abbrev pub RunsLines : {P : Type 0} {g : Ghosts P} {T : Type 0} → Scene P g → Scene P g → List (List ℕ) → Result T Stop → Type 0
+abbrev pub RunsLines : {P : Type 0} {g : Ghosts P} {T : Type 0} → Scene (Ends P g) → Scene (Ends P g) → List (List ℕ) → Result T Stop
+    → Type 0
 RunsLines old new lines result =
     (up0 down0 : Pipe) (w : World RunState) → InPlay old.now.honest up0 down0 old.now.up old.now.down (line_bytes lines) w old.now.ends
     → OnOk result (InPlay new.now.honest up0 down0 new.now.up new.now.down 0
@@ -59,33 +60,10 @@ RunsLines old new lines result =
     × RunTells result (rest_refused (first_bad 2 lines) (good_lines 2 lines) w)
 
 -- the closing part is printed
-abbrev pub Closes : {P : Type 0} {g : Ghosts P} {T : Type 0} → Scene P g → Option (List ℕ) → Result T Stop → Type 0
+abbrev pub Closes : {P : Type 0} {g : Ghosts P} {T : Type 0} → Scene (Ends P g) → Option (List ℕ) → Result T Stop → Type 0
 Closes old taken result =
     (up0 down0 : Pipe) (w : World RunState) → InPlay old.now.honest up0 down0 old.now.up old.now.down 0 w old.now.ends
     → GoesWell result × Prints result old.taken taken (closing_text w)
-
--- the line is the one of that number, with that fault
-abbrev pub IsLine : Option (ℕ × LineFault) → ℕ → Option LineFault → Type 0
-IsLine None number fault = ⊥
-IsLine (Some line) number fault = (line.0 ≡ number) × (fault ≡ Some line.1)
-
--- an answer of the reading of one line
-abbrev pub ReadsAt : Phase → Option (ℕ × LineFault) → ℕ → Option LineFault → Type 0
-ReadsAt untouched line number fault = ⊥
-ReadsAt reading line number fault = ⊥
-ReadsAt underway line number fault = ⊥
-ReadsAt ended line number fault = IsLine line number fault
-ReadsAt anywhen line number fault = ⊤
-
--- a line is read, or refused with its number and fault
-abbrev pub IsRead : {T : Type 0} → Result T Stop → ℕ → Option LineFault → Type 0
-IsRead (Ok line) number fault = ⊤
-IsRead (Err stop) number fault = ReadsAt (says (status_of stop)).phase (says (status_of stop)).line number fault
-
--- what comes of a line that drops a panel, by whether one stands open there
-abbrev pub drops : ℕ → Bool → Result (Unit {0}) Stop
-drops number true = Ok tt
-drops number false = Err (Line number NoPanel)
 
 -- the page of a line that loads one
 abbrev pub load_of : LineForm → Option LoadedPage

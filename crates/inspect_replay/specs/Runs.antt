@@ -12,9 +12,9 @@ use Rattle.session_runs.specs.Fetches.{front_in, fetched, fetched_if, all_fetche
 use Rattle.inspect_world.specs.FreshRuns.{front_fetcher, refreshes, Together}
 use Rattle.inspect_world.specs.Held.{Ends as HeldEnds, InWorld}
 use Rattle.inspect_replay.specs.declared.ends.Ends.{Ends}
-use Rattle.inspect_replay.specs.declared.stop.Stop.{Stop}
-use Rattle.inspect_replay.specs.Moments.{Moment, Passage}
-use Rattle.inspect_replay.specs.Stops.{GoesWell}
+use Rattle.replay_parts.specs.declared.stop.Stop.{Stop}
+use Rattle.replay_parts.specs.Moments.{Moment, Passage}
+use Rattle.replay_parts.specs.Stops.{GoesWell}
 
 -- what the ends of the program hold
 abbrev pub ends_of : {P : Type 0} {g : Ghosts P} → Ends P g → HeldEnds
@@ -42,7 +42,8 @@ pub record InRun {P : Type 0} {g : Ghosts P} (honest : Type 0) (up0 down0 up dow
   pub none_whole : e.splitter.whole ≡ []
 
 -- a call takes each run over an honest link to where the script takes it, and never stops at the front end
-abbrev pub Steps : {P : Type 0} {g : Ghosts P} {T : Type 0} → Moment P g → Moment P g → Result T Stop → (World RunState → World RunState)
+abbrev pub Steps : {P : Type 0} {g : Ghosts P} {T : Type 0} → Moment (Ends P g) → Moment (Ends P g) → Result T Stop
+    → (World RunState → World RunState)
     → Type 0
 Steps old new result f =
     (up0 down0 : Pipe) (w : World RunState) → InRun old.honest up0 down0 old.up old.down w old.ends
@@ -50,27 +51,28 @@ Steps old new result f =
 
 -- a call that sends a frame or makes a step of the script takes each run to where the script takes it, while there is room for a line of
 -- so many bytes
-abbrev pub Spends : {P : Type 0} {g : Ghosts P} {T : Type 0} → ℕ → Passage P g → Result T Stop → (World RunState → World RunState) → Type 0
+abbrev pub Spends : {P : Type 0} {g : Ghosts P} {T : Type 0} → ℕ → Passage (Ends P g) → Result T Stop → (World RunState → World RunState)
+    → Type 0
 Spends bytes m result f =
     (up0 down0 : Pipe) (w : World RunState) → HasLeft w.spent bytes
     → InRun m.before.honest up0 down0 m.before.up m.before.down w m.before.ends
     → GoesWell result × OnOk result (InRun m.after.honest up0 down0 m.after.up m.after.down (f w) m.after.ends)
 
 -- a call that answers the frames that came up whole takes each run to where the script takes it
-abbrev pub AnswersAll : {P : Type 0} {g : Ghosts P} {T : Type 0} → Moment P g → Moment P g → Result T Stop → Type 0
+abbrev pub AnswersAll : {P : Type 0} {g : Ghosts P} {T : Type 0} → Moment (Ends P g) → Moment (Ends P g) → Result T Stop → Type 0
 AnswersAll old new result =
     (up0 down0 : Pipe) (w : World RunState) → InRunWith old.honest up0 down0 old.up old.down w old.ends
     → GoesWell result × OnOk result (InRun new.honest up0 down0 new.up new.down (answered run_step old.ends.splitter.whole w) new.ends)
 
 -- a call that answers one frame, before those that the splitter holds, takes each run to where the script takes it
-abbrev pub AnswersOne : {P : Type 0} {g : Ghosts P} {T : Type 0} → Moment P g → Moment P g → List ℕ → Result T Stop → Type 0
+abbrev pub AnswersOne : {P : Type 0} {g : Ghosts P} {T : Type 0} → Moment (Ends P g) → Moment (Ends P g) → List ℕ → Result T Stop → Type 0
 AnswersOne old new frame result =
     (up0 down0 : Pipe) (w : World RunState) → old.honest
     → InWorld up0 down0 old.up old.down w (frame ∷ (old.ends.splitter.whole ++ awaited w.up)) (ends_of old.ends)
     → GoesWell result × OnOk result (InRunWith new.honest up0 down0 new.up new.down (answered run_step (frame ∷ []) w) new.ends)
 
 -- a call that takes bytes that come up, and cuts them into frames, takes each run to where the script takes it
-abbrev pub TakesUp : {P : Type 0} {g : Ghosts P} {T : Type 0} → Moment P g → Moment P g → ℕ → Result T Stop → Type 0
+abbrev pub TakesUp : {P : Type 0} {g : Ghosts P} {T : Type 0} → Moment (Ends P g) → Moment (Ends P g) → ℕ → Result T Stop → Type 0
 TakesUp old new n result =
     (up0 down0 : Pipe) (w : World RunState) → InRun old.honest up0 down0 old.up old.down w old.ends
     → GoesWell result
@@ -79,33 +81,33 @@ TakesUp old new n result =
 -- ---- the fetches of a settle
 
 -- a call that makes fetches takes each run to where the script takes it, while there is room for so many
-abbrev pub SpendsFetches : {P : Type 0} {g : Ghosts P} {T : Type 0} → Moment P g → Moment P g → ℕ → Result T Stop →
+abbrev pub SpendsFetches : {P : Type 0} {g : Ghosts P} {T : Type 0} → Moment (Ends P g) → Moment (Ends P g) → ℕ → Result T Stop →
     (World RunState → World RunState) → Type 0
 SpendsFetches old new count result f =
     (up0 down0 : Pipe) (w : World RunState) → w.spent.fetches + count ≤ most_fetches → InRun old.honest up0 down0 old.up old.down w old.ends
     → GoesWell result × OnOk result (InRun new.honest up0 down0 new.up new.down (f w) new.ends)
 
 -- of one that sends the fetch of a sheet's text
-abbrev pub SendsFetch : {P : Type 0} {g : Ghosts P} {T : Type 0} → Moment P g → Moment P g → ℕ → Result T Stop → Type 0
+abbrev pub SendsFetch : {P : Type 0} {g : Ghosts P} {T : Type 0} → Moment (Ends P g) → Moment (Ends P g) → ℕ → Result T Stop → Type 0
 SendsFetch old new number result =
     SpendsFetches old new 1 result (λ w. sent_up (front_fetcher.text w.spent.fetches number) one_fetch w)
 
 -- of one that fetches it
-abbrev pub FetchesText : {P : Type 0} {g : Ghosts P} {T : Type 0} → Moment P g → Moment P g → ℕ → Result T Stop → Type 0
+abbrev pub FetchesText : {P : Type 0} {g : Ghosts P} {T : Type 0} → Moment (Ends P g) → Moment (Ends P g) → ℕ → Result T Stop → Type 0
 FetchesText old new number result = SpendsFetches old new 1 result (fetched replay front_fetcher number)
 
 -- of one that fetches it, unless the sheet is passed over
-abbrev pub FetchesOne : {P : Type 0} {g : Ghosts P} {T : Type 0} → Moment P g → Moment P g → ℕ → Result T Stop → Type 0
+abbrev pub FetchesOne : {P : Type 0} {g : Ghosts P} {T : Type 0} → Moment (Ends P g) → Moment (Ends P g) → ℕ → Result T Stop → Type 0
 FetchesOne old new number result =
     SpendsFetches old new 1 result (λ w. fetched_if replay front_fetcher (front_in replay (first_value []) w) number w)
 
 -- of one that fetches the texts of these sheets
-abbrev pub FetchesAll : {P : Type 0} {g : Ghosts P} {T : Type 0} → Moment P g → Moment P g → List ℕ → Result T Stop → Type 0
+abbrev pub FetchesAll : {P : Type 0} {g : Ghosts P} {T : Type 0} → Moment (Ends P g) → Moment (Ends P g) → List ℕ → Result T Stop → Type 0
 FetchesAll old new numbers result =
     SpendsFetches old new (length numbers) result (all_fetched replay front_fetcher (first_value []) numbers)
 
 -- a settle with its fetches takes each run to where the script takes it, while there is room for those of one settle
-abbrev pub Refreshes : {P : Type 0} {g : Ghosts P} {T : Type 0} → Moment P g → Moment P g → Result T Stop → Type 0
+abbrev pub Refreshes : {P : Type 0} {g : Ghosts P} {T : Type 0} → Moment (Ends P g) → Moment (Ends P g) → Result T Stop → Type 0
 Refreshes old new result =
     (up0 down0 : Pipe) (w : World RunState) → HasLeft w.spent 0 → InRun old.honest up0 down0 old.up old.down w old.ends
     → GoesWell result × OnOk result (InRun new.honest up0 down0 new.up new.down (refreshes front_fetcher w) new.ends)

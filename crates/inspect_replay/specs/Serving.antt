@@ -7,15 +7,15 @@ use Rattle.pipe_frames.specs.Frames.{frames_of}
 use Rattle.pipe_frames.specs.Whole.{WrotePart}
 use Rattle.session_runs.specs.World.{Stepped, steps}
 use Rattle.inspect_replay.specs.declared.service.Service.{Service}
-use Rattle.inspect_replay.specs.Says.{Counts, OthersStill, says_of}
-use Rattle.inspect_replay.specs.Stops.{two_counts}
-use Rattle.inspect_replay.specs.Served.{Served, first_alone, first_paired, served_step, served_run, served, HasRoomFor, RoomForEach}
+use Rattle.replay_parts.specs.Says.{Counts, OthersStill, says_of}
+use Rattle.replay_parts.specs.Stops.{two_counts}
+use Rattle.inspect_replay.specs.Served.{Served, first_alone, first_paired, served_step, served_run, HasRoomFor, RoomForEach}
 use Rattle.inspect_replay.specs.Served.{ClientsStandFor}
-use Rattle.inspect_replay.specs.declared.status.Status.{Status}
-use Rattle.inspect_replay.specs.declared.status.Status.TheVariants as status
-use Rattle.inspect_replay.specs.declared.stop.Stop.{Stop}
-use Rattle.inspect_replay.specs.declared.stop.Stop.TheVariants.{Line, TooLong, ReadFault, WriteFault, LinkFault, FrontRefused, NoRoom}
-use Rattle.inspect_replay.specs.declared.stop.Stop.TheVariants.{Memory}
+use Rattle.replay_parts.specs.declared.status.Status.{Status}
+use Rattle.replay_parts.specs.declared.status.Status.TheVariants as status
+use Rattle.replay_parts.specs.declared.stop.Stop.{Stop}
+use Rattle.replay_parts.specs.declared.stop.Stop.TheVariants.{Line, TooLong, ReadFault, WriteFault, LinkFault, FrontRefused, NoRoom}
+use Rattle.replay_parts.specs.declared.stop.Stop.TheVariants.{Memory}
 
 -- ---- frames that are answered
 

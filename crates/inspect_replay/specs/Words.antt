@@ -21,6 +21,12 @@ is_share [] = false
 is_share (word ∷ []) = bytes_eq word (codes "share")
 is_share (word ∷ next ∷ more) = false
 
+-- the one word `pair`
+abbrev pub is_pair : List (List ℕ) → Bool
+is_pair [] = false
+is_pair (word ∷ []) = bytes_eq word (codes "pair")
+is_pair (word ∷ next ∷ more) = false
+
 -- a drill may have so many divs, and the text is that number in decimal digits, without a leading zero
 abbrev pub is_count : List ℕ → ℕ → Bool
 is_count text n = is_drill n && bytes_eq (decimal n) text

@@ -7,22 +7,21 @@ ghost use Rattle.page_forms.specs.Pages.{CanLoadPage, loaded_page};
 ghost use Rattle.drill_script.specs.Given.{is_drill};
 ghost use Rattle.drill_script.specs.LineKinds.{AreDrillLines, most_lines};
 ghost use Rattle.inspect_world.specs.Scripts.{loaded_world};
-ghost use Rattle.inspect_replay.specs.Stops.{GoesWell, StopRose, two_counts};
-ghost use Rattle.inspect_replay.specs.Answers.{Prints};
-ghost use Rattle.inspect_replay.specs.Moments.{seen_by};
+ghost use Rattle.replay_parts.specs.Stops.{GoesWell, StopRose, two_counts};
+ghost use Rattle.replay_parts.specs.Answers.{Prints};
+ghost use Rattle.replay_parts.specs.Moments.{seen_by};
 ghost use Rattle.inspect_replay.specs.Followed.{AnswersInOrder, StopFolds, fold_since};
 ghost use Rattle.inspect_replay.specs.Tallies.{TalliesShown, drill_text, tallied, tally_of, tally_text};
 ghost use Rattle.inspect_replay.specs.Drilled.{Tells, TellsShown, IsOfWriting, WritesAtEnd};
 
 use crate::counts::front_text;
 use crate::ends::Ends;
-use crate::moments::{Printed, Watched};
-use crate::stop::Stop;
 use crate::turns::run_turns;
 use back_end::PageForm;
 use drill_script::Drill;
 use front_mirror::{Front, Panel};
 use pipe_frames::{Link, OutErr, Sink, write_all};
+use replay_parts::{Printed, Stop, Watched};
 use std::alloc::Global;
 
 /// Writes the six numbers, all at once.

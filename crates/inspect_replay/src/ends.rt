@@ -21,14 +21,12 @@ ghost use Rattle.replay_script.specs.Sound.{CanSend};
 ghost use Rattle.back_end.specs.Seats.{IsSeated};
 ghost use Rattle.page_forms.specs.Texts.{PageHasTexts};
 
-use crate::moments::Watched;
-use crate::pipes::{receive_down, receive_up, send_down, send_up};
-use crate::stop::Stop;
 use back_end::{Act, ActFault, PageForm, PageSide, Seat};
 use cdp_messages::Matched;
 use front_mirror::{Front, FrontErr, Kept, Mirror, Panel, SeenPause};
 use page_tree::Page;
 use pipe_frames::{Link, Splitter};
+use replay_parts::{Stop, Watched, receive_down, receive_up, send_down, send_up};
 use replay_script::Ask;
 use std::alloc::{AllocError, Global};
 

@@ -7,29 +7,35 @@ ghost use Rattle.inspect_world.specs.Links.{came_styles};
 ghost use Rattle.inspect_world.specs.Scripts.{report, report_refused};
 ghost use Rattle.inspect_world.specs.ScriptsFit.{UndoRestoresInRuns};
 ghost use Rattle.drill_script.specs.Given.{is_drill};
-ghost use Rattle.inspect_replay.specs.Words.{is_replay, is_serve, is_share, drill_in};
+ghost use Rattle.inspect_replay.specs.Words.{is_replay, is_serve, is_pair, is_share, drill_in};
 ghost use Rattle.inspect_replay.specs.Tallies.{TalliesShown, drill_text};
 ghost use Rattle.inspect_replay.specs.Drilled.{DrillWrites, IsDrillStatus};
-ghost use Rattle.inspect_replay.specs.declared.status.Status.TheVariants.{Done, Usage};
+ghost use Rattle.replay_parts.specs.declared.status.Status.TheVariants.{Done, Usage};
 ghost use Rattle.inspect_replay.specs.Followed.{StatusFolds, EndsShown, AnswersInOrder, StatusLess, fold_since};
-ghost use Rattle.inspect_replay.specs.Answers.{FitsLimits, TellsLine, Took, IsHonest, WritesNothing, StatusRose, AnswersFaults};
-ghost use Rattle.inspect_replay.specs.Answers.{InputTells, IsInputStop};
-ghost use Rattle.inspect_replay.specs.Answers.{ReadsAll, IsLate};
-ghost use Rattle.inspect_replay.specs.Says.{status_of};
-ghost use Rattle.inspect_replay.specs.Stops.{two_counts, three_counts};
-ghost use Rattle.inspect_replay.specs.declared.stop.Stop.TheVariants.{ReadFault};
+ghost use Rattle.replay_parts.specs.Answers.{FitsLimits, TellsLine, Took, IsHonest, WritesNothing, StatusRose, AnswersFaults};
+ghost use Rattle.replay_parts.specs.Answers.{InputTells, IsInputStop};
+ghost use Rattle.replay_parts.specs.Answers.{ReadsAll, IsLate};
+ghost use Rattle.replay_parts.specs.Says.{status_of, says};
+ghost use Rattle.replay_parts.specs.Answers.{AtEnd};
+ghost use Rattle.pair_world.specs.PairScripts.{pair_report, pair_refused};
+ghost use Rattle.pair_world.specs.PairFresh.{ScriptHasRoom};
+ghost use Rattle.pair_replay.specs.PairAnswers.{PairTook, IsPairHonest, TellsRoom, PairFolds, PairEndsShown, PairAnswersInOrder, PairLess};
+ghost use Rattle.pair_replay.specs.PairAnswers.{pair_since, moment_of};
+ghost use Rattle.pair_replay.specs.Judged.{IsJudged};
+ghost use Rattle.replay_parts.specs.Stops.{two_counts, three_counts};
+ghost use Rattle.replay_parts.specs.declared.stop.Stop.TheVariants.{ReadFault};
 ghost use Rattle.inspect_replay.specs.Serving.{ServeTook, ShareTook, IsServeStatus, IsShareStatus};
 ghost use Rattle.inspect_replay.specs.ServeReads.{ReadsInTurn, SharesInTurn};
 
 use crate::drills::run_drill;
 use crate::run::run_script;
 use crate::serve::{serve, share};
-use crate::status::Status;
-use crate::stop::Stop;
-use crate::words::{drill_in, is_replay, is_serve, is_share};
+use crate::words::{drill_in, is_pair, is_replay, is_serve, is_share};
 use front_mirror::Panel;
 use inspect_world::fits_law;
+use pair_replay::run_pair;
 use pipe_frames::{Link, ReadErr, Sink, Source, read_all};
+use replay_parts::{Status, Stop};
 use replay_script::has_long_line;
 use std::alloc::Global;
 
@@ -50,6 +56,8 @@ pub const LINE_LIMIT: usize = 16_777_216;
 ///
 /// `share` is a `serve` in which a second client may be attached to the page; its frames and messages have a `sessionId`.
 ///
+/// `pair` is a replay with two front ends: one for the root session, and one for a session that the script attaches and detaches.
+///
 /// `drill N` makes a page of N divs and the lines of a script from that number, carries them out over `link`, and writes six numbers of
 /// what came of it. It reads nothing.
 pub fn inspect<S: Source, K: Sink, L: Link>(
@@ -67,12 +75,12 @@ pub fn inspect<S: Source, K: Sink, L: Link>(
     // its half on undo: at each moment of the run that is reported, an undo leads to the very tree and texts that were saved
     ensures restores { UndoRestoresInRuns }
     // over an honest link no message is refused, and there is always room, whatever the source tells of its bytes; of `share`, which
-    // uses no link, `shares` and `share_status` say when there is room
-    ensures sound { is_share (map string_bytes words.now) ≡ false
+    // uses no link, `shares` and `share_status` say when there is room, and of `pair` the clauses with its name
+    ensures sound { is_share (map string_bytes words.now) ≡ false → is_pair (map string_bytes words.now) ≡ false
         → L.honest link.old → IsLevel (L.up link.old) → IsLevel (L.down link.old) → IsHonest result }
     // over every link: a message is refused exactly where the fold of the bytes sent up and given down refuses it; and no room
     // is left only where at least 2^28 bytes were sent up
-    ensures refused { is_share (map string_bytes words.now) ≡ false
+    ensures refused { is_share (map string_bytes words.now) ≡ false → is_pair (map string_bytes words.now) ≡ false
         → StatusFolds result (fold_since (L.up link.old) (L.down link.old) (L.up link.new) (L.down link.new)) }
     // over every link: what is written ends with the outline of what that fold shows
     ensures closes { is_replay (map string_bytes words.now) ≡ true → result ≡ Done → EndsShown (K.taken out.old) (K.taken out.new)
@@ -84,7 +92,8 @@ pub fn inspect<S: Source, K: Sink, L: Link>(
     // are given than were sent
     ensures less { StatusLess result (fold_since (L.up link.old) (L.down link.old) (L.up link.new) (L.down link.new)) }
     ensures usage { result ≡ Usage ↔ ((is_replay (map string_bytes words.now) || is_serve (map string_bytes words.now)
-        || is_share (map string_bytes words.now) || is_some (drill_in (map string_bytes words.now))) ≡ false) }
+        || is_share (map string_bytes words.now) || is_pair (map string_bytes words.now)
+        || is_some (drill_in (map string_bytes words.now))) ≡ false) }
     // a drill: over an honest link the sink takes the six lines of the run's numbers, in which no front end takes part
     ensures drill { L.honest link.old → IsLevel (L.up link.old) → IsLevel (L.down link.old)
         → (n : ℕ) → drill_in (map string_bytes words.now) ≡ Some n
@@ -175,6 +184,44 @@ pub fn inspect<S: Source, K: Sink, L: Link>(
     }) }
     ensures share_status { is_share (map string_bytes words.now) ≡ true → IsShareStatus result }
     ensures share_unlinked { is_share (map string_bytes words.now) ≡ true → link.new ≡ link.old }
+    // with two front ends, over an honest link with nothing left to give: the sink takes the report of the input, or a front part of it
+    // where no room is left
+    ensures pair_report { is_pair (map string_bytes words.now) ≡ true
+        → L.honest link.old → IsLevel (L.up link.old) → IsLevel (L.down link.old) → (input : List ℕ) → S.left src.old ≡ Some input
+        → PairTook result (K.taken out.old) (K.taken out.new) (pair_report (map (λ p. kind_of p) panels.items) input) }
+    // no message is refused then
+    ensures pair_sound { is_pair (map string_bytes words.now) ≡ true
+        → L.honest link.old → IsLevel (L.up link.old) → IsLevel (L.down link.old) → IsPairHonest result }
+    // and no room is left exactly where a frame, an act or a load of the run meets two sessions of which one has none
+    ensures pair_room { is_pair (map string_bytes words.now) ≡ true
+        → L.honest link.old → IsLevel (L.up link.old) → IsLevel (L.down link.old) → (input : List ℕ) → S.left src.old ≡ Some input
+        → TellsRoom result (ScriptHasRoom (map (λ p. kind_of p) panels.items) input) }
+    // over every link: a message is refused exactly where the fold of two front ends refuses it; and no room is left only where at least
+    // 2^19 bytes were sent up
+    ensures pair_refused { is_pair (map string_bytes words.now) ≡ true → PairFolds result
+        (pair_since (L.up link.old) (L.down link.old) (L.up link.new) (L.down link.new)) }
+    // over every link: what is written ends with the outlines of what that fold shows
+    ensures pair_closes { is_pair (map string_bytes words.now) ≡ true → result ≡ Done → PairEndsShown (K.taken out.old) (K.taken out.new)
+        (pair_since (L.up link.old) (L.down link.old) (L.up link.new) (L.down link.new)) }
+    // over every link: the replies sent down, of either session, answer the frames given up, in their order, each with its frame's id
+    ensures pair_replies { is_pair (map string_bytes words.now) ≡ true → result ≡ Done
+        → PairAnswersInOrder (L.up link.old) (L.down link.old) (L.up link.new) (L.down link.new) }
+    ensures pair_less { is_pair (map string_bytes words.now) ≡ true → PairLess result
+        (pair_since (L.up link.old) (L.down link.old) (L.up link.new) (L.down link.new)) }
+    // over every link: a line is answered exactly where it is the first that is refused: each line is judged by what the fold comes to at a
+    // moment of its own, and the one that is refused by that of the exit
+    ensures pair_line { is_pair (map string_bytes words.now) ≡ true → (input : List ℕ) → S.left src.old ≡ Some input
+        → AtEnd (says result).phase (IsJudged (moment_of (L.up link.old) (L.down link.old) (L.up link.new) (L.down link.new))
+        (map (λ p. kind_of p) panels.items) input (says result).line) }
+    // over an honest link it is the first that the run of the script refuses, in which no front end takes part
+    ensures pair_stops { is_pair (map string_bytes words.now) ≡ true
+        → L.honest link.old → IsLevel (L.up link.old) → IsLevel (L.down link.old) → (input : List ℕ) → S.left src.old ≡ Some input
+        → TellsLine result (pair_refused (map (λ p. kind_of p) panels.items) input) }
+    ensures pair_limits { is_pair (map string_bytes words.now) ≡ true
+        → (input : List ℕ) → S.left src.old ≡ Some input → FitsLimits result input }
+    ensures pair_whole { is_pair (map string_bytes words.now) ≡ true
+        → (input : List ℕ) → S.left src.old ≡ Some input → ReadsAll result (S.left src.new) }
+    ensures pair_nothing { is_pair (map string_bytes words.now) ≡ true → WritesNothing result (K.taken out.old) (K.taken out.new) }
 {
     // Called for the proof alone: the law is what `restores` says.
     fits_law();
@@ -186,6 +233,9 @@ pub fn inspect<S: Source, K: Sink, L: Link>(
     }
     if is_share(words) {
         return share(alloc, src, out);
+    }
+    if is_pair(words) {
+        return pair(alloc, panels, src, out, link);
     }
     if let Some(divs) = drill_in(words) {
         return drill(alloc, panels, divs, out, link);
@@ -229,6 +279,91 @@ fn replay<P: Panel, S: Source, K: Sink, L: Link>(
 {
     match read_input(alloc, src) {
         Ok(input) => run_input(alloc, panels, &input, out, link),
+        Err(stop) => status_of(stop),
+    }
+}
+
+/// Carries out a script with two front ends.
+fn pair<P: Panel, S: Source, K: Sink, L: Link>(
+    alloc: Global,
+    panels: Vec<P>,
+    src: &mut S,
+    out: &mut K,
+    link: &mut L,
+) -> Status
+    ensures report { L.honest link.old → IsLevel (L.up link.old) → IsLevel (L.down link.old)
+        → (input : List ℕ) → S.left src.old ≡ Some input
+        → PairTook result (K.taken out.old) (K.taken out.new) (pair_report (map P.kind_of panels.items) input) }
+    ensures sound { L.honest link.old → IsLevel (L.up link.old) → IsLevel (L.down link.old) → IsPairHonest result }
+    ensures room { L.honest link.old → IsLevel (L.up link.old) → IsLevel (L.down link.old)
+        → (input : List ℕ) → S.left src.old ≡ Some input → TellsRoom result (ScriptHasRoom (map P.kind_of panels.items) input) }
+    ensures refused { PairFolds result (pair_since (L.up link.old) (L.down link.old) (L.up link.new) (L.down link.new)) }
+    ensures closes { result ≡ Done → PairEndsShown (K.taken out.old) (K.taken out.new)
+        (pair_since (L.up link.old) (L.down link.old) (L.up link.new) (L.down link.new)) }
+    ensures replies { result ≡ Done → PairAnswersInOrder (L.up link.old) (L.down link.old) (L.up link.new) (L.down link.new) }
+    ensures less { PairLess result (pair_since (L.up link.old) (L.down link.old) (L.up link.new) (L.down link.new)) }
+    ensures used { result ≡ Usage → ⊥ }
+    ensures line { (input : List ℕ) → S.left src.old ≡ Some input
+        → AtEnd (says result).phase (IsJudged (moment_of (L.up link.old) (L.down link.old) (L.up link.new) (L.down link.new))
+        (map P.kind_of panels.items) input (says result).line) }
+    ensures stops { L.honest link.old → IsLevel (L.up link.old) → IsLevel (L.down link.old)
+        → (input : List ℕ) → S.left src.old ≡ Some input → TellsLine result (pair_refused (map P.kind_of panels.items) input) }
+    ensures limits { (input : List ℕ) → S.left src.old ≡ Some input → FitsLimits result input }
+    ensures whole { (input : List ℕ) → S.left src.old ≡ Some input → ReadsAll result (S.left src.new) }
+    // reading stops as soon as more than 2^26 bytes came
+    ensures reads { ReadPart (S.left src.old) (S.left src.new) (2 ^ 26 + 1) }
+    ensures nothing { WritesNothing result (K.taken out.old) (K.taken out.new) }
+    ensures cause { StatusRose (three_counts (S.faults src.old) (S.faults src.new)
+        (two_counts (K.faults out.old) (K.faults out.new) (L.faults link.old) (L.faults link.new))) result }
+    ensures answered { AnswersFaults (three_counts (S.faults src.old) (S.faults src.new)
+        (two_counts (K.faults out.old) (K.faults out.new) (L.faults link.old) (L.faults link.new))) result }
+    ensures honest { L.honest link.old → L.honest link.new }
+{
+    match read_input(alloc, src) {
+        Ok(input) => pair_input(alloc, panels, &input, out, link),
+        Err(stop) => status_of(stop),
+    }
+}
+
+/// Carries out the script with two front ends that was read.
+fn pair_input<P: Panel, K: Sink, L: Link>(
+    alloc: Global,
+    panels: Vec<P>,
+    input: &[u8],
+    out: &mut K,
+    link: &mut L,
+) -> Status
+    requires few { length input.now ≤ 2 ^ 26 }
+    ensures report { L.honest link.old → IsLevel (L.up link.old) → IsLevel (L.down link.old)
+        → PairTook result (K.taken out.old) (K.taken out.new) (pair_report (map P.kind_of panels.items) input.now) }
+    ensures sound { L.honest link.old → IsLevel (L.up link.old) → IsLevel (L.down link.old) → IsPairHonest result }
+    ensures room { L.honest link.old → IsLevel (L.up link.old) → IsLevel (L.down link.old)
+        → TellsRoom result (ScriptHasRoom (map P.kind_of panels.items) input.now) }
+    ensures refused { PairFolds result (pair_since (L.up link.old) (L.down link.old) (L.up link.new) (L.down link.new)) }
+    ensures closes { result ≡ Done → PairEndsShown (K.taken out.old) (K.taken out.new)
+        (pair_since (L.up link.old) (L.down link.old) (L.up link.new) (L.down link.new)) }
+    ensures replies { result ≡ Done → PairAnswersInOrder (L.up link.old) (L.down link.old) (L.up link.new) (L.down link.new) }
+    ensures less { PairLess result (pair_since (L.up link.old) (L.down link.old) (L.up link.new) (L.down link.new)) }
+    ensures used { result ≡ Usage → ⊥ }
+    ensures line { AtEnd (says result).phase (IsJudged (moment_of (L.up link.old) (L.down link.old) (L.up link.new) (L.down link.new))
+        (map P.kind_of panels.items) input.now (says result).line) }
+    ensures stops { L.honest link.old → IsLevel (L.up link.old) → IsLevel (L.down link.old)
+        → TellsLine result (pair_refused (map P.kind_of panels.items) input.now) }
+    ensures late { IsLate result }
+    ensures nothing { WritesNothing result (K.taken out.old) (K.taken out.new) }
+    ensures cause { StatusRose (record {
+      source_before = 0;
+      source_after = 0;
+      sink_before = K.faults out.old;
+      sink_after = K.faults out.new;
+      link_before = L.faults link.old;
+      link_after = L.faults link.new;
+    }) result }
+    ensures answered { AnswersFaults (two_counts (K.faults out.old) (K.faults out.new) (L.faults link.old) (L.faults link.new)) result }
+    ensures honest { L.honest link.old → L.honest link.new }
+{
+    match run_pair(alloc, panels, input, out, link) {
+        Ok(_) => Status::Done,
         Err(stop) => status_of(stop),
     }
 }

@@ -22,25 +22,23 @@ ghost use Rattle.replay_script.specs.Sound.{CanSend};
 ghost use Rattle.inspect_world.specs.World as world;
 ghost use Rattle.inspect_world.specs.Costs.{ask_cost, least_line, line_bytes};
 ghost use Rattle.inspect_world.specs.Scripts.{report, report_refused, rest_text, rest_refused, loaded_world, sends};
-ghost use Rattle.inspect_replay.specs.Stops.{StopRose, RunRose, two_counts, GoesWell};
-ghost use Rattle.inspect_replay.specs.Answers.{RunTells, RunTook};
-ghost use Rattle.inspect_replay.specs.Moments.{seen_by};
+ghost use Rattle.replay_parts.specs.Stops.{StopRose, RunRose, two_counts, GoesWell};
+ghost use Rattle.replay_parts.specs.Answers.{RunTells, RunTook};
+ghost use Rattle.replay_parts.specs.Moments.{seen_by};
 ghost use Rattle.inspect_replay.specs.Goes.{Goes, Plays, spending, showing, showing_styles, carrying, carrying_line, running};
 ghost use Rattle.inspect_replay.specs.Followed.{LineTells, ClosesShown, StopFolds};
 ghost use Rattle.inspect_replay.specs.Followed.{fold_since, EndsShown, AnswersInOrder};
 ghost use Rattle.inspect_replay.specs.Prints.{Closes, IsRead, numbered_line, drops, load_of};
 
 use crate::ends::Ends;
-use crate::moments::{Printed, Watched};
-use crate::show::{
-    print_fault, print_matched, print_outline, print_page, print_panels, print_pauses,
-    print_replies, print_sheets,
-};
-use crate::stop::Stop;
 use back_end::{Act, PageForm};
 use front_mirror::Panel;
 use node_tree::Text;
 use pipe_frames::{Link, Sink};
+use replay_parts::{
+    Printed, Stop, Watched, print_fault, print_matched, print_outline, print_page, print_panels,
+    print_pauses, print_replies, print_sheets,
+};
 use replay_script::{Ask, Line, LineErr, LineFault, Lines, read_line};
 use std::alloc::Global;
 
@@ -78,7 +76,7 @@ fn show_replies<P: Panel, K: Sink, L: Link>(
     }
     let replies = ends.replies();
     let told = ends.told.min(replies.len());
-    match print_replies(alloc, replies.split_at(told).1, out) {
+    match print_replies(alloc, "# replies", replies.split_at(told).1, out) {
         Ok(()) => {
             ends.tell_replies();
             Ok(())
@@ -99,7 +97,7 @@ fn show_sheets<P: Panel, K: Sink, L: Link>(
         (seen_by (⟦<L as Watched>⟧.at link.new ends.new) (⟦<K as Printed>⟧.at out.new)) result }
 {
     match ends.settle(link) {
-        Ok(()) => print_sheets(alloc, ends.front(), out),
+        Ok(()) => print_sheets(alloc, "# sheets", ends.front(), out),
         Err(stop) => Err(stop),
     }
 }
@@ -121,7 +119,7 @@ fn show_pauses<P: Panel, K: Sink, L: Link>(
     }
     let pauses = ends.pauses();
     let told = ends.told_pauses.min(pauses.len());
-    match print_pauses(alloc, pauses.split_at(told).1, out) {
+    match print_pauses(alloc, "# pauses", pauses.split_at(told).1, out) {
         Ok(()) => {
             ends.tell_pauses();
             Ok(())
@@ -163,7 +161,7 @@ fn show_styles<P: Panel, K: Sink, L: Link>(
         (⟦<L as Watched>⟧.at link.new ends.new) (numbered_line number (show_styles ask)) result }
 {
     match ends.settle(link) {
-        Ok(()) => print_matched(alloc, number, ask, ends.matched_reply(ask), out),
+        Ok(()) => print_matched(alloc, number, ask, "", ends.matched_reply(ask), out),
         Err(stop) => Err(stop),
     }
 }

@@ -4,20 +4,19 @@ ghost use Rattle.std.specs.Io.KnownBytes.{Consumes, IsAtEnd, Keeps};
 ghost use Rattle.node_tree.specs.Numbers.{max_input};
 ghost use Rattle.pipe_frames.specs.Fault.{Rose, next_count};
 ghost use Rattle.pipe_frames.specs.Whole.{ReadPart};
-ghost use Rattle.inspect_replay.specs.Answers.{StatusRose, AnswersFaults};
+ghost use Rattle.replay_parts.specs.Answers.{StatusRose, AnswersFaults};
 ghost use Rattle.inspect_replay.specs.Served.{AreNew, first_of};
 ghost use Rattle.inspect_replay.specs.ServeReads.{AnswersInTurn, ReadsInTurn, SharesInTurn};
 ghost use Rattle.inspect_replay.specs.Serving.{IsServeStatus, IsShareStatus, ServeTook, ShareTook};
 ghost use Rattle.inspect_replay.specs.Serving.{HasServed, HasServeCause, EndIsMet};
-ghost use Rattle.inspect_replay.specs.declared.stop.Stop.TheVariants.{ReadFault};
+ghost use Rattle.replay_parts.specs.declared.stop.Stop.TheVariants.{ReadFault};
 
 use crate::clients::Clients;
 use crate::program::status_of;
 use crate::service::Service;
-use crate::status::Status;
-use crate::stop::Stop;
 use back_end::{Mux, Seat};
 use pipe_frames::{Sink, Source};
+use replay_parts::{Status, Stop};
 use std::alloc::{AllocError, Global};
 
 /// How many bytes a read asks for at most.

@@ -6,9 +6,9 @@ ghost use Rattle.inspect_replay.specs.Served.{Served, AreNew, AreSeated, first_o
 use crate::clients::Clients;
 use crate::program::INPUT_LIMIT;
 use crate::serve::{end_of_input, read_piece};
-use crate::stop::Stop;
 use back_end::PageSide;
 use pipe_frames::{OutErr, Sink, Source, Splitter, write_all};
+use replay_parts::Stop;
 use std::alloc::{AllocError, Global};
 
 /// A back end with its clients, and what came of a frame that is not whole. The seats stand for the page's side, as long as they are not

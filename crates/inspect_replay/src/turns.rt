@@ -3,16 +3,15 @@ ghost use Rattle.std.specs.Prelude.{option_map, IfOk};
 ghost use Rattle.replay_script.specs.Seen.{seen};
 ghost use Rattle.drill_script.specs.Given.{GivesFirst};
 ghost use Rattle.drill_script.specs.LineKinds.{AreDrillLines};
-ghost use Rattle.inspect_replay.specs.Stops.{StopRose, two_counts};
+ghost use Rattle.replay_parts.specs.Stops.{StopRose, two_counts};
 ghost use Rattle.inspect_replay.specs.Drilled.{FormsFollow, RunsForms};
 
 use crate::ends::Ends;
-use crate::moments::Watched;
 use crate::run::carry_plain;
-use crate::stop::Stop;
 use drill_script::Drill;
 use front_mirror::Panel;
 use pipe_frames::{Link, OutErr, Sink};
+use replay_parts::{Stop, Watched};
 use replay_script::Line;
 use std::alloc::{AllocError, Global};
 

@@ -1,11 +1,14 @@
-ghost use Rattle.std.specs.Prelude.{◌≡◌, map, string_bytes};
-ghost use Rattle.inspect_replay.specs.Words.{is_replay, is_serve, is_share, count_in, drill_in};
+ghost use Rattle.std.specs.Prelude.{◌≡◌, map, string_bytes, true, false};
+ghost use Rattle.inspect_replay.specs.Words.{is_replay, is_serve, is_pair, is_share, count_in, drill_in};
 
 use drill_script::is_drill;
 
 /// Whether the words are exactly `replay`.
 pub(crate) fn is_replay(words: &[String]) -> bool
-    ensures { result ≡ is_replay (map string_bytes words.now) }
+    ensures is { result ≡ is_replay (map string_bytes words.now) }
+    // one word is not two
+    ensures not_share { result ≡ true → is_share (map string_bytes words.now) ≡ false }
+    ensures not_pair { result ≡ true → is_pair (map string_bytes words.now) ≡ false }
 {
     match words {
         [word] => word.as_str() == "replay",
@@ -15,7 +18,10 @@ pub(crate) fn is_replay(words: &[String]) -> bool
 
 /// Whether the words are exactly `serve`.
 pub(crate) fn is_serve(words: &[String]) -> bool
-    ensures { result ≡ is_serve (map string_bytes words.now) }
+    ensures is { result ≡ is_serve (map string_bytes words.now) }
+    // one word is not two
+    ensures not_share { result ≡ true → is_share (map string_bytes words.now) ≡ false }
+    ensures not_pair { result ≡ true → is_pair (map string_bytes words.now) ≡ false }
 {
     match words {
         [word] => word.as_str() == "serve",
@@ -25,10 +31,22 @@ pub(crate) fn is_serve(words: &[String]) -> bool
 
 /// Whether the words are exactly `share`.
 pub(crate) fn is_share(words: &[String]) -> bool
-    ensures { result ≡ is_share (map string_bytes words.now) }
+    ensures is { result ≡ is_share (map string_bytes words.now) }
+    // one word is not two
+    ensures not_pair { result ≡ true → is_pair (map string_bytes words.now) ≡ false }
 {
     match words {
         [word] => word.as_str() == "share",
+        _ => false,
+    }
+}
+
+/// Whether the words are exactly `pair`.
+pub(crate) fn is_pair(words: &[String]) -> bool
+    ensures { result ≡ is_pair (map string_bytes words.now) }
+{
+    match words {
+        [word] => word.as_str() == "pair",
         _ => false,
     }
 }

@@ -20,7 +20,7 @@ use Rattle.inspect_world.specs.ShownReplies.{ShownReply, replies_in, told_lines}
 use Rattle.inspect_world.specs.ActTexts.{act_text}
 use Rattle.inspect_world.specs.SheetTexts.{sheet_lines}
 use Rattle.inspect_world.specs.ShownPauses.{pauses_in, pause_lines}
-use Rattle.inspect_world.specs.StylesTexts.{styles_text}
+use Rattle.inspect_world.specs.StylesTexts.{styles_headed}
 use Rattle.inspect_world.specs.PanelTexts.{panels_text}
 use Rattle.inspect_world.specs.RunStates.{RunState, run_start, styles_under, run_step, run_turn}
 use Rattle.back_end.specs.States.{State, page_nodes, book_in, sheets_shown, view_of}
@@ -124,10 +124,14 @@ has_styles w k = is_some (styles_at k w)
 abbrev pub panels_of : World RunState → List ℕ
 panels_of w = panels_text w.told.panels (view_of w.state.back).tree
 
--- a show of matched styles prints nothing where there are none
+-- a show of matched styles prints nothing where there are none; its heading ends in this text
+abbrev pub styles_shown_headed : List ℕ → ℕ → Option Matched → List ℕ
+styles_shown_headed behind k None = []
+styles_shown_headed behind k (Some m) = styles_headed behind k m
+
+-- the same where the heading ends in the number of the ask
 abbrev pub styles_shown : ℕ → Option Matched → List ℕ
-styles_shown k None = []
-styles_shown k (Some m) = styles_text k m
+styles_shown k found = styles_shown_headed [] k found
 
 -- what the line of that number prints
 abbrev pub line_text : ℕ → LineForm → World RunState → List ℕ

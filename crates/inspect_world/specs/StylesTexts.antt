@@ -78,6 +78,11 @@ abbrev pub block_lines : List Bool → List ShownBlock → List ℕ
 block_lines marks [] = []
 block_lines marks (b ∷ bs) = b.heading ++ property_lines marks b.properties ++ block_lines (drop (length b.properties) marks) bs
 
--- all that is printed of the matched styles that the reply to that ask told
+-- all that is printed of the matched styles that the reply to that ask told, under a heading that ends in this text
+abbrev pub styles_headed : List ℕ → ℕ → Matched → List ℕ
+styles_headed behind ask m =
+    codes "# styles " ++ decimal ask ++ behind ++ 10 ∷ block_lines (winning (blocks_shown m)) (blocks_shown m)
+
+-- the same under a heading that ends in the number of the ask
 abbrev pub styles_text : ℕ → Matched → List ℕ
-styles_text ask m = codes "# styles " ++ decimal ask ++ 10 ∷ block_lines (winning (blocks_shown m)) (blocks_shown m)
+styles_text ask m = styles_headed [] ask m

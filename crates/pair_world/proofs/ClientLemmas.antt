@@ -1,10 +1,9 @@
 -- One client of this protocol keeps what two sessions need: its own steps, the other session's and the script's take its front end along.
-use Rattle.std.proofs.Common.{◌≡◌, ℕ, false, List, [], ◌∷◌, ◌++◌, map, codes, All, Option, Some, None, Result, Ok, refl, sym}
+use Rattle.std.proofs.Common.{◌≡◌, ℕ, false, List, [], ◌∷◌, ◌++◌, map, codes, All, Option, Some, None, Result, refl, sym}
 use Rattle.std.proofs.Common.{◌∙◌}
-use Rattle.std.proofs.Common.{ap, subst, append_assoc, append-nil}
+use Rattle.std.proofs.Common.{ap, subst, append-nil}
 use Rattle.std.specs.List.{flat_map}
 use Rattle.std.specs.Option.{option_to_list}
-use Rattle.std.specs.Cmp.Lexicographic.{nat_list_eq_equiv}
 use Rattle.std.proofs.lemmas.List.{map-append}
 use Rattle.std.proofs.lemmas.List.Elements.{All-nil, All-cons}
 use Rattle.pipe_frames.specs.Frames.{Frames, frames_of}
@@ -16,7 +15,6 @@ use Rattle.front_mirror.specs.declared.replies.Ask.{Ask}
 use Rattle.front_mirror.specs.declared.replies.MatchedReply.{MatchedReply}
 use Rattle.front_mirror.specs.Front.{FrontValue, first_value, take_frame}
 use Rattle.front_mirror.specs.Laws.{matched_after, IsOfSheet, InTurn, rests, meets}
-use Rattle.front_mirror.proofs.FoldLemmas.{take_frame-more}
 use Rattle.back_end.specs.States.{Side, State, view_of, IsState}
 use Rattle.back_end.specs.Steps.{Step, Turn, frame_step, turn_step}
 use Rattle.back_end.specs.Laws.{IsAnswered, IsTurn, reply_ids}
@@ -42,30 +40,16 @@ use Rattle.multi_replay.specs.Incoming.{is_target_id}
 use Rattle.multi_replay.specs.Folds.{asks_more}
 use Rattle.pair_world.specs.Clients.{pair_reads, RunClient, state_of, fresh_client, client_steps}
 use Rattle.pair_world.specs.Shown.{IsSessionNumber, HasRoomFor, MaySend, Shows}
+use Rattle.multi_replay.proofs.SendLemmas.{read-laws}
+use Rattle.pair_world.specs.PairHeld.{up_reads}
 use Rattle.pair_world.proofs.TaggedTexts.{NoTarget, NoTargets, Written, moves-written}
 use Rattle.pair_world.proofs.TargetTexts.{texts-apart, attached-down, attached-text, attached-says, detached-down, detached-text}
 use Rattle.pair_world.proofs.TargetTexts.{detached-says}
 
 -- ---- one front end
 
--- asks more that wait change nothing of what is taken meanwhile
-later-asks : (more : List Ask) (v w : FrontValue) (frame : List ℕ) → take_frame v frame ≡ Ok w
-    → take_frame (asks_more v more) frame ≡ Ok (asks_more w more)
-later-asks [] v w frame e =
-    ap (λ asks. take_frame (record v { asks = asks }) frame) (append-nil v.asks) ∙ e
-    ∙ ap (λ asks. Ok (record w { asks = asks })) (sym (append-nil w.asks))
-later-asks (ask ∷ more) v w frame e =
-    ap (λ asks. take_frame (record v { asks = asks }) frame) (sym (append_assoc v.asks (ask ∷ []) more))
-    ∙ later-asks more (record v { asks = v.asks ++ ask ∷ [] }) (record w { asks = w.asks ++ ask ∷ [] }) frame
-    (take_frame-more v w ask frame e)
-    ∙ ap (λ asks. Ok (record w { asks = asks })) (append_assoc w.asks (ask ∷ []) more)
-
 pub read_laws : ReadLaws pair_reads
-read_laws = record {
-  later = later-asks;
-  joins = λ v first second. ap (λ asks. record v { asks = asks }) (append_assoc v.asks first second);
-  same_all = λ t. nat_list_eq_equiv.refl t;
-}
+read_laws = read-laws up_reads
 
 -- ---- what a step tells
 

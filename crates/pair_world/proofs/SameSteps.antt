@@ -16,7 +16,7 @@ use Rattle.back_end.specs.Steps.{asked_step, turn_step}
 use Rattle.back_end.specs.Outside.{asked_outward, outside_step}
 use Rattle.back_end.specs.Pairs as clients
 use Rattle.back_end.specs.Pairs.{Pair, root_state, second_state, IsPair, PairHasRoom, attached_frames, attached_step, answered_step}
-use Rattle.back_end.specs.Pairs.{routed_step, pair_turn}
+use Rattle.back_end.specs.Pairs.{routed_step}
 use Rattle.back_end.proofs.OwnTexts.{frame-texts}
 use Rattle.back_end.proofs.FrameLemmas.{frame-steps-well}
 use Rattle.back_end.proofs.StepLemmas.{turn-steps-well}

@@ -52,7 +52,7 @@ command-may id method params c low =
     same : (a b : Ask) → Some a ≡ Some b → a ≡ b
     same a b e = cc
 
-command-letters : (id : ℕ) (method : List ℕ) (params session : Option Data) → IsCommand id method params session
+pub command-letters : (id : ℕ) (method : List ℕ) (params session : Option Data) → IsCommand id method params session
     → holds_of_some is_plain session ≡ true → IsText (command_text id method params session)
 command-letters id method params session c plain =
     texts_have_no_zero (command_value id method params session) (ask_plain id method params session c.counted c.plain plain)
@@ -104,11 +104,16 @@ bare-may frame bare = record {
   no_target = λ ask e. let no : ◌≡◌ {A = Option Ask} None (Some ask) = sym bare.no_ask ∙ e in absurd cc;
 }
 
+-- it is the root's
+pub bare-way : (frame : List ℕ) → IsBare frame → frame_way frame ≡ to_root frame
+bare-way frame bare =
+    let none : request_of frame ≡ None = bare-request (option_and_then as_object (json_of frame)) bare.no_ask in ap (way_by frame) none
+
 pub bare-frames-may-be-sent : BareFramesMayBeSent
-bare-frames-may-be-sent frame attached letters bare =
-    let none : request_of frame ≡ None = bare-request (option_and_then as_object (json_of frame)) bare.no_ask in
-    let way : frame_way frame ≡ to_root frame = ap (way_by frame) none in
-    (letters, subst (λ way. IsCalm pair_reads client_steps MaySend attached way) (sym way) (calm_root frame (bare-may frame bare)))
+bare-frames-may-be-sent frame attached letters bare = (
+  letters,
+  subst (λ way. IsCalm pair_reads client_steps MaySend attached way) (sym (bare-way frame bare)) (calm_root frame (bare-may frame bare)),
+)
 
 -- ---- the two commands
 

@@ -80,7 +80,7 @@ bare-read (fault None code said) = refl
 bare-read (fault (Some id) code said) = refl
 bare-read (event n) = refl
 
-tagged-read : (k : ℕ) (m : Message) → has_float (message_data m) ≡ false
+pub tagged-read : (k : ℕ) (m : Message) → has_float (message_data m) ≡ false
     → down_value (Some (with_session k (message_data m))) ≡ of_session (session_text k) (message_text m)
 tagged-read k m whole =
     by-kind m

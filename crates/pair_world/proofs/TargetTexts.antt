@@ -41,7 +41,7 @@ texts-apart j k small low e =
     decimal_injective j k (omega (arith, small.1)) (omega (arith, low.1))
     (digits-same j k ((bytes_eq-Decides (session_text j) (session_text k)).0 e))
 
-number-read : (k : ℕ) → IsSessionNumber k → session_number (session_text k) ≡ Some k
+pub number-read : (k : ℕ) → IsSessionNumber k → session_number (session_text k) ≡ Some k
 number-read k small =
     let value : digits_value 10 (decimal k) ≡ k = (decimal_is_IsNumeral k (omega (arith, small.1))).1 in
     let fits : is_sheet k ≡ true = both (lt-ltb 0 k small.0) (lt-ltb k counted_limit (omega (arith, small.1))) in

@@ -5,3 +5,11 @@ pub mod PairFits
 pub mod FrameLaws
 pub mod Sendings
 pub mod SameSteps
+pub mod PairRuns
+pub mod PairScripts
+pub mod PairFresh
+pub mod PairScriptsFit
+pub mod PairHeld
+pub mod PairSendings
+pub mod PairLinks
+pub mod FetchShown

@@ -3,8 +3,10 @@
 ghost use Rattle.pair_world.specs.PairFits.{PairsFit, PairsShown, PairsSettle};
 ghost use Rattle.pair_world.specs.FrameLaws.{AsksAreTheRoots, AsksAreTheSessions, TargetsAreKnown, SessionsAskTheSame, StepsAreRouted};
 ghost use Rattle.pair_world.specs.Sendings.{AsksMayBeSent, SessionAsksMayBeSent, BareFramesMayBeSent, TargetsMayBeSent};
+ghost use Rattle.pair_world.specs.PairScriptsFit.{PairInputsFit, PairInputsShow};
 ghost use Rattle.pair_world.specs.SameSteps.{StartsAreSame, FrameStepsAreSame, TurnsAreSame};
 ghost use Rattle.pair_world.specs.FrameLaws.{RootsAreUsual, SessionsAreUsual, TargetsAreUsual, SessionsAreTagged};
+ghost use Rattle.pair_world.specs.FetchShown.{PairRefreshShows, PairLinesShow};
 
 /// Two sessions of one page, which was loaded, on one pipe, with a front end each. After any parts of a run, each of which may come when
 /// its turn is, with sessions that are attached and detached and with room before each step, the bytes that the ends have sent, folded
@@ -49,4 +51,23 @@ pub fn same_step_law()
     ensures starts { StartsAreSame }
     ensures frames { FrameStepsAreSame }
     ensures turns { TurnsAreSame }
+{}
+
+/// The same of the scripts that a replay with two front ends reads: after any number of the lines that are carried out, with room before
+/// each step, the two whole streams, folded into the two front ends, meet no fault and fit both sessions; and where all sent bytes have
+/// been taken in, a second front end stands just where a session is attached, each shows just what its session's client sees, and no ask
+/// waits.
+pub fn pair_script_law()
+    ensures fit { PairInputsFit }
+    ensures show { PairInputsShow }
+{}
+
+/// A settle of two front ends with its fetches: once all that was on its way has come, the first fetches the texts of sheets that it lacks
+/// or knows to be old, and then the second in the attached session. Where the run went together with the one that the report tells, and
+/// there is room for each step, each front end then shows just what its client sees: the tree, and while its domain CSS is on each sheet
+/// with the page's text. It has kept the replies and the pauses that came to it in the run that the report tells, and waits for nothing.
+/// So it is after any number of lines that are carried out.
+pub fn pair_fetch_law()
+    ensures refreshed { PairRefreshShows }
+    ensures lines { PairLinesShow }
 {}

@@ -5,11 +5,12 @@ use Rattle.drill_script.specs.DrillLines.{drill_lines}
 use Rattle.drill_script.specs.LineKinds.{AreDrillLines, most_lines}
 use Rattle.drill_script.proofs.LineKindLaws.{drill-kinds, drill-few}
 use Rattle.inspect_world.specs.Scripts.{loaded_world}
-use Rattle.inspect_replay.specs.declared.stop.Stop.{Stop}
-use Rattle.inspect_replay.specs.declared.stop.Stop.TheVariants.{Memory}
-use Rattle.inspect_replay.specs.Answers.{Prints}
+use Rattle.replay_parts.specs.declared.stop.Stop.{Stop}
+use Rattle.replay_parts.specs.declared.stop.Stop.TheVariants.{Memory}
+use Rattle.replay_parts.specs.Answers.{Prints}
 use Rattle.inspect_replay.specs.Tallies.{tallied, drill_text}
-use Rattle.inspect_replay.proofs.DrillEnds.{memory-is, prints-none}
+use Rattle.inspect_replay.proofs.DrillEnds.{prints-none}
+use Rattle.replay_parts.proofs.StopLemmas.{memory-is}
 use Rattle.inspect_replay.proofs.drills.run_drill.Goals as goal
 
 pub run_page-requires-clause-kinds : goal.run_page-requires-clause-kinds

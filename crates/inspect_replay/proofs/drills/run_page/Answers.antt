@@ -2,12 +2,13 @@
 use Rattle.std.proofs.Common.{sym, subst, map, Result}
 use Rattle.page_forms.specs.Pages.{loaded_page}
 use Rattle.inspect_world.specs.Scripts.{loaded_world, after_lines}
-use Rattle.inspect_replay.specs.declared.stop.Stop.{Stop}
-use Rattle.inspect_replay.specs.declared.stop.Stop.TheVariants.{Memory}
-use Rattle.inspect_replay.specs.Answers.{Prints}
+use Rattle.replay_parts.specs.declared.stop.Stop.{Stop}
+use Rattle.replay_parts.specs.declared.stop.Stop.TheVariants.{Memory}
+use Rattle.replay_parts.specs.Answers.{Prints}
 use Rattle.inspect_replay.specs.Tallies.{tallied}
 use Rattle.inspect_replay.proofs.DrillEnds.{drill_start, drill-follows, drill-plays, drill-cause}
-use Rattle.inspect_replay.proofs.DrillEnds.{memory-is, prints-none, writes-none, on-first, on-second}
+use Rattle.inspect_replay.proofs.DrillEnds.{prints-none, writes-none, on-first, on-second}
+use Rattle.replay_parts.proofs.StopLemmas.{memory-is}
 use Rattle.inspect_replay.proofs.drills.run_page.Goals as goal
 
 pub returns-in-Ok-clause-refused : goal.returns-in-Ok-clause-refused

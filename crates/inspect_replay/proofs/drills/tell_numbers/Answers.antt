@@ -3,7 +3,7 @@ use Rattle.std.proofs.Common.{Err, ap}
 use Rattle.front_mirror.specs.Front.{FrontState}
 use Rattle.inspect_replay.proofs.TellLemmas.{tells-well, tells-not, tells-shown}
 use Rattle.inspect_replay.proofs.DrillEnds.{writes-some, writes-none}
-use Rattle.inspect_replay.proofs.LinesRun.{link-cause, settled-cause}
+use Rattle.replay_parts.proofs.CauseLemmas.{link-cause, settled-cause}
 use Rattle.inspect_replay.proofs.drills.tell_numbers.Goals as goal
 
 pub returns-in-Ok-clause-runs : goal.returns-in-Ok-clause-runs

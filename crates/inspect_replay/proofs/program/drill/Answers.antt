@@ -1,6 +1,6 @@
 -- A stop of a drill is the status that it is.
 use Rattle.std.proofs.Common.{map, sym, subst}
-use Rattle.inspect_replay.specs.Answers.{IsHonest, Took}
+use Rattle.replay_parts.specs.Answers.{IsHonest, Took}
 use Rattle.inspect_replay.specs.Drilled.{DrillWrites, IsDrillStatus}
 use Rattle.inspect_replay.specs.Tallies.{drill_text}
 use Rattle.inspect_replay.proofs.DrillEnds.{drill-took, drill-rose, drill-writes, drill-status}

@@ -1,7 +1,7 @@
 -- An input that is not read is refused by its limits.
 use Rattle.std.proofs.Common.{map, sym, subst}
 use Rattle.inspect_world.specs.Scripts.{report}
-use Rattle.inspect_replay.specs.Answers.{FitsLimits, Took, IsHonest}
+use Rattle.replay_parts.specs.Answers.{FitsLimits, Took, IsHonest}
 use Rattle.inspect_replay.proofs.AnswerLemmas.{stop-limits, stop-took, stop-honest}
 use Rattle.inspect_replay.specs.Followed.{fold_since}
 use Rattle.inspect_replay.proofs.FollowLemmas.{status-folds, status-less, input-folds, start-good, never-done}

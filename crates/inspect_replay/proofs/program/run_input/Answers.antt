@@ -1,7 +1,7 @@
 -- A stop is the status that the fold says.
 use Rattle.std.proofs.Common.{map, sym, subst}
 use Rattle.inspect_world.specs.Scripts.{report}
-use Rattle.inspect_replay.specs.Answers.{IsHonest}
+use Rattle.replay_parts.specs.Answers.{IsHonest}
 use Rattle.inspect_replay.proofs.AnswerLemmas.{run-honest}
 use Rattle.inspect_replay.proofs.FollowLemmas.{status-folds, status-less, never-done}
 use Rattle.inspect_replay.proofs.FaultAnswers.{stop-answers}

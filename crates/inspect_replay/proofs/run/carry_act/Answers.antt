@@ -6,7 +6,8 @@ use Rattle.inspect_world.specs.RunStates.{run_turn}
 use Rattle.inspect_world.specs.World.{turned}
 use Rattle.inspect_replay.specs.Prints.{numbered_line}
 use Rattle.inspect_replay.proofs.RunLemmas.{act-carries, act-stops}
-use Rattle.inspect_replay.proofs.FollowLemmas.{kept-run, some-printed}
+use Rattle.inspect_replay.proofs.FollowLemmas.{kept-run}
+use Rattle.replay_parts.proofs.StopLemmas.{some-printed}
 use Rattle.inspect_replay.proofs.run.carry_act.Goals as goal
 
 pub returns-in-Ok : goal.returns-in-Ok

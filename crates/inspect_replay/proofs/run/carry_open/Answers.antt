@@ -4,10 +4,11 @@ use Rattle.replay_script.specs.Forms.{LineForm}
 use Rattle.replay_script.specs.Seen.{seen}
 use Rattle.inspect_replay.specs.Followed.{LineTells}
 use Rattle.inspect_replay.specs.Prints.{CarriesLine, numbered_line}
-use Rattle.inspect_replay.specs.Moments.{moment, scene}
-use Rattle.inspect_replay.proofs.LinesRun.{shows-styles, plain-line, stop-run}
+use Rattle.replay_parts.specs.Moments.{moment, scene}
+use Rattle.inspect_replay.proofs.LinesRun.{shows-styles, plain-line}
 use Rattle.inspect_replay.proofs.LinesTell.{plain-tells, keeps-passing}
 use Rattle.inspect_replay.proofs.FollowLemmas.{run-fewer}
+use Rattle.replay_parts.proofs.CauseLemmas.{stop-run}
 use Rattle.inspect_replay.proofs.run.carry_open.Goals as goal
 
 pub carry_plain-requires-clause-plain : goal.carry_plain-requires-clause-plain

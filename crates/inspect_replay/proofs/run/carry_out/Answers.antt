@@ -4,9 +4,11 @@ use Rattle.replay_script.specs.Forms.{LineForm}
 use Rattle.replay_script.specs.Seen.{seen}
 use Rattle.inspect_replay.specs.Followed.{LinePasses, LineTells}
 use Rattle.inspect_replay.specs.Prints.{CarriesLine, numbered_line}
-use Rattle.inspect_replay.specs.Moments.{moment, scene}
+use Rattle.replay_parts.specs.Moments.{moment, scene}
 use Rattle.inspect_replay.proofs.LinesRun.{drops-panel}
-use Rattle.inspect_replay.proofs.PanelLemmas.{panel-cause, panel-carries, panel-passes, panel-tells, panel-printed}
+use Rattle.inspect_replay.proofs.PanelLemmas.{panel-carries, panel-passes, panel-tells}
+use Rattle.replay_parts.proofs.ClosedPanels.{panel-cause}
+use Rattle.replay_parts.proofs.StopLemmas.{none-printed}
 use Rattle.inspect_replay.proofs.run.carry_out.Goals as goal
 
 pub carry_open-requires-clause-keeps : goal.carry_open-requires-clause-keeps
@@ -26,7 +28,7 @@ returns-in-Some-clause-plays g c =
           (panel-passes c.drop_panel.result c.args.number c.in-Some.place (g.L.Link.honest c.args.link.now)
           (g.L.Link.up c.args.link.now) (g.L.Link.down c.args.link.now) c.args.ends.now c.drop_panel.new.ends
           c.drop_panel.ensures.refused c.drop_panel.ensures.dropped);
-      some = panel-printed c.drop_panel.result taken;
+      some = none-printed c.drop_panel.result taken;
       runs = subst (λ (form : LineForm). CarriesLine (scene now taken) (scene after taken) (numbered_line c.args.number form)
           c.drop_panel.result) (sym is)
           (panel-carries c.drop_panel.result c.args.number c.in-Some.place (g.L.Link.honest c.args.link.now)

@@ -16,8 +16,9 @@ use Rattle.inspect_world.specs.RunStates.{run_step, run_turn}
 use Rattle.std.proofs.Common.{◌≡◌, ℕ, Option, Some, None, sym, ◌∙◌}
 use Rattle.replay_script.specs.Script.{styles_ask, closed_by}
 use Rattle.inspect_replay.proofs.RunLemmas.{spend-carries, move-carries, settles-spend, same-carries, page-carries}
-use Rattle.inspect_replay.proofs.FollowLemmas.{none-printed, some-printed, kept-run, run-fewer}
-use Rattle.inspect_replay.proofs.LinesRun.{link-cause, sink-cause}
+use Rattle.inspect_replay.proofs.FollowLemmas.{kept-run, run-fewer}
+use Rattle.replay_parts.proofs.CauseLemmas.{link-cause, sink-cause}
+use Rattle.replay_parts.proofs.StopLemmas.{some-printed, none-printed}
 use Rattle.inspect_replay.proofs.run.carry_plain.Goals as goal
 
 pub load_page-requires : goal.load_page-requires

@@ -2,7 +2,7 @@
 use Rattle.std.proofs.Common.{Err, refl}
 use Rattle.inspect_replay.proofs.RunLemmas.{closes-well, closes-not}
 use Rattle.inspect_replay.proofs.FollowLemmas.{closes-shown}
-use Rattle.inspect_replay.proofs.LinesRun.{link-cause, settled-cause}
+use Rattle.replay_parts.proofs.CauseLemmas.{link-cause, settled-cause}
 use Rattle.inspect_replay.proofs.run.close.Goals as goal
 
 pub returns-in-Ok-clause-runs : goal.returns-in-Ok-clause-runs

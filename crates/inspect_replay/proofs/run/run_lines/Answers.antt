@@ -5,13 +5,14 @@ use Rattle.replay_script.specs.Seen.{seen}
 use Rattle.inspect_world.specs.Costs.{line_bytes}
 use Rattle.inspect_world.specs.Links.{run_started}
 use Rattle.inspect_world.proofs.Inputs.{later_line}
-use Rattle.inspect_replay.specs.Moments.{moment}
+use Rattle.replay_parts.specs.Moments.{moment}
 use Rattle.inspect_replay.specs.Followed.{fold_since}
 use Rattle.inspect_replay.proofs.LinesRun.{run-on, run-stops, read-stops, lines-done, with_lines, run-later, whole_of}
 use Rattle.inspect_replay.proofs.LinesTell.{carried-first, carried-lines, carried-on, ok-lacks, line-stops, read-tells, carried-all}
-use Rattle.inspect_replay.proofs.LinesRun.{later-cause, unread-cause}
 use Rattle.inspect_replay.proofs.LinesTell.{carried-tells}
-use Rattle.inspect_replay.proofs.FollowLemmas.{run-good, run-line, more-printed, read-folds}
+use Rattle.inspect_replay.proofs.FollowLemmas.{run-good, run-line, read-folds}
+use Rattle.replay_parts.proofs.StopLemmas.{more-printed}
+use Rattle.replay_parts.proofs.CauseLemmas.{later-cause, unread-cause}
 use Rattle.inspect_replay.proofs.run.run_lines.Goals as goal
 
 pub loop-text-init : goal.loop-text-init

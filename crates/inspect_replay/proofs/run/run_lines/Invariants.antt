@@ -5,7 +5,8 @@ use Rattle.inspect_world.specs.Costs.{line_bytes}
 use Rattle.inspect_world.specs.World.{World}
 use Rattle.inspect_world.specs.RunStates.{RunState}
 use Rattle.inspect_world.specs.Links.{Begun, run_started}
-use Rattle.inspect_replay.specs.Followed.{FollowsRun, PrintedSome}
+use Rattle.inspect_replay.specs.Followed.{FollowsRun}
+use Rattle.replay_parts.specs.Printed.{PrintedSome}
 use Rattle.inspect_replay.specs.Runs.{InPlay}
 use Rattle.inspect_replay.proofs.LinesRun.{Running, whole_of}
 use Rattle.inspect_replay.proofs.LinesTell.{Carried}

@@ -6,11 +6,13 @@ use Rattle.inspect_world.specs.Costs.{line_bytes}
 use Rattle.inspect_world.specs.Scripts.{loaded_world, after_lines, shown_lines, rest_refused}
 use Rattle.inspect_replay.proofs.AnswerLemmas.{nothing-ran}
 use Rattle.inspect_replay.proofs.RunLemmas.{begins, play-begins}
-use Rattle.inspect_replay.proofs.LinesRun.{closed-took, closed-tells, closed-cause, stopped-took}
+use Rattle.inspect_replay.proofs.LinesRun.{closed-took, stopped-took}
 use Rattle.inspect_replay.proofs.LinesTell.{closing-tells}
 use Rattle.back_end.specs.States.{loaded_state}
 use Rattle.inspect_world.specs.Links.{begun, run_started}
 use Rattle.inspect_replay.proofs.FollowLemmas.{run-first, ends-shown, in-order}
+use Rattle.replay_parts.proofs.StopLemmas.{closed-tells}
+use Rattle.replay_parts.proofs.CauseLemmas.{closed-cause}
 use Rattle.inspect_replay.proofs.run.run_loaded.Goals as goal
 
 pub returns-in_err-ends-clause-took : goal.returns-in_err-ends-clause-took

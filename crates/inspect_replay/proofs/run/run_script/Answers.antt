@@ -4,11 +4,12 @@ use Rattle.page_forms.specs.Pages.{loaded_page}
 use Rattle.replay_script.specs.Forms.{load, line_form}
 use Rattle.replay_script.specs.Lines.{lines_of}
 use Rattle.inspect_world.specs.Links.{came_styles}
-use Rattle.inspect_replay.specs.Answers.{RunTells, RunTook}
-use Rattle.inspect_replay.proofs.RunLemmas.{script-loads, report-loads, refused-loads, script-refused, few-lines, few-bytes}
+use Rattle.replay_parts.specs.Answers.{RunTells, RunTook}
+use Rattle.inspect_replay.proofs.RunLemmas.{script-loads, report-loads, refused-loads, script-refused}
 use Rattle.inspect_replay.proofs.LinesRun.{unread-tells, unread-stops, no-lines-tell, no-lines-stop}
 use Rattle.inspect_replay.specs.Followed.{fold_since}
 use Rattle.inspect_replay.proofs.FollowLemmas.{start-good, read-folds}
+use Rattle.replay_parts.proofs.InputLemmas.{few-lines, few-bytes}
 use Rattle.inspect_replay.proofs.run.run_script.Goals as goal
 
 pub run_loaded-requires-clause-can : goal.run_loaded-requires-clause-can

@@ -3,7 +3,8 @@ use Rattle.std.proofs.Common.{rules}
 use Rattle.replay_script.specs.Forms.{show_front}
 use Rattle.inspect_replay.specs.Prints.{numbered_line}
 use Rattle.inspect_replay.proofs.RunLemmas.{show-carries, show-stops}
-use Rattle.inspect_replay.proofs.FollowLemmas.{kept-run, some-printed}
+use Rattle.inspect_replay.proofs.FollowLemmas.{kept-run}
+use Rattle.replay_parts.proofs.StopLemmas.{some-printed}
 use Rattle.inspect_replay.proofs.run.show_front.Goals as goal
 
 pub returns-in-Ok : goal.returns-in-Ok

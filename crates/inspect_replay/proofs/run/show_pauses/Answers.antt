@@ -3,7 +3,8 @@ use Rattle.std.proofs.Common.{rules, length, Ok, Err}
 use Rattle.replay_script.specs.Forms.{show_pauses}
 use Rattle.inspect_replay.specs.Prints.{numbered_line}
 use Rattle.inspect_replay.proofs.RunLemmas.{Untold, show-stops, pauses-carried, pauses-stop}
-use Rattle.inspect_replay.proofs.FollowLemmas.{kept-run, told-run, some-printed}
+use Rattle.inspect_replay.proofs.FollowLemmas.{kept-run, told-run}
+use Rattle.replay_parts.proofs.StopLemmas.{some-printed}
 use Rattle.inspect_replay.proofs.run.show_pauses.Goals as goal
 
 pub returns-in-Err : goal.returns-in-Err

@@ -4,7 +4,8 @@ use Rattle.front_mirror.specs.Front.{FrontState}
 use Rattle.replay_script.specs.Forms.{show_sheets}
 use Rattle.inspect_replay.specs.Prints.{numbered_line}
 use Rattle.inspect_replay.proofs.RunLemmas.{sheets-carries, show-stops}
-use Rattle.inspect_replay.proofs.FollowLemmas.{kept-run, some-printed}
+use Rattle.inspect_replay.proofs.FollowLemmas.{kept-run}
+use Rattle.replay_parts.proofs.StopLemmas.{some-printed}
 use Rattle.inspect_replay.proofs.run.show_sheets.Goals as goal
 
 pub returns-in-Ok : goal.returns-in-Ok

@@ -4,10 +4,12 @@ use Rattle.replay_script.specs.Forms.{show_styles}
 use Rattle.inspect_replay.specs.Followed.{fold_since}
 use Rattle.inspect_replay.specs.Prints.{numbered_line}
 use Rattle.inspect_replay.proofs.RunLemmas.{show-stops}
-use Rattle.inspect_replay.proofs.LinesRun.{stopped-line, settled-run, settled-stop}
+use Rattle.inspect_replay.proofs.LinesRun.{stopped-line}
+use Rattle.replay_parts.proofs.CauseLemmas.{settled-run}
 use Rattle.inspect_replay.proofs.LinesTell.{stopped-tells}
 use Rattle.inspect_replay.proofs.StylesLemmas.{styles-carry, styles-tell}
 use Rattle.inspect_replay.proofs.FollowLemmas.{kept-run, run-fewer}
+use Rattle.replay_parts.proofs.CauseLemmas.{settled-stop}
 use Rattle.inspect_replay.proofs.run.show_styles.Goals as goal
 
 pub returns-in-Ok-clause-plays : goal.returns-in-Ok-clause-plays

@@ -1,8 +1,8 @@
 -- A stop is the status that was served.
 use Rattle.std.proofs.Common.{Ok, Err, sym, subst}
 use Rattle.inspect_replay.specs.Served.{first_paired}
-use Rattle.inspect_replay.specs.declared.status.Status.TheVariants.{Done}
-use Rattle.inspect_replay.specs.Answers.{StatusRose}
+use Rattle.replay_parts.specs.declared.status.Status.TheVariants.{Done}
+use Rattle.replay_parts.specs.Answers.{StatusRose}
 use Rattle.inspect_replay.specs.Serving.{ServeCall, ShareTook, IsShareStatus}
 use Rattle.inspect_replay.proofs.ServeEnds.{end-took, stop-served, share-status, stop-rose, served-reads}
 use Rattle.inspect_replay.proofs.FaultAnswers.{answers-faults, stop-answers}

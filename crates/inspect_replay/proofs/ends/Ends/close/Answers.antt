@@ -1,8 +1,8 @@
 -- The front end finds the panel at its place, and drops it there.
 use Rattle.std.proofs.Common.{◌∙◌, ap}
 use Rattle.inspect_world.specs.Held.{with_panels}
-use Rattle.inspect_replay.proofs.PanelLemmas.{stands-open, dropped-is}
 use Rattle.inspect_replay.proofs.SameEnds.{front-same}
+use Rattle.replay_parts.proofs.ClosedPanels.{stands-open, dropped-is}
 use Rattle.inspect_replay.proofs.ends.Ends.close.Goals as goal
 
 pub returns-clause-stood : goal.returns-clause-stood

@@ -1,6 +1,6 @@
 -- The texts that are old are fetched.
 use Rattle.std.proofs.Common.{rules, subst, ◌∙◌}
-use Rattle.inspect_replay.specs.Moments.{moment}
+use Rattle.replay_parts.specs.Moments.{moment}
 use Rattle.inspect_replay.specs.Runs.{FetchesAll}
 use Rattle.inspect_replay.proofs.ends.Ends.fetch_stale.Goals as goal
 

@@ -1,6 +1,6 @@
 -- A frame for which there is room is answered whole, or in part where the write stops.
 use Rattle.std.proofs.Common.{[], ◌∷◌, refl}
-use Rattle.inspect_replay.specs.declared.stop.Stop.TheVariants.{WriteFault, Memory}
+use Rattle.replay_parts.specs.declared.stop.Stop.TheVariants.{WriteFault, Memory}
 use Rattle.inspect_replay.specs.Serving.{serve_moment}
 use Rattle.inspect_replay.proofs.ServeLemmas.{frame-answered, frame-in-part, frame-halted, frame-lost, full-first}
 use Rattle.inspect_replay.proofs.ClientLemmas.{room-there, no-room-there}

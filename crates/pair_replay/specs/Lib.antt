@@ -1,0 +1,7 @@
+pub mod Tellings
+pub mod PairAnswers
+pub mod Judged
+pub mod Running
+pub mod Following
+pub mod Playing
+pub mod PairStarts

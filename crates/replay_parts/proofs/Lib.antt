@@ -1,0 +1,10 @@
+pub mod PageLemmas
+pub mod SheetLineLemmas
+pub mod PanelLineLemmas
+pub mod PauseLineLemmas
+pub mod StyleLineLemmas
+pub mod StopLemmas
+pub mod CauseLemmas
+pub mod ClosedPanels
+pub mod InputLemmas
+pub mod ValueLemmas

@@ -1,0 +1,9 @@
+pub mod Statuses
+pub mod Says
+pub mod Answers
+pub mod Stops
+pub mod Moved
+pub mod Moments
+pub mod Printed
+pub mod Manners
+pub mod Reads

@@ -1,0 +1,32 @@
+//! What runs of a script have in common, with one front end and with two: the link's calls, why a run stops and what each stop says, and
+//! what the shows of a script print.
+//!
+//! Promise: each call says what it sent or took, or wrote; a stop by a fault comes only where a count of faults rose.
+//!
+//! Way in: `send_up` .. `receive_down` over a link, `print_outline` .. `print_fault` over a sink, `Stop` for why a run ends early, `Status`
+//! for how the program ended, with `status_line` and `exit_code`.
+//!
+//! Law: none of its own. What each answer says is one table (`says`, specs/Says); the clauses on answers stand in specs/Answers and
+//! specs/Stops, one moment of a run in specs/Moments.
+#![tactic(auto)]
+
+mod moments;
+mod page_lines;
+mod panel_lines;
+mod pause_lines;
+mod pipes;
+mod sheet_lines;
+mod show;
+mod status;
+mod stop;
+mod style_lines;
+
+pub use moments::{Printed, Watched};
+pub use page_lines::page_text;
+pub use pipes::{receive_down, receive_up, send_down, send_up};
+pub use show::{
+    print_fault, print_matched, print_outline, print_page, print_panels, print_pauses,
+    print_replies, print_sheets,
+};
+pub use status::{Status, exit_code, status_line};
+pub use stop::Stop;
