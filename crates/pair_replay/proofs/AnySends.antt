@@ -12,7 +12,6 @@ use Rattle.serde_json.specs.Find.{as_object}
 use Rattle.cdp_json.specs.declared.fields.Field.TheVariants.{Missing}
 use Rattle.cdp_json.specs.Fields.{field_if}
 use Rattle.cdp_json.specs.Kinds.{is_counted, holds_of_some}
-use Rattle.cdp_json.specs.Plain.{is_plain}
 use Rattle.cdp_json.proofs.ReadBack.{IsUtf8-compact_text}
 use Rattle.css_objects.specs.Sheets.{sheet_text}
 use Rattle.node_tree.specs.Numbers.{first_fetch, counted_limit}
@@ -21,7 +20,6 @@ use Rattle.cdp_messages.specs.Asked.{command_value, command_text}
 use Rattle.cdp_messages.specs.Events.{is_object}
 use Rattle.cdp_messages.specs.SessionFrames.{session_name}
 use Rattle.cdp_messages.proofs.Commands.{ask_plain}
-use Rattle.cdp_messages.proofs.ZeroFree.{texts_have_no_zero}
 use Rattle.front_mirror.specs.Front.{FrontState, fetch_params}
 use Rattle.replay_script.specs.Forms.{AskForm}
 use Rattle.replay_script.specs.Sound.{CanSend}
@@ -43,16 +41,11 @@ use Rattle.pair_world.proofs.MessageTexts.{texts-of}
 use Rattle.pair_world.proofs.TargetTexts.{whole-read}
 use Rattle.pair_world.proofs.WayLemmas.{command-read, attach-command, asks-are-the-roots, asks-are-the-sessions, targets-are-known}
 use Rattle.pair_world.proofs.DeedLemmas.{ask-id, ask-command, ask-alone, ask-of-no-target, both-of, object-params}
+use Rattle.pair_world.proofs.SendLemmas.{command-letters}
 use Rattle.pair_replay.specs.PairStarts.{may_ask_on}
 use Rattle.pair_replay.proofs.ReplyIds.{utf8-text}
 
 -- ---- texts
-
--- a command has no zero byte
-letters-of : (id : ℕ) (method : List ℕ) (params session : Option Data) → IsCommand id method params session
-    → holds_of_some is_plain session ≡ true → IsText (command_text id method params session)
-letters-of id method params session c plain =
-    texts_have_no_zero (command_value id method params session) (ask_plain id method params session c.counted c.plain plain)
 
 -- a command is one in a session of any text
 in-session : (id : ℕ) (method t : List ℕ) (params : Option Data) → IsUtf8 t → IsCommand id method params None
@@ -106,7 +99,7 @@ first-asked up down s a is can may small =
     let id = s.pair.one.next in
     let text = command_text id a.method a.params None in
     let c : IsCommand id a.method a.params None = ask-command a id (ask-id id (omega (arith, small))).0 can (ask-alone a may) in
-    let letters = letters-of id a.method a.params None c refl in
+    let letters = command-letters id a.method a.params None c refl in
     record {
       letters = letters;
       fold = first-asks up_reads up down text a.method s is (record {
@@ -128,7 +121,7 @@ second-asked up down s a w is stands can may small =
     ask-command a id (ask-id id (omega (arith, small))).0 can (ask-alone a parts.0) in
     let c : IsCommand id a.method a.params (Some (string w.text)) =
     in-session id a.method w.text a.params (attached-utf8 s.pair.top s.pair.two w stands is.second) plain in
-    let letters = letters-of id a.method a.params (Some (string w.text)) c refl in
+    let letters = command-letters id a.method a.params (Some (string w.text)) c refl in
     record {
       letters = letters;
       fold = second-asks up_reads up down (command_text id a.method a.params (Some (string w.text))) a.method s w is stands (record {
@@ -177,7 +170,7 @@ first-fetched up down s sheet is room fits =
     let text = fetch_text false s.pair sheet in
     let small : 2 ^ 30 + count < 2 ^ 53 = omega (arith, room) in
     let c = fetch-command count sheet small fits in
-    let letters = letters-of (first_fetch + count) (codes "CSS.getStyleSheetText") (Some (fetch_params sheet)) None c refl in
+    let letters = command-letters (first_fetch + count) (codes "CSS.getStyleSheetText") (Some (fetch_params sheet)) None c refl in
     record {
       letters = letters;
       fold = first-fetches up_reads up down text sheet s is (record {
@@ -201,7 +194,7 @@ second-fetched up down s sheet w is stands room fits =
     let small : 2 ^ 30 + count < 2 ^ 53 = omega (arith, room) in
     let plain = fetch-command count sheet small fits in
     let c = in-session id method w.text params (attached-utf8 s.pair.top s.pair.two w stands is.second) plain in
-    let letters = letters-of id method params (Some (string w.text)) c refl in
+    let letters = command-letters id method params (Some (string w.text)) c refl in
     record {
       letters = letters;
       fold = second-fetches up_reads up down (command_text id method params (Some (string w.text))) sheet s w is stands (record {
@@ -261,7 +254,7 @@ pub attach-folds : (up down : List ℕ) (s : FrontsState) → IsFoldOfBoth up_re
     → IsFolded up down (attach_text s.next) (after_target s attach)
 attach-folds up down s is small =
     let counted : is_counted s.next ≡ true = lt-ltb s.next counted_limit small in
-    let letters = letters-of s.next (codes "Target.attachToTarget") _ None (attach-command s.next counted) refl in
+    let letters = command-letters s.next (codes "Target.attachToTarget") _ None (attach-command s.next counted) refl in
     record {
       letters = letters;
       fold = both-attach up_reads up down (attach_text s.next) s is letters
@@ -313,7 +306,7 @@ detach-folds up down s w is stands small =
     let counted : is_counted s.next ≡ true = lt-ltb s.next counted_limit small in
     let u = attached-utf8 s.pair.top s.pair.two w stands is.second in
     let c = detach-any s.next w.text counted u in
-    let letters = letters-of s.next detach_method (Some (detach_params w.text)) None c refl in
+    let letters = command-letters s.next detach_method (Some (detach_params w.text)) None c refl in
     record {
       letters = letters;
       fold = both-detach up_reads up down (detach_text s.next w.text) w.text s is letters (detach-way s.next w.text counted u);

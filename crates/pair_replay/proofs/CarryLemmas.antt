@@ -1,5 +1,5 @@
 -- Over an honest link both runs go on over a line that sends a frame, makes a step, delivers bytes, or attaches and detaches a session.
-use Rattle.std.proofs.Common.{◌≡◌, ℕ, ◌+◌, ◌*◌, ◌≤◌, List, [], ◌∷◌, ◌++◌, Bool, true, false, cond, is_some, Option, Some, None}
+use Rattle.std.proofs.Common.{◌≡◌, ℕ, ◌+◌, ◌≤◌, List, [], ◌∷◌, ◌++◌, Bool, true, false, cond, is_some, Option, Some, None}
 use Rattle.std.proofs.Common.{option_and_then, codes, refl, sym, ◌∙◌, ap, subst, arith, Result, Ok, Err}
 use Rattle.std.specs.Prelude.{⊤}
 use Rattle.std.specs.Result.{OnOk, OnErr}
@@ -34,14 +34,16 @@ use Rattle.back_end.specs.Plans.{act_fault}
 use Rattle.multi_replay.specs.States.{is_there}
 use Rattle.inspect_world.specs.ActTexts.{act_text}
 use Rattle.inspect_world.specs.Costs.{least_line}
-use Rattle.inspect_world.specs.Fits.{ask_by, IsBare, most_bytes}
+use Rattle.inspect_world.specs.Fits.{ask_by, IsBare}
 use Rattle.inspect_world.specs.Scripts.{page_line}
 use Rattle.pair_world.specs.PairFits.{PageSessions}
-use Rattle.pair_world.specs.PairRuns.{PairSpent, PairPlainlySpent, PairAudience, PairRun, pair_plainly, none_more, one_ask_on}
+use Rattle.pair_world.specs.PairRuns.{PairPlainlySpent, PairAudience, PairRun, pair_plainly, none_more, one_ask_on}
 use Rattle.pair_world.specs.PairRuns.{state_on}
 use Rattle.pair_world.specs.PairScripts.{deeds, session_on, pair_telling, after_pair_line, pair_line_text, pair_lacking}
-use Rattle.pair_world.specs.PairFresh.{fresh_pair_line, PairTogether, PairHasLeft, DeedsHaveRoom, line_or}
+use Rattle.pair_world.specs.PairFresh.{fresh_pair_line, PairTogether, DeedsHaveRoom, line_or}
 use Rattle.pair_world.specs.PairHeld.{calm}
+use Rattle.pair_world.proofs.PairScriptLemmas.{no-ask-by}
+use Rattle.pair_world.proofs.FetchLines.{ask-left}
 use Rattle.replay_parts.specs.declared.stop.Stop.{Stop}
 use Rattle.replay_parts.specs.declared.stop.Stop.TheVariants.{Line}
 use Rattle.replay_parts.specs.Moments.{Moment, scene}
@@ -178,29 +180,6 @@ act-passes a is_turn = record {
   roomy = λ told v room. room.0;
 }
 
--- one ask more leaves room for the lines behind it
-left-asked : (second : Bool) (n : PairSpent) (k : ℕ) → PairHasLeft n (k + least_line) → PairHasLeft (one_ask_on second n) k
-left-asked false n k left =
-    let rest : PairHasLeft n k = left-fewer n k (k + least_line) (omega arith) left in
-    let asks : n.asks * 4 + (k + 4) ≤ most_bytes = left.asks in
-    record {
-      asks = omega (arith, asks);
-      second_asks = rest.second_asks;
-      targets = rest.targets;
-      fetches = rest.fetches;
-      second_fetches = rest.second_fetches;
-    }
-left-asked true n k left =
-    let rest : PairHasLeft n k = left-fewer n k (k + least_line) (omega arith) left in
-    let second_asks : n.second_asks * 4 + (k + 4) ≤ most_bytes = left.second_asks in
-    record {
-      asks = rest.asks;
-      second_asks = omega (arith, second_asks);
-      targets = rest.targets;
-      fetches = rest.fetches;
-      second_fetches = rest.second_fetches;
-    }
-
 -- the first front end asks
 pub first-ask-passes : (a : AskForm) → CanSend a → may_ask_on false a ≡ true → PassesAs (of_first (forms.ask a)) (sending_ask false a)
 first-ask-passes a can may = record {
@@ -211,7 +190,7 @@ first-ask-passes a can may = record {
       subst (λ t. PairTogether IsPlainOfPair more (sent_up text (one_ask_on false) w) (sent_up t (one_ask_on false) v))
       (ap (λ (n : PairPlainlySpent). command_text (n.asks + 1) a.method a.params None) same)
       (sent-together more (more + least_line) text (one_ask_on false) w v go
-      (ap (λ (n : PairPlainlySpent). record n { asks = n.asks + 1 }) same) (left-asked false v.spent more both.left) both);
+      (ap (λ (n : PairPlainlySpent). record n { asks = n.asks + 1 }) same) (ask-left false v.spent more both.left) both);
   told = λ w. refl;
   may = λ v. refl;
   mode = refl;
@@ -238,7 +217,7 @@ second-ask-passes a can may = record {
       (ap (λ (n : PairPlainlySpent). command_text (n.second_asks + 1) a.method a.params (session_on true w.state.attached)) same
       ∙ ap (λ (s : PageSessions). command_text (v.spent.second_asks + 1) a.method a.params (session_on true s.attached)) state)
       (sent-together more (more + least_line) text (one_ask_on true) w v go
-      (ap (λ (n : PairPlainlySpent). record n { second_asks = n.second_asks + 1 }) same) (left-asked true v.spent more both.left) both);
+      (ap (λ (n : PairPlainlySpent). record n { second_asks = n.second_asks + 1 }) same) (ask-left true v.spent more both.left) both);
   told = λ w. refl;
   may = λ v. refl;
   mode = refl;
@@ -393,12 +372,6 @@ ask-carries result old new taken number sink0 sink1 link0 link1 a can may cause 
     (sym (play-stands old.honest up0 down0 old.up old.down (more + least_line) w v old.ends play) ∙ there)) play
 
 -- ---- what may be done with a line
-
--- a text that names no ask by its id is none
-no-ask-by : {A B C : Type 0} (f : A → Option B) (g : A → B → Option C) (o : Option A) → option_and_then f o ≡ None
-    → option_and_then (λ a. option_and_then (g a) (f a)) o ≡ None
-no-ask-by f g None e = refl
-no-ask-by f g (Some a) e = ap (option_and_then (g a)) e
 
 -- a text that may be sent as it is names no ask
 pub sound-bare : (text : List ℕ) → IsSoundFrame text → IsBare text

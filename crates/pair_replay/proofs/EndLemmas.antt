@@ -46,7 +46,7 @@ use Rattle.pair_world.proofs.PairCalls.{answered_in, turned_in}
 use Rattle.replay_parts.specs.declared.stop.Stop.{Stop}
 use Rattle.replay_parts.specs.declared.stop.Stop.TheVariants.{Line, TooLong, ReadFault, WriteFault, LinkFault, FrontRefused, NoRoom}
 use Rattle.replay_parts.specs.declared.stop.Stop.TheVariants.{Memory}
-use Rattle.replay_parts.specs.Stops.{GoesWell, RoseFor}
+use Rattle.replay_parts.specs.Stops.{RoseFor}
 use Rattle.replay_parts.specs.Says.{Counts}
 use Rattle.replay_parts.specs.Moments.{moment}
 use Rattle.pair_replay.specs.declared.ends.PairEnds.{PairEnds}
@@ -54,21 +54,10 @@ use Rattle.pair_replay.specs.PairStarts.{may_ask_on}
 use Rattle.pair_replay.specs.PairAnswers.{RoomTold}
 use Rattle.pair_replay.specs.Running.{pair_ends_of, InPairRunWith, InPairRun, PairAnswersOne, PairAnswersAll}
 use Rattle.pair_replay.proofs.FollowLemmas.{Sent, Told}
+use Rattle.pair_replay.proofs.StopLemmas.{room-there}
 use Rattle.replay_parts.proofs.ValueLemmas.{refs-seen}
 
 -- ---- room
-
--- what goes well says nothing against room that is there
-pub room-given : {T : Type 0} (result : Result T Stop) (Room : Type 0) → GoesWell result → Room → RoomTold result Room
-room-given (Ok value) Room never room = room
-room-given (Err (Line number fault)) Room never room = room
-room-given (Err TooLong) Room never room = tt
-room-given (Err ReadFault) Room never room = tt
-room-given (Err WriteFault) Room never room = tt
-room-given (Err LinkFault) Room never room = tt
-room-given (Err (FrontRefused place kind)) Room never room = absurd never
-room-given (Err NoRoom) Room never room = absurd never
-room-given (Err Memory) Room never room = tt
 
 -- over an honest link the front ends have ids, where there are for what is sent
 pub has-ids : (mode : Mode) (up0 down0 up down : Pipe) (w : PairRun) (frames : List (List ℕ)) (e : held.PairEnds)
@@ -134,7 +123,7 @@ module _ {P : Type 0} {g : Ghosts P} (result : Result (Unit {0}) Stop) (honest h
       let r = as-calm honest mode up0 down0 up down w e is run in
       let here = r.so_far.in_world in
       let after : PairRun = sent_up (next_ask second a w) (one_ask_on second) w in (
-        room-given result ⊤ s.never tt,
+        room-there result ⊤ s.never tt,
         from-calm result honest1 mode up0 down0 up1 down1 after e1 is
             (sent-run result honest1 calm up0 down0 up down up1 down1 after (record e { fronts = fronts }) e1 bytes s
             (keeps r.so_far.is_honest) r.none_whole
@@ -154,7 +143,7 @@ module _ {P : Type 0} {g : Ghosts P} (result : Result (Unit {0}) Stop) (honest h
   fetched-goes second sheet stands fits few r frame_is fronts_is same =
       let here = r.so_far.in_world in
       let after : PairRun = fetch_sent second sheet w.state.attached w in (
-        room-given result ⊤ s.never tt,
+        room-there result ⊤ s.never tt,
         sent-run result honest1 calm up0 down0 up down up1 down1 after (record e { fronts = fronts }) e1 bytes s
             (keeps r.so_far.is_honest) r.none_whole
             (world-waits calm up0 down0 up down w (e.splitter.whole ++ awaited w.up) (pair_ends_of e) here).0
@@ -173,7 +162,7 @@ module _ {P : Type 0} {g : Ghosts P} (result : Result (Unit {0}) Stop) (honest h
       let r = as-calm honest mode up0 down0 up down w e is run in
       let here = r.so_far.in_world in
       let after : PairRun = sent_up (attach_text (next_target w.spent)) one_attach w in (
-        room-given result ⊤ s.never tt,
+        room-there result ⊤ s.never tt,
         sent-run result honest1 targeted up0 down0 up down up1 down1 after (record e { fronts = fronts }) e1 bytes s
             (keeps r.so_far.is_honest) r.none_whole
             (world-waits calm up0 down0 up down w (e.splitter.whole ++ awaited w.up) (pair_ends_of e) here).0
@@ -193,7 +182,7 @@ module _ {P : Type 0} {g : Ghosts P} (result : Result (Unit {0}) Stop) (honest h
       let r = as-calm honest mode up0 down0 up down w e is run in
       let here = r.so_far.in_world in
       let after : PairRun = detach_sent w.state.attached w in (
-        room-given result ⊤ s.never tt,
+        room-there result ⊤ s.never tt,
         sent-run result honest1 targeted up0 down0 up down up1 down1 after (record e { fronts = fronts }) e1 bytes s
             (keeps r.so_far.is_honest) r.none_whole
             (world-waits calm up0 down0 up down w (e.splitter.whole ++ awaited w.up) (pair_ends_of e) here).0
@@ -213,7 +202,7 @@ raw-goes result honest honest1 mode up0 down0 up down up1 down1 w e e1 text fram
     let r = as-calm honest mode up0 down0 up down w e is run in
     let here = r.so_far.in_world in
     let after : PairRun = sent_up text none_more w in (
-      room-given result ⊤ s.never tt,
+      room-there result ⊤ s.never tt,
       from-calm result honest1 mode up0 down0 up1 down1 after e1 is
           (sent-run result honest1 calm up0 down0 up down up1 down1 after e e1 bytes s (keeps r.so_far.is_honest) r.none_whole
           (world-waits calm up0 down0 up down w (e.splitter.whole ++ awaited w.up) (pair_ends_of e) here).0
@@ -272,7 +261,7 @@ module _ {P : Type 0} {g : Ghosts P} (result : Result (Unit {0}) Stop) (honest h
       let here = r.so_far.in_world in
       let has : PairRoom w.state = world-has-room mode up0 down0 up down w (e.splitter.whole ++ awaited w.up) (pair_ends_of e) here room in
       let after : PairRun = turned none_more (pair_act pair_reads client_steps) x w in (
-        room-given result (PairRoom w.state) t.never has,
+        room-there result (PairRoom w.state) t.never has,
         whole-run result honest1 mode up0 down0 up1 down1 after e1 (ap (λ (f : Frames). f.whole) t.same ∙ r.none_whole)
             (told-run result honest1 mode up0 down0 up down up1 down1 after (record (pair_ends_of e) { mux = mux; side = side }) e.splitter
             e1 bytes t (keeps r.so_far.is_honest)
@@ -293,7 +282,7 @@ module _ {P : Type 0} {g : Ghosts P} (result : Result (Unit {0}) Stop) (honest h
       let frames = e.splitter.whole ++ awaited w.up in
       let has : PairRoom w.state = world-has-room mode up0 down0 up down w (frame ∷ frames) (pair_ends_of e) here room in
       let after : PairRun = answered (pair_step pair_reads client_steps) (frame ∷ []) w in (
-        room-given result (PairRoom w.state) t.never has,
+        room-there result (PairRoom w.state) t.never has,
         told-run result honest1 mode up0 down0 up down up1 down1 after (record (pair_ends_of e) { mux = mux; side = side }) e.splitter
             e1 bytes t (keeps is_honest)
             (world-waits mode up0 down0 up down w (frame ∷ frames) (pair_ends_of e) here).1

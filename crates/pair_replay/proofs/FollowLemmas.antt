@@ -40,7 +40,7 @@ use Rattle.pair_replay.specs.PairStarts.{may_ask_on}
 use Rattle.pair_replay.specs.PairAnswers.{PairPassed, pair_since, PairGivesNoMore, PairStopFolds}
 use Rattle.pair_replay.specs.Following.{FollowsPairWith, FollowsPairRun, KeepsPairAnswer}
 use Rattle.pair_replay.proofs.AnySends.{IsFolded, asked-folds, fetched-folds, attach-folds, detach-folds, second-there}
-use Rattle.pair_replay.proofs.PairLinkLemmas.{few-more, few-one, follows-fewer, follows-sent, follows-given_up, follows-answered}
+use Rattle.pair_replay.proofs.PairLinkLemmas.{few-more, few-one, follows-sent, follows-given_up, follows-answered}
 use Rattle.pair_replay.proofs.PairLinkLemmas.{follows-turned}
 use Rattle.pair_replay.proofs.PairLinkLemmas.{follows-delivered_down, follows-refused, follows-fold, follows-less, front-full, seat-full}
 
@@ -88,12 +88,6 @@ pub kept-run : {P : Type 0} {g : Ghosts P} {T : Type 0} (result : Result T Stop)
 kept-run (Ok value) start up0 down0 up down e never run = (run, run-good start up0 down0 up down e run)
 kept-run (Err stop) start up0 down0 up down e never run =
     (tt, stop-folds stop (pair_since up0 down0 up down) never (run-good start up0 down0 up down e run))
-
--- a line that makes no step of the script
-pub run-fewer : {P : Type 0} {g : Ghosts P} (start : PairStarted) (up0 down0 up down : Pipe) (e : PairEnds P g)
-    → FollowsPairRun (one_pair_line_more start) up0 down0 up down e → FollowsPairRun start up0 down0 up down e
-run-fewer start up0 down0 up down e run =
-    record { so_far = follows-fewer start up0 down0 up down e.splitter.whole (pair_ends_of e) run.so_far; none_whole = run.none_whole }
 
 -- where the front ends have no id left, the call stops
 pub front-stops : {P : Type 0} {g : Ghosts P} (start : PairStarted) (up0 down0 up down : Pipe) (e : PairEnds P g)

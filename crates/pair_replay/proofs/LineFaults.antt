@@ -1,5 +1,5 @@
 -- Why a line in form is refused, by what it meets: over every link, and in the run of the script.
-use Rattle.std.proofs.Common.{◌≡◌, ℕ, ◌+◌, List, [], ◌∷◌, ◌++◌, Bool, true, false, cond, is_some, Option, Some, None, option_map, refl, sym}
+use Rattle.std.proofs.Common.{◌≡◌, ℕ, List, [], ◌∷◌, ◌++◌, Bool, true, false, cond, is_some, Option, Some, None, option_map, refl, sym}
 use Rattle.std.proofs.Common.{◌∙◌, ap}
 use Rattle.std.proofs.Common.{codes, append_assoc, append-nil, Result, Ok, Err}
 use Rattle.std.specs.Result.{OnOk}
@@ -30,7 +30,7 @@ use Rattle.pair_replay.specs.declared.ends.PairEnds.{PairEnds}
 use Rattle.pair_replay.specs.PairStarts.{line_on}
 use Rattle.pair_replay.specs.PairAnswers.{pair_since, moment_of}
 use Rattle.pair_replay.specs.Judged.{fault_at}
-use Rattle.pair_replay.specs.Following.{FollowsPairRun, KeepsPair, LineJudged, PairLineTells}
+use Rattle.pair_replay.specs.Following.{FollowsPairRun, KeepsPair, LineJudged, PairLineTells, numbered_pair}
 use Rattle.pair_replay.proofs.PairFollows.{later-still, run-fold, run-later, run-here, run-fewer}
 use Rattle.replay_parts.proofs.StopLemmas.{at-end, part-not-ended}
 
@@ -145,7 +145,7 @@ pub judged-after : {P : Type 0} {g : Ghosts P} {T : Type 0} (result : Result T S
     → FollowsPairRun start up0 down0 mid.up mid.down mid.ends)
     → ((start : PairStarted) (up0 down0 : Pipe) → FollowsPairRun start up0 down0 mid.up mid.down mid.ends
     → RunTells result (numbered_or number (fault_at (moment_of up0 down0 mid.up mid.down) start.panels form) None))
-    → PairLineTells number form old mid result
+    → PairLineTells (numbered_pair number form) old mid result
 judged-after result number form old mid keeps tells = λ start up0 down0 run.
     let before = moment_of up0 down0 old.up old.down in
     let begun = pair_started start.pair start.lines start.panels before in
@@ -167,7 +167,7 @@ pub tells-now : {P : Type 0} {g : Ghosts P} {T U : Type 0} (value : U) (result :
     → KeepsPair {T = U} old mid (Ok value)
     → ((start : PairStarted) (up0 down0 : Pipe) → FollowsPairRun start up0 down0 mid.up mid.down mid.ends
     → RunTells result (numbered_or number (fault_at (moment_of up0 down0 mid.up mid.down) start.panels form) None))
-    → PairLineTells number form old mid result
+    → PairLineTells (numbered_pair number form) old mid result
 tells-now value result number form old mid keeps tells =
     judged-after result number form old mid
     (λ start up0 down0 run. (keeps start up0 down0 (run-fewer start up0 down0 old.up old.down old.ends run)).0) tells
@@ -177,7 +177,7 @@ pub tells-amid : {P : Type 0} {g : Ghosts P} (number : ℕ) (form : PairForm) (o
     → KeepsPair {T = Unit {0}} old mid (Ok tt) → KeepsPair {T = Unit {0}} mid new (Ok tt)
     → ((start : PairStarted) (up0 down0 : Pipe) → FollowsPairRun start up0 down0 mid.up mid.down mid.ends
     → fault_at (moment_of up0 down0 mid.up mid.down) start.panels form ≡ None)
-    → PairLineTells {T = Unit {0}} number form old new (Ok tt)
+    → PairLineTells {T = Unit {0}} (numbered_pair number form) old new (Ok tt)
 tells-amid number form old mid new first then good = λ start up0 down0 run.
     let before = moment_of up0 down0 old.up old.down in
     let m = moment_of up0 down0 mid.up mid.down in
@@ -202,7 +202,7 @@ pub call-tells : {P : Type 0} {g : Ghosts P} (result : Result (Unit {0}) Stop) (
     → ((m : LinkMoment) (panels : List (Option PanelKind)) → fault_at m panels form ≡ None) → HasStopCause sink0 sink1 link0 link1 result
     → ((start : PairStarted) (up0 down0 : Pipe) → FollowsPairRun (one_pair_line_more start) up0 down0 old.up old.down old.ends
     → OnOk result (FollowsPairRun start up0 down0 new.up new.down new.ends))
-    → PairLineTells number form old new result
+    → PairLineTells (numbered_pair number form) old new result
 call-tells (Ok value) number form old new sink0 sink1 link0 link1 good cause keeps =
     judged-after (Ok value) number form old new keeps
     (λ start up0 down0 run. ap (λ o. numbered_or number o None) (good (moment_of up0 down0 new.up new.down) start.panels))
@@ -215,7 +215,8 @@ call-tells (Err stop) number form old new sink0 sink1 link0 link1 good cause kee
 -- a stop amid a run says nothing of lines
 pub tells-not : {P : Type 0} {g : Ghosts P} (stop : Stop) (number : ℕ) (form : PairForm) (old mid : Moment (PairEnds P g))
     (sink0 sink1 link0 link1 : ℕ)
-    → HasStopCause {T = Unit {0}} sink0 sink1 link0 link1 (Err stop) → PairLineTells {T = Unit {0}} number form old mid (Err stop)
+    → HasStopCause {T = Unit {0}} sink0 sink1 link0 link1 (Err stop)
+    → PairLineTells {T = Unit {0}} (numbered_pair number form) old mid (Err stop)
 tells-not stop number form old mid sink0 sink1 link0 link1 cause = λ start up0 down0 run.
     part-not-ended stop sink0 sink1 link0 link1
     (LineJudged {T = Unit {0}} (moment_of up0 down0 old.up old.down) (moment_of up0 down0 mid.up mid.down) start.panels number form

@@ -25,7 +25,7 @@ use Rattle.pair_replay.specs.declared.ends.PairEnds.{PairEnds}
 use Rattle.pair_replay.specs.PairStarts.{line_on}
 use Rattle.pair_replay.specs.PairAnswers.{moment_of}
 use Rattle.pair_replay.specs.Judged.{fault_at}
-use Rattle.pair_replay.specs.Following.{FollowsPairRun, KeepsPair, pair_passing, PairLinePasses, PairLineTells}
+use Rattle.pair_replay.specs.Following.{FollowsPairRun, KeepsPair, pair_passing, PairLinePasses, PairLineTells, numbered_pair}
 use Rattle.pair_replay.proofs.PairFollows.{run-well, kept-run, run-fewer}
 use Rattle.pair_replay.proofs.LineFaults.{show_fault, link-show, link-none, link-styles, link-session, tells-now, tells-amid, tells-not}
 use Rattle.replay_parts.proofs.StopLemmas.{closed-tells}
@@ -72,7 +72,8 @@ told-passes form old mid new still told keeps =
 pub none-tells : {P : Type 0} {g : Ghosts P} (second : Bool) (form : LineForm) (stop : Stop) (number : ℕ) (old mid : Moment (PairEnds P g))
     → ((panels : List (Option PanelKind)) → panel_fault panels form ≡ None) → stop ≡ Line number BadSession
     → is_there second mid.ends.fronts.pair ≡ false
-    → KeepsPair {T = Unit {0}} old mid (Ok tt) → PairLineTells {T = Unit {0}} number (line_on second form) old mid (Err stop)
+    → KeepsPair {T = Unit {0}} old mid (Ok tt)
+    → PairLineTells {T = Unit {0}} (numbered_pair number (line_on second form)) old mid (Err stop)
 none-tells second form stop number old mid keeps is none follows =
     tells-now {T = Unit {0}} {U = Unit {0}} tt (Err stop) number (line_on second form) old mid follows
     (λ start up0 down0 run.
@@ -86,7 +87,7 @@ pub show-tells : {P : Type 0} {g : Ghosts P} (second : Bool) (form : LineForm) (
     (old mid : Moment (PairEnds P g)) (sink0 sink1 link0 link1 : ℕ)
     → ((panels : List (Option PanelKind)) → panel_fault panels form ≡ None) → ((came : ℕ → Bool) → styles_fault came form ≡ None)
     → HasStopCause sink0 sink1 link0 link1 result → is_there second mid.ends.fronts.pair ≡ true
-    → KeepsPair {T = Unit {0}} old mid (Ok tt) → PairLineTells number (line_on second form) old mid result
+    → KeepsPair {T = Unit {0}} old mid (Ok tt) → PairLineTells (numbered_pair number (line_on second form)) old mid result
 show-tells second form result number old mid sink0 sink1 link0 link1 keeps plain cause there follows =
     tells-now {U = Unit {0}} tt result number (line_on second form) old mid follows
     (λ start up0 down0 run.
@@ -101,7 +102,7 @@ pub styles-tell : {P : Type 0} {g : Ghosts P} (second : Bool) (ask : ℕ) (found
     (old mid : Moment (PairEnds P g))
     → RunTells result (numbered_or number (styles_missing (is_some found)) None) → is_there second mid.ends.fronts.pair ≡ true
     → found ≡ matched_in ask (front_meant second mid.ends.fronts.pair).value.matched
-    → KeepsPair {T = Unit {0}} old mid (Ok tt) → PairLineTells number (line_on second (show_styles ask)) old mid result
+    → KeepsPair {T = Unit {0}} old mid (Ok tt) → PairLineTells (numbered_pair number (line_on second (show_styles ask))) old mid result
 styles-tell second ask found result number old mid tells there is follows =
     tells-now {U = Unit {0}} tt result number (line_on second (show_styles ask)) old mid follows
     (λ start up0 down0 run.
@@ -153,7 +154,7 @@ module _ {P : Type 0} {g : Ghosts P} (stop : Stop) (number : ℕ) (old mid : Mom
   refused-tells : (form : PairForm)
       → ((start : PairStarted) (up0 down0 : Pipe) → FollowsPairRun start up0 down0 mid.up mid.down mid.ends
       → fault_at (moment_of up0 down0 mid.up mid.down) start.panels form ≡ Some BadSession)
-      → PairLineTells {T = Unit {0}} number form old mid (Err stop)
+      → PairLineTells {T = Unit {0}} (numbered_pair number form) old mid (Err stop)
   refused-tells form bad =
       tells-now {T = Unit {0}} {U = Unit {0}} tt (Err stop) number form old mid follows
       (λ start up0 down0 run.
@@ -162,7 +163,7 @@ module _ {P : Type 0} {g : Ghosts P} (stop : Stop) (number : ℕ) (old mid : Mom
       (sym is) (ap (λ o. numbered_or number o None) (bad start up0 down0 run)))
 
   pub attach-refused-tells : is_there true mid.ends.fronts.pair ≡ true
-      → PairLineTells {T = Unit {0}} number attach_session old mid (Err stop)
+      → PairLineTells {T = Unit {0}} (numbered_pair number attach_session) old mid (Err stop)
   attach-refused-tells there =
       refused-tells attach_session
       (λ start up0 down0 run.
@@ -170,7 +171,7 @@ module _ {P : Type 0} {g : Ghosts P} (stop : Stop) (number : ℕ) (old mid : Mom
       ∙ ap (λ b. first_of (cond b (Some BadSession) None) None) there)
 
   pub detach-refused-tells : is_there true mid.ends.fronts.pair ≡ false
-      → PairLineTells {T = Unit {0}} number detach_session old mid (Err stop)
+      → PairLineTells {T = Unit {0}} (numbered_pair number detach_session) old mid (Err stop)
   detach-refused-tells there =
       refused-tells detach_session
       (λ start up0 down0 run.
@@ -178,7 +179,7 @@ module _ {P : Type 0} {g : Ghosts P} (stop : Stop) (number : ℕ) (old mid : Mom
       ∙ ap (λ b. first_of (cond b None (Some BadSession)) None) there)
 
   pub ask-refused-tells : (a : AskForm) → is_there true mid.ends.fronts.pair ≡ false
-      → PairLineTells {T = Unit {0}} number (of_second (forms.ask a)) old mid (Err stop)
+      → PairLineTells {T = Unit {0}} (numbered_pair number (of_second (forms.ask a))) old mid (Err stop)
   ask-refused-tells a there =
       refused-tells (of_second (forms.ask a))
       (λ start up0 down0 run.
@@ -188,14 +189,16 @@ module _ {P : Type 0} {g : Ghosts P} (stop : Stop) (number : ℕ) (old mid : Mom
 -- one that is carried out
 module _ {P : Type 0} {g : Ghosts P} (number : ℕ) (old mid new : Moment (PairEnds P g)) (first : KeepsPair {T = Unit {0}} old mid (Ok tt))
     (then : KeepsPair {T = Unit {0}} mid new (Ok tt)) where
-  pub attach-tells : is_there true mid.ends.fronts.pair ≡ false → PairLineTells {T = Unit {0}} number attach_session old new (Ok tt)
+  pub attach-tells : is_there true mid.ends.fronts.pair ≡ false
+      → PairLineTells {T = Unit {0}} (numbered_pair number attach_session) old new (Ok tt)
   attach-tells there =
       tells-amid number attach_session old mid new first then
       (λ start up0 down0 run.
       attach-fault start up0 down0 mid.up mid.down mid.ends start.panels run
       ∙ ap (λ b. first_of (cond b (Some BadSession) None) None) there)
 
-  pub detach-tells : is_there true mid.ends.fronts.pair ≡ true → PairLineTells {T = Unit {0}} number detach_session old new (Ok tt)
+  pub detach-tells : is_there true mid.ends.fronts.pair ≡ true
+      → PairLineTells {T = Unit {0}} (numbered_pair number detach_session) old new (Ok tt)
   detach-tells there =
       tells-amid number detach_session old mid new first then
       (λ start up0 down0 run.
@@ -203,7 +206,7 @@ module _ {P : Type 0} {g : Ghosts P} (number : ℕ) (old mid new : Moment (PairE
       ∙ ap (λ b. first_of (cond b None (Some BadSession)) None) there)
 
   pub ask-tells : (a : AskForm) → is_there true mid.ends.fronts.pair ≡ true
-      → PairLineTells {T = Unit {0}} number (of_second (forms.ask a)) old new (Ok tt)
+      → PairLineTells {T = Unit {0}} (numbered_pair number (of_second (forms.ask a))) old new (Ok tt)
   ask-tells a there =
       tells-amid number (of_second (forms.ask a)) old mid new first then
       (λ start up0 down0 run.
@@ -213,7 +216,7 @@ module _ {P : Type 0} {g : Ghosts P} (number : ℕ) (old mid new : Moment (PairE
 -- an ask of a second front end that stands, however it came through
 pub ask-judged : {P : Type 0} {g : Ghosts P} (result : Result (Unit {0}) Stop) (number : ℕ) (old new : Moment (PairEnds P g))
     (sink0 sink1 link0 link1 : ℕ) (a : AskForm) → HasStopCause sink0 sink1 link0 link1 result → KeepsPair old new result
-    → is_there true old.ends.fronts.pair ≡ true → PairLineTells number (of_second (forms.ask a)) old new result
+    → is_there true old.ends.fronts.pair ≡ true → PairLineTells (numbered_pair number (of_second (forms.ask a))) old new result
 ask-judged (Ok value) number old new sink0 sink1 link0 link1 a cause keeps there =
     ask-tells number old old new (keeps-still old) keeps a there
 ask-judged (Err stop) number old new sink0 sink1 link0 link1 a cause keeps there =
@@ -223,7 +226,7 @@ ask-judged (Err stop) number old new sink0 sink1 link0 link1 a cause keeps there
 pub detach-judged : {P : Type 0} {g : Ghosts P} (result : Result (Unit {0}) Stop) (number : ℕ) (old mid mid2 new : Moment (PairEnds P g))
     (sink0 sink1 link0 link1 : ℕ) → HasStopCause sink0 sink1 link0 link1 result → KeepsPair {T = Unit {0}} old mid (Ok tt)
     → KeepsPair {T = Unit {0}} mid mid2 (Ok tt) → KeepsPair mid2 new result
-    → is_there true mid.ends.fronts.pair ≡ true → PairLineTells number detach_session old new result
+    → is_there true mid.ends.fronts.pair ≡ true → PairLineTells (numbered_pair number detach_session) old new result
 detach-judged (Ok value) number old mid mid2 new sink0 sink1 link0 link1 cause first sent then there =
     detach-tells number old mid new first (keeps-then {T = Unit {0}} {U = Unit {0}} (tt {0}) (Ok (tt {0})) mid mid2 new sent then) there
 detach-judged (Err stop) number old mid mid2 new sink0 sink1 link0 link1 cause first sent then there =

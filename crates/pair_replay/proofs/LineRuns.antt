@@ -48,9 +48,10 @@ use Rattle.pair_replay.specs.PairStarts.{told_held, line_on}
 use Rattle.pair_replay.specs.PairAnswers.{PairRunTook, RoomTold}
 use Rattle.pair_replay.specs.Running.{pair_ends_of, InPairRun, InPairPlay, PairSteps, refreshing, IsPlainOfPair}
 use Rattle.pair_replay.specs.Playing.{PairCarries, numbered_pair, text_unless}
-use Rattle.pair_replay.proofs.PairTheory.{left-fewer, left-fetches, OneShown, TwoShown, FoldShown, SettledRuns, settled-runs, SettledBoth}
+use Rattle.pair_replay.proofs.PairTheory.{left-fewer, together-told, left-fetches, OneShown, TwoShown, FoldShown, SettledRuns, settled-runs}
+use Rattle.pair_replay.proofs.PairTheory.{SettledBoth}
 use Rattle.pair_replay.proofs.PairTheory.{settled-both}
-use Rattle.pair_replay.proofs.TellingLemmas.{refresh-telling, room-telling, together-told}
+use Rattle.pair_replay.proofs.TellingLemmas.{refresh-telling, room-telling}
 use Rattle.pair_replay.proofs.StopLemmas.{part-took, room-stops, room-there}
 use Rattle.pair_replay.proofs.LineFaults.{there_on, came_to, show_fault, show-want}
 use Rattle.replay_parts.proofs.StopLemmas.{wrote-none, part-tells}
@@ -393,6 +394,10 @@ settle-stops stop old new taken number form sink0 sink1 link0 link1 first cause 
           (first-room form first w v (ap (λ (s : PageSessions). s.attached) play.both.runs.agrees.state)) told,
     )
 
+-- the least line counts four bytes: one for its settle, and three more
+pub line-counts : (more : ℕ) → more + least_line ≡ more + 3 + 1
+line-counts more = omega arith
+
 -- a line that is refused prints nothing, once all has come
 pub line-refused : {P : Type 0} {g : Ghosts P} (fault : LineFault) (stop : Stop) (old mid : Moment (PairEnds P g)) (taken : Option (List ℕ))
     (number : ℕ) (form : PairForm)
@@ -405,16 +410,13 @@ line-refused fault stop old mid taken number form is first steps lacks =
     (λ up0 down0 more w v play.
     let s : Settled mid.honest up0 down0 mid.up mid.down (more + 3) w v mid.ends =
     settle-made old mid steps up0 down0 (more + 3) w v
-    (subst (λ n. InPairPlay old.honest up0 down0 old.up old.down n w v old.ends) (four more) play) in
+    (subst (λ n. InPairPlay old.honest up0 down0 old.up old.down n w v old.ends) (line-counts more) play) in
     let lacking : pair_lacking form w ≡ Some fault = lacks up0 down0 (more + 3) w v s in (
       tt,
       subst (λ o. Appends taken taken (text_unless o (pair_line_text number form w))) (sym lacking) (Appends-nil taken),
       ap (λ o. numbered_or number o None) lacking,
       subst (λ o. line_or o form v ⊤) (sym lacking) (subst (λ b. WhereTrue b (RefreshHasRoom v)) (sym first) s.room),
     ))
-  where
-    four : (more : ℕ) → more + least_line ≡ more + 3 + 1
-    four more = omega arith
 
 -- a show of a front end that does not stand
 pub show-refused : {P : Type 0} {g : Ghosts P} (second : Bool) (form : LineForm) (stop : Stop) (old mid : Moment (PairEnds P g))
@@ -450,7 +452,7 @@ pub show-carries : {P : Type 0} {g : Ghosts P} (second : Bool) (form : LineForm)
 show-carries second form result old mid new taken taken1 number show there steps well says = λ up0 down0 more w v play.
     let s : Settled mid.honest up0 down0 mid.up mid.down (more + 3) w v mid.ends =
     settle-made old mid steps up0 down0 (more + 3) w v
-    (subst (λ n. InPairPlay old.honest up0 down0 old.up old.down n w v old.ends) (four more) play) in
+    (subst (λ n. InPairPlay old.honest up0 down0 old.up old.down n w v old.ends) (line-counts more) play) in
     let said = says up0 down0 more w v s in
     let fault = styles_fault (came_to second (met_in w)) form in
     let lacking : pair_lacking (line_on second form) w ≡ fault =
@@ -467,9 +469,6 @@ show-carries second form result old mid new taken taken1 number show there steps
           (by v (pair_lacking (line_on second form) w) s.room),
     )
   where
-    four : (more : ℕ) → more + least_line ≡ more + 3 + 1
-    four more = omega arith
-
     by : (v : PairRun) (o : Option LineFault) → RefreshHasRoom v → line_or o (line_on second form) v ⊤
     by v None room = (subst (λ ds. DeedsHaveRoom ds v) (sym (show.deeds_are second v)) (room, tt), tt)
     by v (Some fault) room = subst (λ b. WhereTrue b (RefreshHasRoom v)) (sym (show.first second)) room

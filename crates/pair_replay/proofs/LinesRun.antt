@@ -1,5 +1,5 @@
 -- The lines of a script with two front ends are carried out one after the other, up to the first that is refused: over an honest link.
-use Rattle.std.proofs.Common.{◌≡◌, ℕ, ◌+◌, ◌≤◌, List, [], ◌∷◌, ◌++◌, length, Bool, true, false, cond, Option, Some, None}
+use Rattle.std.proofs.Common.{◌≡◌, ℕ, ◌+◌, ◌≤◌, List, [], ◌∷◌, ◌++◌, length, Option, Some, None}
 use Rattle.std.proofs.Common.{refl, sym, ◌∙◌, ap, subst, arith, append_assoc, append-nil, Ok, Err}
 use Rattle.std.specs.Prelude.{⊤}
 use Rattle.std.specs.Option.{option_to_list}
@@ -35,6 +35,7 @@ use Rattle.pair_replay.specs.declared.ends.PairEnds.{PairEnds}
 use Rattle.pair_replay.specs.PairAnswers.{PairRunTook, RoomTold}
 use Rattle.pair_replay.specs.Running.{InPairPlay}
 use Rattle.pair_replay.specs.Playing.{PairCarries, numbered_pair, text_unless}
+use Rattle.pair_replay.proofs.SessionSizes.{utf8-read}
 use Rattle.pair_replay.proofs.PairTheory.{together-fewer}
 
 -- ---- a line that has a form
@@ -49,14 +50,10 @@ pair-size (array ds) form e = absurd cc
 pair-size (object no_members) form e = absurd cc
 pair-size (object (member k v ms)) form e = omega arith
 
-read-of : (b : Bool) (o : Option Data) (d : Data) → cond b o None ≡ Some d → o ≡ Some d
-read-of true o d e = e
-read-of false o d e = absurd cc
-
 pub pair-line-long : (line : List ℕ) (form : PairForm) → pair_line_form line ≡ Some form → least_line ≤ length line
 pair-line-long line form is =
     let p = and_then_some pair_form_of (json_of line) form is in
-    let long : data_size p.0 ≤ length line = read-long line p.0 (read-of (is_utf8 line) (read line) p.0 p.1) in
+    let long : data_size p.0 ≤ length line = read-long line p.0 (utf8-read (is_utf8 line) (read line) p.0 p.1) in
     let cost : 4 ≤ data_size p.0 = pair-size p.0 form p.2 in
     omega (arith, long, cost)
 

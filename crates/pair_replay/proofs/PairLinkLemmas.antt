@@ -15,7 +15,7 @@ use Rattle.page_forms.specs.Sheets.{max_sheets}
 use Rattle.front_mirror.specs.declared.faults.FrontFault.{FrontFault}
 use Rattle.front_mirror.specs.declared.faults.FrontKind.{FrontKind}
 use Rattle.front_mirror.specs.declared.panels.PanelKind.{PanelKind}
-use Rattle.front_mirror.specs.Front.{FrontValue, FrontState, take_frame}
+use Rattle.front_mirror.specs.Front.{FrontState}
 use Rattle.session_runs.specs.Pairs.{Down, bare, of_session, Second, TargetKind, TargetOutcome, nothing_done, session_made, session_dropped}
 use Rattle.session_runs.specs.Pairs.{front_pair, kind_waiting, without_id, asks_of_session, with_one, take_two, take_target, take_down}
 use Rattle.session_runs.specs.Pairs.{target_done, take_pair}
@@ -45,6 +45,7 @@ use Rattle.pair_world.specs.PairHeld.{PairEnds, up_reads}
 use Rattle.pair_world.specs.PairLinks.{pair_fold_of, pair_happening_step, pair_happened, pair_commands_among, pair_replies_in, DrewOne}
 use Rattle.pair_world.specs.PairLinks.{DrewBoth}
 use Rattle.pair_world.specs.PairLinks.{LinkMoment, IsLater, PairStarted, pair_started, one_pair_line_more, SecondFew, FollowsPair}
+use Rattle.pair_world.proofs.PairNumbers.{pairs-same, whole-keeps}
 use Rattle.pair_world.proofs.PairDown.{one-taken}
 use Rattle.pair_replay.proofs.ReplyIds.{ids_down, ids_down-append}
 use Rattle.pair_replay.proofs.PairSteps.{PairSends, frame-sends, turn-sends, happened-state, happened-sent, commands-last, commands-long}
@@ -87,21 +88,9 @@ pub few-one : (two : Option (Second FrontState (List ℕ))) (f : FrontState → 
 few-one None f n m more one few = tt
 few-one (Some w) f n m more one few = let h = one w.value in omega (arith, more, few, h)
 
-ok-same : (a b : StatePair) → ◌≡◌ {A = Result StatePair FrontKind} (Ok a) (Ok b) → a ≡ b
-ok-same a b e = cc
-
-whole-few : (s t : FrontState) (frame : List ℕ) → take_whole s frame ≡ Ok t → (t.next ≡ s.next) × (t.fetches ≡ s.fetches)
-whole-few s t frame e = by (take_frame s.value frame) e where
-  by : (result : Result FrontValue FrontKind) → then_ok result (λ v. Ok (record s { value = v })) ≡ Ok t
-      → (t.next ≡ s.next) × (t.fetches ≡ s.fetches)
-  by (Ok v) e =
-      let same : record s { value = v } ≡ t = cc in
-      (ap (λ (x : FrontState). x.next) (sym same), ap (λ (x : FrontState). x.fetches) (sym same))
-  by (Err kind) e = let no : ◌≡◌ {A = Result FrontState FrontKind} (Err kind) (Ok t) = e in absurd cc
-
 target-few : (n : ℕ) (o : TargetOutcome (List ℕ)) (p q : StatePair) → target_done state_reads o p ≡ Ok q → SecondFew p.two n
     → SecondFew q.two n
-target-few n nothing_done p q e few = subst (λ (x : StatePair). SecondFew x.two n) (ok-same p q e) few
+target-few n nothing_done p q e few = subst (λ (x : StatePair). SecondFew x.two n) (pairs-same p q e) few
 target-few n (session_made t k) p q e few = by (is_none p.two && nat_lt p.top k) e where
   fresh : StatePair
   fresh = front_pair p.one (Some (record {
@@ -110,24 +99,24 @@ target-few n (session_made t k) p q e few = by (is_none p.two && nat_lt p.top k)
   })) p.waiting p.asked k
 
   by : (b : Bool) → cond b (Ok fresh) (Err state_reads.strange) ≡ Ok q → SecondFew q.two n
-  by true e = subst (λ (x : StatePair). SecondFew x.two n) (ok-same fresh q e) (omega arith)
+  by true e = subst (λ (x : StatePair). SecondFew x.two n) (pairs-same fresh q e) (omega arith)
   by false e = let no : ◌≡◌ {A = Result StatePair FrontKind} (Err state_reads.strange) (Ok q) = e in absurd cc
-target-few n session_dropped p q e few = subst (λ (x : StatePair). SecondFew x.two n) (ok-same (record p { two = None }) q e) tt
+target-few n session_dropped p q e few = subst (λ (x : StatePair). SecondFew x.two n) (pairs-same (record p { two = None }) q e) tt
 
 frame-few : (n : ℕ) (p q : StatePair) (frame : List ℕ) → take_pair state_reads p frame ≡ Ok q → SecondFew p.two n → SecondFew q.two n
 frame-few n p q frame e few = by (frame_down frame) e where
   first : (result : Result FrontState FrontKind) → with_one state_reads result p ≡ Ok q → SecondFew q.two n
-  first (Ok t) e = subst (λ (x : StatePair). SecondFew x.two n) (ok-same (record p { one = t }) q e) few
+  first (Ok t) e = subst (λ (x : StatePair). SecondFew x.two n) (pairs-same (record p { one = t }) q e) few
   first (Err kind) e = let no : ◌≡◌ {A = Result StatePair FrontKind} (Err kind) (Ok q) = e in absurd cc
 
   with_second : (w : Second FrontState (List ℕ)) (text : List ℕ) → SecondFew (Some w) n → (result : Result FrontState FrontKind)
       → take_whole w.value text ≡ result
       → then_ok result (λ v. Ok (record p { two = Some (record { text = w.text; value = v }) })) ≡ Ok q → SecondFew q.two n
   with_second w text before (Ok t) is e =
-      let kept = whole-few w.value t text is in
+      let kept = whole-keeps w.value t text is in
       let next : t.next ≡ w.value.next = kept.0 in
       let fetches : t.fetches ≡ w.value.fetches = kept.1 in
-      subst (λ (x : StatePair). SecondFew x.two n) (ok-same (record p { two = Some (record { text = w.text; value = t }) }) q e)
+      subst (λ (x : StatePair). SecondFew x.two n) (pairs-same (record p { two = Some (record { text = w.text; value = t }) }) q e)
       (omega (arith, next, fetches, before))
   with_second w text before (Err kind) is e = let no : ◌≡◌ {A = Result StatePair FrontKind} (Err kind) (Ok q) = e in absurd cc
 
@@ -245,44 +234,6 @@ follows-start up0 down0 kinds start mux side first second up_within down_within 
       few_second_searches = second_searches;
       few_sessions = sessions;
     }
-
--- a line that makes no step of the script
-pub follows-fewer : (start : PairStarted) (up0 down0 up down : Pipe) (waiting : List (List ℕ)) (e : PairEnds)
-    → FollowsPair (one_pair_line_more start) up0 down0 up down waiting e → FollowsPair start up0 down0 up down waiting e
-follows-fewer start up0 down0 up down waiting e f = record {
-  sent_up = f.sent_up;
-  given_up = f.given_up;
-  sent_down = f.sent_down;
-  given_down = f.given_down;
-  up_is = f.up_is;
-  down_is = f.down_is;
-  later = f.later;
-  fronts_are = f.fronts_are;
-  alive = f.alive;
-  first_alive = f.first_alive;
-  panels = f.panels;
-  events = f.events;
-  frames_are = f.frames_are;
-  back_is = f.back_is;
-  pair = f.pair;
-  pair_is = f.pair_is;
-  sent_is = f.sent_is;
-  replies_are = f.replies_are;
-  down_whole = f.down_whole;
-  stands = f.stands;
-  up_left = f.up_left;
-  down_left = f.down_left;
-  few_asked = f.few_asked;
-  few_second = f.few_second;
-  few_targets = f.few_targets;
-  few_made = let few : made_among f.events + (start.lines + 1) ≤ most_bytes = f.few_made in omega (arith, few);
-  drew = f.drew;
-  few_serials = f.few_serials;
-  few_numbers = f.few_numbers;
-  few_searches = f.few_searches;
-  few_second_searches = f.few_second_searches;
-  few_sessions = f.few_sessions;
-}
 
 module _ (start : PairStarted) (up0 down0 : Pipe) where
   -- ---- bytes go up

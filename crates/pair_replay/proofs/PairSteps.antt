@@ -35,6 +35,7 @@ use Rattle.session_runs.specs.World.{Stepped}
 use Rattle.inspect_world.specs.Links.{Happening, came, made, frames_among, made_among, commands_in, bytes_among}
 use Rattle.inspect_world.specs.ShownReplies.{id_asked, reply_id}
 use Rattle.inspect_world.proofs.TurnLemmas.{TurnKeeps, turn-keeps}
+use Rattle.inspect_world.proofs.CountLemmas.{count-bytes}
 use Rattle.pair_world.specs.SessionWays.{attach_method, detach_method}
 use Rattle.pair_world.specs.PairLinks.{pair_happening_step, pair_happened, asked_in_session, asked_of_either}
 use Rattle.pair_world.specs.PairLinks.{pair_commands_among, DrewOne, DrewBoth}
@@ -98,9 +99,6 @@ count-one c r k e = omega (arith, e)
 
 count-none : (m : ℕ) → m + 0 ≡ m
 count-none m = omega arith
-
-count-bytes : (b n : ℕ) → b + (0 + (n + 1)) ≡ b + (n + 1)
-count-bytes b n = omega arith
 
 -- so many commands more as that is, none of which draws here
 frame-idle : (state : State) (r : Result Asked Refused) (c m b n : ℕ) → DrewOne state c m b

@@ -54,25 +54,9 @@ use Rattle.pair_world.proofs.FetchRuns.{SettledAs, attached-number, settle-runs,
 use Rattle.pair_world.proofs.KeptShown.{shown-after}
 use Rattle.pair_world.proofs.FetchParts as parts
 use Rattle.pair_world.proofs.FetchParts.{TargetGoes, first-goes, second-goes}
-pub use Rattle.pair_world.proofs.FetchParts.{MayGo, raw-goes}
+pub use Rattle.pair_world.proofs.FetchParts.{left-fewer, together-fewer, together-told, MayGo, raw-goes}
 
 -- ---- what is left
-
--- room for lines of more bytes is room for fewer
-pub left-fewer : (n : PairSpent) (j k : ℕ) → j ≤ k → PairHasLeft n k → PairHasLeft n j
-left-fewer n j k less left =
-    let asks : n.asks * 4 + k ≤ most_bytes = left.asks in
-    let second_asks : n.second_asks * 4 + k ≤ most_bytes = left.second_asks in
-    let targets : n.targets * 4 + k ≤ most_bytes = left.targets in
-    let fetches : n.fetches + (k + 1) * most_sheets ≤ most_fetches = left.fetches in
-    let second_fetches : n.second_fetches + (k + 1) * most_sheets ≤ most_fetches = left.second_fetches in
-    record {
-      asks = omega (arith, asks, less);
-      second_asks = omega (arith, second_asks, less);
-      targets = omega (arith, targets, less);
-      fetches = omega (arith, fetches, less);
-      second_fetches = omega (arith, second_fetches, less);
-    }
 
 -- there are ids for the fetches of so many settles more
 pub record FetchesLeft (n : PairSpent) (settles : ℕ) : Type 0 where
@@ -85,15 +69,6 @@ left-fetches n settles k less left =
     let fetches : n.fetches + (k + 1) * most_sheets ≤ most_fetches = left.fetches in
     let second_fetches : n.second_fetches + (k + 1) * most_sheets ≤ most_fetches = left.second_fetches in
     record { fetches = omega (arith, fetches, less); second_fetches = omega (arith, second_fetches, less) }
-
--- runs with room for more bytes have room for fewer
-pub together-fewer : (j k : ℕ) (w v : PairRun) → j ≤ k → PairTogether IsPlainOfPair k w v → PairTogether IsPlainOfPair j w v
-together-fewer j k w v less both = record {
-  runs = both.runs;
-  calm = both.calm;
-  calm_fresh = both.calm_fresh;
-  left = left-fewer v.spent j k less both.left;
-}
 
 -- ---- what a front end shows
 

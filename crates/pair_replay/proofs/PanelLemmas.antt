@@ -33,8 +33,7 @@ use Rattle.pair_replay.specs.PairAnswers.{PairPassed, PairRunTook, PairStopFolds
 use Rattle.pair_replay.specs.Running.{pair_ends_of, InPairRun, InPairPlay}
 use Rattle.pair_replay.specs.Following.{FollowsPairRun, pair_passing, PairLinePasses, PairLineTells}
 use Rattle.pair_replay.specs.Playing.{PairCarries, numbered_pair, text_unless}
-use Rattle.pair_replay.proofs.PairTheory.{together-fewer}
-use Rattle.pair_replay.proofs.TellingLemmas.{together-told}
+use Rattle.pair_replay.proofs.PairTheory.{together-fewer, together-told}
 use Rattle.pair_replay.proofs.PairFollows.{IsPairWell, stop-folds, run-well, run-fewer, run-closed}
 use Rattle.pair_replay.proofs.LineFaults.{tells-now}
 use Rattle.pair_replay.proofs.LineFollows.{keeps-still}
@@ -76,7 +75,8 @@ module _ {P : Type 0} {g : Ghosts P} (result : Result (Unit {0}) Stop) (number p
       (dropped-tells number (stands_open place e.fronts.pair.one.panels)))
 
   -- it tells just that
-  pub panel-tells : PairLineTells number (of_first (close place)) (moment honest up down e) (moment honest up down e1) result
+  pub panel-tells : PairLineTells (numbered_pair number (of_first (close place))) (moment honest up down e) (moment honest up down e1)
+      result
   panel-tells =
       tells-now {U = Unit {0}} tt result number (of_first (close place)) (moment honest up down e) (moment honest up down e)
       (keeps-still (moment honest up down e))

@@ -19,7 +19,7 @@ use Rattle.json.proofs.Printed.Utf8.{IsUtf8-are_ascii}
 use Rattle.serde_json.specs.Data.{Data, null, boolean, number, string, array, object, Members, no_members, member, depth}
 use Rattle.serde_json.specs.Read.{max_depth}
 use Rattle.serde_json.specs.Find.{get_member, as_str, as_object}
-use Rattle.serde_json.specs.Written.{compact_text, has_float}
+use Rattle.serde_json.specs.Written.{compact_text}
 use Rattle.cdp_json.specs.declared.fields.Field.{Field}
 use Rattle.cdp_json.specs.declared.fields.Field.TheVariants.{Is, Missing, WrongKind}
 use Rattle.cdp_json.specs.Fields.{field_if, field_from, field_of}
@@ -49,7 +49,6 @@ use Rattle.session_mux.specs.Targets.{target_named, attach_refusal, detach_refus
 use Rattle.session_mux.specs.Tags.{with_session}
 use Rattle.session_mux.specs.Routes.{Request, if_is, params_in, request_in, request_of, Routing, routing, routing_by}
 use Rattle.session_mux.specs.Routes.{by_session, by_method, by_name, by_refusal, left_to}
-use Rattle.session_mux.proofs.TagLemmas.{tags-off}
 use Rattle.session_mux.proofs.RouteLemmas.{attached-by-name}
 use Rattle.front_mirror.specs.declared.replies.Ask.{Ask}
 use Rattle.front_mirror.specs.declared.sheets.KnownSheet.{KnownSheet}
@@ -61,8 +60,7 @@ use Rattle.back_end.specs.Laws.{reply_ids, IsAnswered}
 use Rattle.back_end.specs.Pairs.{sent_to}
 use Rattle.back_end.proofs.AskedLemmas.{whole-is}
 use Rattle.session_runs.proofs.Worlds.{whole-after, rest-after}
-use Rattle.multi_replay.specs.Incoming.{strange_frame, session_frame, down_value, frame_down}
-use Rattle.session_runs.specs.Pairs.{of_session}
+use Rattle.multi_replay.specs.Incoming.{down_value, frame_down}
 use Rattle.inspect_world.specs.Fits.{ask_with}
 use Rattle.inspect_world.specs.ShownReplies.{ShownReply, reply_shown, replies_in_frame, replies_among, id_asked, reply_id}
 use Rattle.inspect_world.proofs.PlainAsks.{ArePlain}
@@ -72,7 +70,7 @@ use Rattle.client_views.proofs.MoveTexts.{course-texts}
 use Rattle.pair_world.specs.PairLinks.{plain_frame}
 use Rattle.pair_world.specs.SessionWays.{attach_method, detach_method}
 use Rattle.pair_world.proofs.MessageTexts.{ReadsAgain, read-again, texts-of, body-again, refusal-again, move-again}
-use Rattle.pair_world.proofs.TaggedTexts.{bare-read}
+use Rattle.pair_world.proofs.TaggedTexts.{bare-read, tagged-read}
 use Rattle.pair_replay.proofs.DecimalTexts.{decimal-utf8}
 
 -- ---- ids among frames of both sessions
@@ -100,20 +98,6 @@ AreRead ms = All (λ (m : Message). ReadsAgain (message_data m)) ms
 pub utf8-text : (k : ℕ) → IsUtf8 (session_text k)
 utf8-text k =
     IsUtf8-append (83 ∷ []) (decimal k) (IsUtf8-are_ascii (83 ∷ []) refl) (decimal-utf8 k)
-
-tagged-read : (k : ℕ) (m : Message) → has_float (message_data m) ≡ false
-    → down_value (Some (with_session k (message_data m))) ≡ of_session (session_text k) (message_text m)
-tagged-read k m whole =
-    by-kind m
-    ∙ ap (λ d. session_frame (session_text k) d) (tags-off k m)
-    ∙ ap (λ b. cond b strange_frame (of_session (session_text k) (message_text m))) whole
-  where
-    by-kind : (m : Message) → down_value (Some (with_session k (message_data m)))
-        ≡ session_frame (session_text k) (without_session (with_session k (message_data m)))
-    by-kind (reply id result) = refl
-    by-kind (fault None code said) = refl
-    by-kind (fault (Some id) code said) = refl
-    by-kind (event n) = refl
 
 session-again : (k : ℕ) (m : Message) → ReadsAgain (message_data m) → ReadsAgain (with_session k (message_data m))
 session-again k m r = by-kind m r.plain r.shallow (texts-of (message_data m) r) where

@@ -130,7 +130,8 @@ without-size k (member l d ms) = at (bytes_eq k l) (without-size k ms) where
   at true less = omega arith
   at false less = omega (arith, less)
 
-utf8-read : (b : Bool) (o : Option Data) (d : Data) → cond b o None ≡ Some d → o ≡ Some d
+-- what is read of a text is read of its bytes
+pub utf8-read : (b : Bool) (o : Option Data) (d : Data) → cond b o None ≡ Some d → o ≡ Some d
 utf8-read true o d e = e
 utf8-read false o d e = absurd cc
 

@@ -1,5 +1,5 @@
 -- A settle over an honest link: all is delivered, and then texts are fetched.
-use Rattle.std.proofs.Common.{◌≡◌, ℕ, ◌+◌, List, [], ◌∷◌, ◌++◌, length, Option, Some, None, option_map}
+use Rattle.std.proofs.Common.{◌≡◌, ℕ, List, [], ◌++◌, length, Option, Some, None, option_map}
 use Rattle.std.proofs.Common.{refl, sym, ◌∙◌, ap, subst, Result, Ok, Err}
 use Rattle.std.specs.Prelude.{⊤}
 use Rattle.std.specs.Result.{OnOk}
@@ -13,17 +13,17 @@ use Rattle.session_runs.specs.World.{delivered_up, delivered_down}
 use Rattle.session_runs.specs.Fold.{RoomThroughout, Fits, FitsWith}
 use Rattle.session_runs.specs.Agreement.{IsAtRest}
 use Rattle.session_runs.specs.Pairs.{Second, pair_step}
-use Rattle.session_runs.specs.PairFit.{TwoFit, neither, both, is_calm, is_targeting}
+use Rattle.session_runs.specs.PairFit.{TwoFit, neither, both}
 use Rattle.session_runs.proofs.Frames.{awaited-none}
 use Rattle.session_runs.proofs.FetchLemmas.{settled-rests, fit-rests}
 use Rattle.multi_replay.specs.Laws.{pair_value, second_value}
 use Rattle.back_end.specs.States.{Side}
 use Rattle.pair_world.specs.Clients.{pair_reads, RunClient, client_steps}
 use Rattle.pair_world.specs.Shown.{IsSessionNumber, Shows}
-use Rattle.pair_world.specs.PairFits.{PageSessions}
-use Rattle.pair_world.specs.PairRuns.{PairSpent, PairRun, pair_settled}
+use Rattle.pair_world.specs.PairRuns.{PairRun, pair_settled}
 use Rattle.pair_world.specs.PairFresh.{FrontValues, pair_replay, no_fronts, PairIsCalm, PairIsFit, PairRoom, SettleHasRoom}
 use Rattle.pair_world.specs.PairHeld.{Mode, calm, targeted, IsSecondOf}
+use Rattle.pair_world.proofs.FetchBoth.{calm-alone}
 use Rattle.replay_parts.specs.declared.stop.Stop.{Stop}
 use Rattle.replay_parts.specs.Moments.{Moment}
 use Rattle.pair_replay.specs.declared.ends.PairEnds.{PairEnds}
@@ -43,11 +43,6 @@ pub any-spent : {P : Type 0} {g : Ghosts P} {T : Type 0} (result : Result T Stop
 any-spent result old new bytes aim goes = λ mode up0 down0 w left may run. goes mode up0 down0 w may run
 
 -- ---- once all has come
-
--- where no frame waits, no attach and no detach does
-fit-calm : (n : PairSpent) (p : FrontValues) (s : PageSessions) → PairIsFit n p s [] → PairIsCalm n p s []
-fit-calm n p s (is_calm c) = c
-fit-calm n p s (is_targeting t) = let wrong : t.frame ∷ [] ≡ [] = sym t.frames_are in absurd cc
 
 -- a second front end stands where a session is attached, and has its text
 abbrev IsValueOf : Option (Second FrontValue (List ℕ)) → Option ℕ → Type 0
@@ -95,7 +90,7 @@ module _ {P : Type 0} {g : Ghosts P} (honest : Type 0) (up0 down0 up down : Pipe
       subst (λ ws. FitsWith pair_replay.take pair_replay.join PairIsFit no_fronts w1 (ws ++ awaited w1.up)) run.none_whole link.fits in
       let p : FrontValues = pair_value world.fronts_are.asked e.fronts.pair in
       let fit : PairIsCalm w1.spent p w1.state [] =
-      fit-calm w1.spent p w1.state
+      calm-alone w1.spent p w1.state
       (fit-rests pair_replay PairIsFit no_fronts w1 p fits rests (run-front targeted honest up0 down0 up down w1 e run)) in
       record {
         so_far = record {
@@ -111,7 +106,7 @@ module _ {P : Type 0} {g : Ghosts P} (honest : Type 0) (up0 down0 up down : Pipe
                 front = link.fits.front;
                 is_fold = link.fits.is_fold;
                 fit = subst (λ frames. PairIsCalm w1.spent link.fits.front w1.state frames) (sym none)
-                    (fit-calm w1.spent link.fits.front w1.state
+                    (calm-alone w1.spent link.fits.front w1.state
                     (subst (λ frames. PairIsFit w1.spent link.fits.front w1.state frames) none link.fits.fit));
                 up_whole = link.fits.up_whole;
                 down_whole = link.fits.down_whole;

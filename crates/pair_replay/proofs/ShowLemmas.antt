@@ -23,7 +23,6 @@ use Rattle.back_end.specs.States.{sheets_shown, view_of}
 use Rattle.session_runs.specs.Pairs.{Second}
 use Rattle.multi_replay.specs.States.{StatePair, is_there, front_meant, at_rest}
 use Rattle.inspect_world.specs.World.{AlreadyTold}
-use Rattle.inspect_world.specs.Costs.{least_line}
 use Rattle.inspect_world.specs.RunStates.{styles_under}
 use Rattle.inspect_world.specs.Scripts.{styles_shown_headed}
 use Rattle.inspect_world.specs.ShownReplies.{reply_shown, told_lines}
@@ -52,6 +51,7 @@ use Rattle.pair_world.specs.PairLinks.{PairStarted}
 use Rattle.pair_replay.specs.Following.{FollowsPairRun, KeepsPair}
 use Rattle.pair_replay.proofs.PairFollows.{run-told, run-well}
 use Rattle.pair_replay.proofs.LineRuns.{Settled, settle-made, settled-told, settled-play, settled-telling, SettlesFirst, ShowSays}
+use Rattle.pair_replay.proofs.LineRuns.{line-counts}
 use Rattle.replay_parts.proofs.StopLemmas.{closed-tells, after-ok}
 use Rattle.replay_parts.proofs.PauseLineLemmas.{same-pauses}
 use Rattle.replay_parts.proofs.StyleLineLemmas.{under-kept}
@@ -352,7 +352,7 @@ pub panels-carry : {P : Type 0} {g : Ghosts P} (result : Result (Unit {0}) Stop)
 panels-carry result old mid taken taken1 number sink0 sink1 link0 link1 front cause well steps is ok err = λ up0 down0 more w v play.
     let s : Settled mid.honest up0 down0 mid.up mid.down (more + 3) w v mid.ends =
     settle-made old mid steps up0 down0 (more + 3) w v
-    (subst (λ n. InPairPlay old.honest up0 down0 old.up old.down n w v old.ends) (four more) play) in
+    (subst (λ n. InPairPlay old.honest up0 down0 old.up old.down n w v old.ends) (line-counts more) play) in
     let shows = s.shown false refl in
     let world = s.in_run.so_far.in_world in
     let alive : front.dead ≡ false = ap (λ (f : FrontState). f.dead) is ∙ world.first_alive in
@@ -368,9 +368,6 @@ panels-carry result old mid taken taken1 number sink0 sink1 link0 link1 front ca
       closed-tells result sink0 sink1 link0 link1 None refl cause,
       room-there result _ well ((s.room, tt), tt),
     )
-  where
-    four : (more : ℕ) → more + least_line ≡ more + 3 + 1
-    four more = omega arith
 
 -- ---- the closing part
 

@@ -28,6 +28,7 @@ use Rattle.pair_world.specs.PairRuns.{next_target, with_told, after_deeds_by, De
 use Rattle.pair_world.specs.PairScripts.{deeds, detach_deeds, pair_telling, told_after, after_pair_line, pair_line_text, pair_lacking}
 use Rattle.pair_world.specs.PairFresh.{pair_refreshes, fresh_pair_line, PairTogether, PairHasLeft, RefreshHasRoom, DeedsHaveRoom, line_or}
 use Rattle.pair_world.specs.PairHeld.{calm, targeted}
+use Rattle.pair_world.proofs.FetchRuns.{refreshes-told}
 use Rattle.replay_parts.specs.declared.stop.Stop.{Stop}
 use Rattle.replay_parts.specs.declared.stop.Stop.TheVariants.{Line}
 use Rattle.replay_parts.specs.Moments.{Moment, scene}
@@ -41,12 +42,13 @@ use Rattle.pair_replay.specs.PairAnswers.{PairRunTook, RoomTold}
 use Rattle.pair_replay.specs.Running.{pair_ends_of, InPairRun, InPairPlay, PairSteps, refreshing, targets_up, attached_text, IsPlainOfPair}
 use Rattle.pair_replay.specs.Running.{sending_attach, sending_detach}
 use Rattle.pair_replay.specs.Playing.{PairCarries, numbered_pair, text_unless}
-use Rattle.pair_replay.proofs.PairTheory.{left-fewer, FetchesLeft, AreTogether, SettledBoth, settled-both, MayTarget, attach-goes}
+use Rattle.pair_replay.proofs.PairTheory.{left-fewer, together-told, FetchesLeft, AreTogether, SettledBoth, settled-both, MayTarget}
+use Rattle.pair_replay.proofs.PairTheory.{attach-goes}
 use Rattle.pair_replay.proofs.PairTheory.{detach-goes}
 use Rattle.pair_replay.proofs.PairTheory.{targeted-together}
-use Rattle.pair_replay.proofs.TellingLemmas.{refresh-telling, refreshed-told, room-telling, together-told}
+use Rattle.pair_replay.proofs.TellingLemmas.{refresh-telling, room-telling}
 use Rattle.pair_replay.proofs.StopLemmas.{part-took, room-stops}
-use Rattle.pair_replay.proofs.LineRuns.{Settled, settle-made, SettlesFirst, run-told-so, line-refused}
+use Rattle.pair_replay.proofs.LineRuns.{Settled, settle-made, SettlesFirst, run-told-so, line-refused, line-counts}
 use Rattle.replay_parts.proofs.StopLemmas.{wrote-none, part-tells}
 
 -- What the line of an attach or a detach is, where that session is attached: the command has an id, and counts as one more.
@@ -146,7 +148,7 @@ module _ {P : Type 0} {g : Ghosts P} (form : PairForm) (Right : Option ℕ → T
       ∙ ap (λ t. pair_telling t done) (targets.told_is done ∙ ap retold told-still)
     where
       told-still : (pair_refreshes sent_first).told ≡ v.told
-      told-still = refreshed-told sent_first ∙ refreshed-told v
+      told-still = refreshes-told sent_first ∙ refreshes-told v
 
   -- the second settle came through
   pub target-play : (honest3 : Type 0) (up3 down3 : Pipe) (e3 e4 : PairEnds P g)
@@ -195,10 +197,7 @@ module _ {P : Type 0} {g : Ghosts P} (form : PairForm) (number : ℕ) (taken : O
   by-settle result new steps says = λ up0 down0 more w v play.
       says up0 down0 more w v play.both
       (settle-made old mid steps up0 down0 (more + 3) w v
-      (subst (λ n. InPairPlay old.honest up0 down0 old.up old.down n w v old.ends) (four more) play))
-    where
-      four : (more : ℕ) → more + least_line ≡ more + 3 + 1
-      four more = omega arith
+      (subst (λ n. InPairPlay old.honest up0 down0 old.up old.down n w v old.ends) (line-counts more) play))
 
   module _ (Right : Option ℕ → Type 0) (mk : ℕ → List ℕ) (text : PairRun → List ℕ) (count : PairSpent → PairSpent)
       (retold : PairAudience → PairAudience) (targets : Targets form Right mk text count retold) where
@@ -272,7 +271,7 @@ module _ {P : Type 0} {g : Ghosts P} (form : PairForm) (number : ℕ) (taken : O
         (sent-is form Right mk text count retold targets mid.honest up0 down0 mid.up mid.down more w v mid.ends both s right) done.1 in
         let left = left-then form Right mk text count retold targets mid.honest up0 down0 mid.up mid.down more w v mid.ends both s right in
         let done2 = steps2 targeted up0 down0 u (left-fewer (count first.spent) 0 more (omega arith) left.0) tt run in
-        let told_is : (pair_refreshes u).told ≡ w.told = refreshed-told u in
+        let told_is : (pair_refreshes u).told ≡ w.told = refreshes-told u in
         let world = done2.1.so_far.in_world in
         let is = retells w.told (world.first_told ∙ ap (λ (n : PairAudience). n.first) told_is)
         (world.second_told ∙ ap (λ (n : PairAudience). n.second) told_is) in

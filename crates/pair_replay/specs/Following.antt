@@ -70,6 +70,15 @@ PairLinePasses form old new result =
     → OnOk result (FollowsPairRun (pair_passing form start) up0 down0 new.up new.down new.ends)
     × PairStopFolds result (pair_since up0 down0 new.up new.down)
 
+-- a line with its number
+pub record NumberedPair : Type 0 where
+  pub number : ℕ
+  pub form : PairForm
+
+-- a line with its number
+abbrev pub numbered_pair : ℕ → PairForm → NumberedPair
+numbered_pair number form = record { number = number; form = form }
+
 -- A line was judged at some moment of its own: by what the fold came to then; where it is refused, that moment is its end.
 pub record LineJudged {T : Type 0} (before after : LinkMoment) (panels : List (Option PanelKind)) (number : ℕ) (form : PairForm)
     (result : Result T Stop) : Type 0 where
@@ -80,12 +89,13 @@ pub record LineJudged {T : Type 0} (before after : LinkMoment) (panels : List (O
   pub last : (fault_at moment panels form ≡ None → ⊥) → moment ≡ after
 
 -- so it was, over every link
-abbrev pub PairLineTells : {P : Type 0} {g : Ghosts P} {T : Type 0} → ℕ → PairForm → Moment (PairEnds P g) → Moment (PairEnds P g)
+abbrev pub PairLineTells : {P : Type 0} {g : Ghosts P} {T : Type 0} → NumberedPair → Moment (PairEnds P g) → Moment (PairEnds P g)
     → Result T Stop → Type 0
-PairLineTells number form old new result =
+PairLineTells line old new result =
     (start : PairStarted) (up0 down0 : Pipe) → FollowsPairRun (one_pair_line_more start) up0 down0 old.up old.down old.ends
     → AtEnd (says_of result).phase
-    (LineJudged (moment_of up0 down0 old.up old.down) (moment_of up0 down0 new.up new.down) start.panels number form result)
+    (LineJudged (moment_of up0 down0 old.up old.down) (moment_of up0 down0 new.up new.down) start.panels line.number line.form
+    result)
 
 -- the lines after the load were judged, each at a moment of its own
 pub record PairLinesJudged (after : LinkMoment) (panels : List (Option PanelKind)) (lines : List (List ℕ)) {T : Type 0}

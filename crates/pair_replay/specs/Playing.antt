@@ -5,7 +5,6 @@ use Rattle.pipe_frames.specs.Pipe.{Pipe}
 use Rattle.back_end.specs.Steps.{Turn}
 use Rattle.replay_script.specs.Script.{numbered_or}
 use Rattle.replay_script.specs.declared.faults.LineFault.{LineFault}
-use Rattle.replay_script.specs.PairLines.{PairForm}
 use Rattle.replay_script.specs.PairScript.{pair_first_bad, pair_good_lines}
 use Rattle.inspect_world.specs.Costs.{least_line, line_bytes}
 use Rattle.pair_world.specs.PairRuns.{PairRun}
@@ -23,6 +22,7 @@ use Rattle.pair_replay.specs.Running.{InPairPlay, Aim, PairSteps, PairGoes, Pair
 use Rattle.pair_replay.specs.Running.{turns_page}
 use Rattle.pair_replay.specs.Following.{KeepsPair, KeepsPairWith, KeepsPairAnswers, KeepsPairAnswer, PairLineFollows, PairLinePasses}
 use Rattle.pair_replay.specs.Following.{PairLinesFollow}
+pub use Rattle.pair_replay.specs.Following.{NumberedPair, numbered_pair}
 
 -- ---- calls that print nothing
 
@@ -76,15 +76,6 @@ pair_fetching second count aim = record {
 }
 
 -- ---- calls that print
-
--- a line with its number
-pub record NumberedPair : Type 0 where
-  pub number : ℕ
-  pub form : PairForm
-
--- a line with its number
-abbrev pub numbered_pair : ℕ → PairForm → NumberedPair
-numbered_pair number form = record { number = number; form = form }
 
 -- a line that is refused prints nothing
 abbrev pub text_unless : Option LineFault → List ℕ → List ℕ

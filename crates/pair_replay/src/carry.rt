@@ -36,7 +36,7 @@ fn carry_attach<P: Panel, L: Link>(
     link: &mut L,
 ) -> Result<(), Stop>
     ensures follows { PairLinePasses attach_session (⟦<L as Watched>⟧.at link.old ends.old) (⟦<L as Watched>⟧.at link.new ends.new) result }
-    ensures tells { PairLineTells number attach_session (⟦<L as Watched>⟧.at link.old ends.old)
+    ensures tells { PairLineTells (numbered_pair number attach_session) (⟦<L as Watched>⟧.at link.old ends.old)
         (⟦<L as Watched>⟧.at link.new ends.new) result }
     ensures runs { (taken : Option (List ℕ)) → PairCarries (numbered_pair number attach_session)
         (scene (⟦<L as Watched>⟧.at link.old ends.old) taken) (scene (⟦<L as Watched>⟧.at link.new ends.new) taken) result }
@@ -70,7 +70,7 @@ fn carry_detach<P: Panel, L: Link>(
     link: &mut L,
 ) -> Result<(), Stop>
     ensures follows { PairLinePasses detach_session (⟦<L as Watched>⟧.at link.old ends.old) (⟦<L as Watched>⟧.at link.new ends.new) result }
-    ensures tells { PairLineTells number detach_session (⟦<L as Watched>⟧.at link.old ends.old)
+    ensures tells { PairLineTells (numbered_pair number detach_session) (⟦<L as Watched>⟧.at link.old ends.old)
         (⟦<L as Watched>⟧.at link.new ends.new) result }
     ensures runs { (taken : Option (List ℕ)) → PairCarries (numbered_pair number detach_session)
         (scene (⟦<L as Watched>⟧.at link.old ends.old) taken) (scene (⟦<L as Watched>⟧.at link.new ends.new) taken) result }
@@ -103,7 +103,7 @@ fn carry_act<P: Panel, K: Sink, L: Link>(
     ensures plays { Plays (pair_carrying (numbered_pair number (of_first (act change))))
         (seen_by (⟦<L as Watched>⟧.at link.old ends.old) (⟦<K as Printed>⟧.at out.old))
         (seen_by (⟦<L as Watched>⟧.at link.new ends.new) (⟦<K as Printed>⟧.at out.new)) result }
-    ensures tells { PairLineTells number (of_first (act change)) (⟦<L as Watched>⟧.at link.old ends.old)
+    ensures tells { PairLineTells (numbered_pair number (of_first (act change))) (⟦<L as Watched>⟧.at link.old ends.old)
         (⟦<L as Watched>⟧.at link.new ends.new) result }
 {
     match ends.change_page(link, change) {
@@ -139,7 +139,7 @@ fn carry_second_ask<P: Panel, L: Link>(
     requires params { IsTrue (is_whole_where_there (option_map view sent.now.params)) }
     ensures follows { PairLinePasses (of_second (ask (seen_ask sent.now))) (⟦<L as Watched>⟧.at link.old ends.old)
         (⟦<L as Watched>⟧.at link.new ends.new) result }
-    ensures tells { PairLineTells number (of_second (ask (seen_ask sent.now))) (⟦<L as Watched>⟧.at link.old ends.old)
+    ensures tells { PairLineTells (numbered_pair number (of_second (ask (seen_ask sent.now)))) (⟦<L as Watched>⟧.at link.old ends.old)
         (⟦<L as Watched>⟧.at link.new ends.new) result }
     ensures runs { (taken : Option (List ℕ)) → PairCarries (numbered_pair number (of_second (ask (seen_ask sent.now))))
         (scene (⟦<L as Watched>⟧.at link.old ends.old) taken) (scene (⟦<L as Watched>⟧.at link.new ends.new) taken) result }
@@ -168,7 +168,7 @@ fn carry_first<P: Panel, K: Sink, L: Link>(
     ensures plays { Plays (pair_carrying (numbered_pair number (of_first (seen line))))
         (seen_by (⟦<L as Watched>⟧.at link.old ends.old) (⟦<K as Printed>⟧.at out.old))
         (seen_by (⟦<L as Watched>⟧.at link.new ends.new) (⟦<K as Printed>⟧.at out.new)) result }
-    ensures tells { PairLineTells number (of_first (seen line)) (⟦<L as Watched>⟧.at link.old ends.old)
+    ensures tells { PairLineTells (numbered_pair number (of_first (seen line))) (⟦<L as Watched>⟧.at link.old ends.old)
         (⟦<L as Watched>⟧.at link.new ends.new) result }
 {
     match line {
@@ -205,7 +205,7 @@ fn carry_second<P: Panel, K: Sink, L: Link>(
     ensures plays { Plays (pair_carrying (numbered_pair number (of_second (seen line))))
         (seen_by (⟦<L as Watched>⟧.at link.old ends.old) (⟦<K as Printed>⟧.at out.old))
         (seen_by (⟦<L as Watched>⟧.at link.new ends.new) (⟦<K as Printed>⟧.at out.new)) result }
-    ensures tells { PairLineTells number (of_second (seen line)) (⟦<L as Watched>⟧.at link.old ends.old)
+    ensures tells { PairLineTells (numbered_pair number (of_second (seen line))) (⟦<L as Watched>⟧.at link.old ends.old)
         (⟦<L as Watched>⟧.at link.new ends.new) result }
 {
     match line {
@@ -243,7 +243,7 @@ pub(crate) fn carry_out<P: Panel, K: Sink, L: Link>(
     ensures plays { Plays (pair_carrying (numbered_pair number (pair_seen line)))
         (seen_by (⟦<L as Watched>⟧.at link.old ends.old) (⟦<K as Printed>⟧.at out.old))
         (seen_by (⟦<L as Watched>⟧.at link.new ends.new) (⟦<K as Printed>⟧.at out.new)) result }
-    ensures tells { PairLineTells number (pair_seen line) (⟦<L as Watched>⟧.at link.old ends.old)
+    ensures tells { PairLineTells (numbered_pair number (pair_seen line)) (⟦<L as Watched>⟧.at link.old ends.old)
         (⟦<L as Watched>⟧.at link.new ends.new) result }
 {
     match line {

@@ -369,6 +369,7 @@ impl<P: Panel> PairEnds<P> {
         Ok(())
     }
 
+    /// Answers one frame of the front ends, whole; where the back end has no room for it, nothing is done.
     fn answer<L: Link>(&mut self, link: &mut L, frame: &[u8]) -> Result<(), Stop>
         ensures same { self.new.splitter ≡ self.old.splitter }
         ensures goes { Goes (pair_answering frame.now) (⟦<L as Watched>⟧.at link.old self.old)

@@ -16,6 +16,7 @@ use replay_parts::Stop;
 use replay_script::{Line, LineErr, LineFault, Lines, PairLine, read_pair_line};
 use std::alloc::Global;
 
+/// Takes the next line of the script, where one is left.
 pub(crate) fn next_line<'a>(lines: &mut Lines<'a>) -> Option<&'a [u8]>
     ensures none { IsNone result → lines.old ≡ [] }
     ensures some { IfSome result (λ line. lines.old ≡ line.now ∷ lines.new) }

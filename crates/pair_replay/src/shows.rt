@@ -41,7 +41,7 @@ pub(crate) fn show_front<P: Panel, K: Sink, L: Link>(
     ensures plays { Plays (pair_carrying (numbered_pair number (line_on second show_front)))
         (seen_by (⟦<L as Watched>⟧.at link.old ends.old) (⟦<K as Printed>⟧.at out.old))
         (seen_by (⟦<L as Watched>⟧.at link.new ends.new) (⟦<K as Printed>⟧.at out.new)) result }
-    ensures tells { PairLineTells number (line_on second show_front) (⟦<L as Watched>⟧.at link.old ends.old)
+    ensures tells { PairLineTells (numbered_pair number (line_on second show_front)) (⟦<L as Watched>⟧.at link.old ends.old)
         (⟦<L as Watched>⟧.at link.new ends.new) result }
 {
     match ends.settle(link) {
@@ -67,7 +67,7 @@ pub(crate) fn show_sheets<P: Panel, K: Sink, L: Link>(
     ensures plays { Plays (pair_carrying (numbered_pair number (line_on second show_sheets)))
         (seen_by (⟦<L as Watched>⟧.at link.old ends.old) (⟦<K as Printed>⟧.at out.old))
         (seen_by (⟦<L as Watched>⟧.at link.new ends.new) (⟦<K as Printed>⟧.at out.new)) result }
-    ensures tells { PairLineTells number (line_on second show_sheets) (⟦<L as Watched>⟧.at link.old ends.old)
+    ensures tells { PairLineTells (numbered_pair number (line_on second show_sheets)) (⟦<L as Watched>⟧.at link.old ends.old)
         (⟦<L as Watched>⟧.at link.new ends.new) result }
 {
     match ends.settle(link) {
@@ -118,7 +118,7 @@ pub(crate) fn show_replies<P: Panel, K: Sink, L: Link>(
     ensures plays { Plays (pair_carrying (numbered_pair number (line_on second show_replies)))
         (seen_by (⟦<L as Watched>⟧.at link.old ends.old) (⟦<K as Printed>⟧.at out.old))
         (seen_by (⟦<L as Watched>⟧.at link.new ends.new) (⟦<K as Printed>⟧.at out.new)) result }
-    ensures tells { PairLineTells number (line_on second show_replies) (⟦<L as Watched>⟧.at link.old ends.old)
+    ensures tells { PairLineTells (numbered_pair number (line_on second show_replies)) (⟦<L as Watched>⟧.at link.old ends.old)
         (⟦<L as Watched>⟧.at link.new ends.new) result }
 {
     match ends.settle(link) {
@@ -182,7 +182,7 @@ pub(crate) fn show_pauses<P: Panel, K: Sink, L: Link>(
     ensures plays { Plays (pair_carrying (numbered_pair number (line_on second show_pauses)))
         (seen_by (⟦<L as Watched>⟧.at link.old ends.old) (⟦<K as Printed>⟧.at out.old))
         (seen_by (⟦<L as Watched>⟧.at link.new ends.new) (⟦<K as Printed>⟧.at out.new)) result }
-    ensures tells { PairLineTells number (line_on second show_pauses) (⟦<L as Watched>⟧.at link.old ends.old)
+    ensures tells { PairLineTells (numbered_pair number (line_on second show_pauses)) (⟦<L as Watched>⟧.at link.old ends.old)
         (⟦<L as Watched>⟧.at link.new ends.new) result }
 {
     match ends.settle(link) {
@@ -219,7 +219,7 @@ pub(crate) fn show_panels<P: Panel, K: Sink, L: Link>(
     ensures plays { (number : ℕ) → Plays (pair_carrying (numbered_pair number (of_first show_panels)))
         (seen_by (⟦<L as Watched>⟧.at link.old ends.old) (⟦<K as Printed>⟧.at out.old))
         (seen_by (⟦<L as Watched>⟧.at link.new ends.new) (⟦<K as Printed>⟧.at out.new)) result }
-    ensures tells { (number : ℕ) → PairLineTells number (of_first show_panels) (⟦<L as Watched>⟧.at link.old ends.old)
+    ensures tells { (number : ℕ) → PairLineTells (numbered_pair number (of_first show_panels)) (⟦<L as Watched>⟧.at link.old ends.old)
         (⟦<L as Watched>⟧.at link.new ends.new) result }
 {
     match ends.settle(link) {
@@ -242,7 +242,7 @@ pub(crate) fn show_styles<P: Panel, K: Sink, L: Link>(
     ensures plays { Plays (pair_carrying (numbered_pair number (line_on second (show_styles ask))))
         (seen_by (⟦<L as Watched>⟧.at link.old ends.old) (⟦<K as Printed>⟧.at out.old))
         (seen_by (⟦<L as Watched>⟧.at link.new ends.new) (⟦<K as Printed>⟧.at out.new)) result }
-    ensures tells { PairLineTells number (line_on second (show_styles ask)) (⟦<L as Watched>⟧.at link.old ends.old)
+    ensures tells { PairLineTells (numbered_pair number (line_on second (show_styles ask))) (⟦<L as Watched>⟧.at link.old ends.old)
         (⟦<L as Watched>⟧.at link.new ends.new) result }
 {
     match ends.settle(link) {

@@ -91,7 +91,7 @@ returns-in-Load-clause-tells g c =
     (g.L.Link.down c.load_page.new.link) c.load_page.new.self in
     let form = of_first (forms.load (loaded_page c.in-Load.page)) in
     let is : of_first (seen c.args.line) ≡ form = ap (λ l. of_first (seen l)) c.in-Load.is in
-    subst (λ (f : PairForm). PairLineTells c.args.number f old new c.load_page.result) (sym is)
+    subst (λ (f : PairForm). PairLineTells (numbered_pair c.args.number f) old new c.load_page.result) (sym is)
     (call-tells c.load_page.result c.args.number form old new _ _ _ _ (λ m panels. refl)
     (link-cause c.load_page.result (g.K.Sink.faults c.args.out.now) _ _ c.load_page.ensures.cause)
     (λ start up0 down0 run. (c.load_page.ensures.follows start up0 down0 run).0))
@@ -118,7 +118,7 @@ returns-in-Act-clause-tells g c =
     let new = moment (g.L.Link.honest c.carry_act.new.link) (g.L.Link.up c.carry_act.new.link)
     (g.L.Link.down c.carry_act.new.link) c.carry_act.new.ends in
     let is : of_first (seen c.args.line) ≡ of_first (forms.act c.in-Act.act) = ap (λ l. of_first (seen l)) c.in-Act.is in
-    subst (λ (f : PairForm). PairLineTells c.args.number f old new c.carry_act.result) (sym is) c.carry_act.ensures.tells
+    subst (λ (f : PairForm). PairLineTells (numbered_pair c.args.number f) old new c.carry_act.result) (sym is) c.carry_act.ensures.tells
 
 pub returns-in-Ask-clause-plays : goal.returns-in-Ask-clause-plays
 returns-in-Ask-clause-plays g c =
@@ -148,7 +148,7 @@ returns-in-Ask-clause-tells g c =
     let new = moment (g.L.Link.honest c.ask.new.link) (g.L.Link.up c.ask.new.link) (g.L.Link.down c.ask.new.link) c.ask.new.self in
     let form = of_first (forms.ask (seen_ask c.in-Ask.ask)) in
     let is : of_first (seen c.args.line) ≡ form = ap (λ l. of_first (seen l)) c.in-Ask.is in
-    subst (λ (f : PairForm). PairLineTells c.args.number f old new c.ask.result) (sym is)
+    subst (λ (f : PairForm). PairLineTells (numbered_pair c.args.number f) old new c.ask.result) (sym is)
     (call-tells c.ask.result c.args.number form old new _ _ _ _ (λ m panels. refl)
     (link-cause c.ask.result (g.K.Sink.faults c.args.out.now) _ _ c.ask.ensures.cause)
     (λ start up0 down0 run. (c.ask.ensures.follows start up0 down0 (run-fewer start up0 down0 old.up old.down old.ends run)).0))
@@ -185,7 +185,7 @@ returns-in-Raw-clause-tells g c =
     (g.L.Link.down c.send_raw.new.link) c.send_raw.new.self in
     let form = of_first (forms.raw c.in-Raw.text) in
     let is : of_first (seen c.args.line) ≡ form = ap (λ l. of_first (seen l)) c.in-Raw.is in
-    subst (λ (f : PairForm). PairLineTells c.args.number f old new c.send_raw.result) (sym is)
+    subst (λ (f : PairForm). PairLineTells (numbered_pair c.args.number f) old new c.send_raw.result) (sym is)
     (call-tells c.send_raw.result c.args.number form old new _ _ _ _ (λ m panels. refl)
     (link-cause c.send_raw.result (g.K.Sink.faults c.args.out.now) _ _ c.send_raw.ensures.cause)
     (λ start up0 down0 run. (c.send_raw.ensures.follows start up0 down0 (run-fewer start up0 down0 old.up old.down old.ends run)).0))
@@ -219,7 +219,7 @@ returns-in-Up-clause-tells g c =
     (g.L.Link.down c.deliver_up.new.link) c.deliver_up.new.self in
     let form = of_first (forms.up c.in-Up.n) in
     let is : of_first (seen c.args.line) ≡ form = ap (λ l. of_first (seen l)) c.in-Up.is in
-    subst (λ (f : PairForm). PairLineTells c.args.number f old new c.deliver_up.result) (sym is)
+    subst (λ (f : PairForm). PairLineTells (numbered_pair c.args.number f) old new c.deliver_up.result) (sym is)
     (call-tells c.deliver_up.result c.args.number form old new _ _ _ _ (λ m panels. refl)
     (link-cause c.deliver_up.result (g.K.Sink.faults c.args.out.now) _ _ c.deliver_up.ensures.cause)
     (λ start up0 down0 run. (c.deliver_up.ensures.follows start up0 down0 (run-fewer start up0 down0 old.up old.down old.ends run)).0))
@@ -253,7 +253,7 @@ returns-in-Down-clause-tells g c =
     (g.L.Link.down c.deliver_down.new.link) c.deliver_down.new.self in
     let form = of_first (forms.down c.in-Down.n) in
     let is : of_first (seen c.args.line) ≡ form = ap (λ l. of_first (seen l)) c.in-Down.is in
-    subst (λ (f : PairForm). PairLineTells c.args.number f old new c.deliver_down.result) (sym is)
+    subst (λ (f : PairForm). PairLineTells (numbered_pair c.args.number f) old new c.deliver_down.result) (sym is)
     (call-tells c.deliver_down.result c.args.number form old new _ _ _ _ (λ m panels. refl)
     (link-cause c.deliver_down.result (g.K.Sink.faults c.args.out.now) _ _ c.deliver_down.ensures.cause)
     (λ start up0 down0 run. (c.deliver_down.ensures.follows start up0 down0 (run-fewer start up0 down0 old.up old.down old.ends run)).0))
@@ -286,7 +286,7 @@ returns-in-Settle-clause-tells g c =
     (g.L.Link.down c.settle.new.link) c.settle.new.self in
     let form = of_first (forms.settle) in
     let is : of_first (seen c.args.line) ≡ form = ap (λ l. of_first (seen l)) c.in-Settle.is in
-    subst (λ (f : PairForm). PairLineTells c.args.number f old new c.settle.result) (sym is)
+    subst (λ (f : PairForm). PairLineTells (numbered_pair c.args.number f) old new c.settle.result) (sym is)
     (call-tells c.settle.result c.args.number form old new _ _ _ _ (λ m panels. refl)
     (link-cause c.settle.result (g.K.Sink.faults c.args.out.now) _ _ c.settle.ensures.cause)
     (λ start up0 down0 run. (c.settle.ensures.follows start up0 down0 (run-fewer start up0 down0 old.up old.down old.ends run)).0))
@@ -313,7 +313,7 @@ returns-in-ShowFront-clause-tells g c =
     let new = moment (g.L.Link.honest c.show_front.new.link) (g.L.Link.up c.show_front.new.link)
     (g.L.Link.down c.show_front.new.link) c.show_front.new.ends in
     let is : of_first (seen c.args.line) ≡ of_first (show_front) = ap (λ l. of_first (seen l)) c.in-ShowFront.is in
-    subst (λ (f : PairForm). PairLineTells c.args.number f old new c.show_front.result) (sym is) c.show_front.ensures.tells
+    subst (λ (f : PairForm). PairLineTells (numbered_pair c.args.number f) old new c.show_front.result) (sym is) c.show_front.ensures.tells
 
 pub returns-in-ShowPage-clause-plays : goal.returns-in-ShowPage-clause-plays
 returns-in-ShowPage-clause-plays g c =
@@ -338,7 +338,7 @@ pub returns-in-ShowPage-clause-tells : goal.returns-in-ShowPage-clause-tells
 returns-in-ShowPage-clause-tells g c =
     let old = moment (g.L.Link.honest c.args.link.now) (g.L.Link.up c.args.link.now) (g.L.Link.down c.args.link.now) c.args.ends.now in
     let is : of_first (seen c.args.line) ≡ of_first show_page = ap (λ l. of_first (seen l)) c.in-ShowPage.is in
-    subst (λ (f : PairForm). PairLineTells c.args.number f old old c.print_page.result) (sym is)
+    subst (λ (f : PairForm). PairLineTells (numbered_pair c.args.number f) old old c.print_page.result) (sym is)
     (call-tells c.print_page.result c.args.number (of_first show_page) old old _ _ _ _ (λ m panels. refl)
     (sink-cause c.print_page.result _ _ (g.L.Link.faults c.args.link.now) c.print_page.ensures.cause)
     (λ start up0 down0 run.
@@ -367,7 +367,8 @@ returns-in-ShowSheets-clause-tells g c =
     let new = moment (g.L.Link.honest c.show_sheets.new.link) (g.L.Link.up c.show_sheets.new.link)
     (g.L.Link.down c.show_sheets.new.link) c.show_sheets.new.ends in
     let is : of_first (seen c.args.line) ≡ of_first (show_sheets) = ap (λ l. of_first (seen l)) c.in-ShowSheets.is in
-    subst (λ (f : PairForm). PairLineTells c.args.number f old new c.show_sheets.result) (sym is) c.show_sheets.ensures.tells
+    subst (λ (f : PairForm). PairLineTells (numbered_pair c.args.number f) old new c.show_sheets.result) (sym is)
+    c.show_sheets.ensures.tells
 
 pub returns-in-ShowReplies-clause-plays : goal.returns-in-ShowReplies-clause-plays
 returns-in-ShowReplies-clause-plays g c =
@@ -391,7 +392,8 @@ returns-in-ShowReplies-clause-tells g c =
     let new = moment (g.L.Link.honest c.show_replies.new.link) (g.L.Link.up c.show_replies.new.link)
     (g.L.Link.down c.show_replies.new.link) c.show_replies.new.ends in
     let is : of_first (seen c.args.line) ≡ of_first (show_replies) = ap (λ l. of_first (seen l)) c.in-ShowReplies.is in
-    subst (λ (f : PairForm). PairLineTells c.args.number f old new c.show_replies.result) (sym is) c.show_replies.ensures.tells
+    subst (λ (f : PairForm). PairLineTells (numbered_pair c.args.number f) old new c.show_replies.result) (sym is)
+    c.show_replies.ensures.tells
 
 pub returns-in-ShowPauses-clause-plays : goal.returns-in-ShowPauses-clause-plays
 returns-in-ShowPauses-clause-plays g c =
@@ -415,7 +417,8 @@ returns-in-ShowPauses-clause-tells g c =
     let new = moment (g.L.Link.honest c.show_pauses.new.link) (g.L.Link.up c.show_pauses.new.link)
     (g.L.Link.down c.show_pauses.new.link) c.show_pauses.new.ends in
     let is : of_first (seen c.args.line) ≡ of_first (show_pauses) = ap (λ l. of_first (seen l)) c.in-ShowPauses.is in
-    subst (λ (f : PairForm). PairLineTells c.args.number f old new c.show_pauses.result) (sym is) c.show_pauses.ensures.tells
+    subst (λ (f : PairForm). PairLineTells (numbered_pair c.args.number f) old new c.show_pauses.result) (sym is)
+    c.show_pauses.ensures.tells
 
 pub returns-in-ShowPanels-clause-plays : goal.returns-in-ShowPanels-clause-plays
 returns-in-ShowPanels-clause-plays g c =
@@ -439,7 +442,7 @@ returns-in-ShowPanels-clause-tells g c =
     let new = moment (g.L.Link.honest c.show_panels.new.link) (g.L.Link.up c.show_panels.new.link)
     (g.L.Link.down c.show_panels.new.link) c.show_panels.new.ends in
     let is : of_first (seen c.args.line) ≡ of_first show_panels = ap (λ l. of_first (seen l)) c.in-ShowPanels.is in
-    subst (λ (f : PairForm). PairLineTells c.args.number f old new c.show_panels.result) (sym is)
+    subst (λ (f : PairForm). PairLineTells (numbered_pair c.args.number f) old new c.show_panels.result) (sym is)
     (c.show_panels.ensures.tells c.args.number)
 
 pub returns-in-ShowStyles-clause-plays : goal.returns-in-ShowStyles-clause-plays
@@ -464,7 +467,8 @@ returns-in-ShowStyles-clause-tells g c =
     let new = moment (g.L.Link.honest c.show_styles.new.link) (g.L.Link.up c.show_styles.new.link)
     (g.L.Link.down c.show_styles.new.link) c.show_styles.new.ends in
     let is : of_first (seen c.args.line) ≡ of_first (show_styles c.in-ShowStyles.ask) = ap (λ l. of_first (seen l)) c.in-ShowStyles.is in
-    subst (λ (f : PairForm). PairLineTells c.args.number f old new c.show_styles.result) (sym is) c.show_styles.ensures.tells
+    subst (λ (f : PairForm). PairLineTells (numbered_pair c.args.number f) old new c.show_styles.result) (sym is)
+    c.show_styles.ensures.tells
 
 pub returns-in-Close-clause-plays : goal.returns-in-Close-clause-plays
 returns-in-Close-clause-plays g c =
@@ -496,6 +500,6 @@ returns-in-Close-clause-tells g c =
     let old = moment honest up down c.args.ends.now in
     let new = moment honest up down c.drop_panel.new.ends in
     let is : of_first (seen c.args.line) ≡ of_first (forms.close c.in-Close.place) = ap (λ l. of_first (seen l)) c.in-Close.is in
-    subst (λ (f : PairForm). PairLineTells c.args.number f old new c.drop_panel.result) (sym is)
+    subst (λ (f : PairForm). PairLineTells (numbered_pair c.args.number f) old new c.drop_panel.result) (sym is)
     (panel-tells c.drop_panel.result c.args.number c.in-Close.place honest up down c.args.ends.now c.drop_panel.new.ends
     c.drop_panel.ensures.refused c.drop_panel.ensures.dropped)

@@ -55,7 +55,8 @@ returns-in-Attach-clause-tells g c =
     let new = moment (g.L.Link.honest c.carry_attach.new.link) (g.L.Link.up c.carry_attach.new.link)
     (g.L.Link.down c.carry_attach.new.link) c.carry_attach.new.ends in
     let is : pair_seen c.args.line ≡ attach_session = ap pair_seen c.in-Attach.is in
-    subst (λ (f : PairForm). PairLineTells c.args.number f old new c.carry_attach.result) (sym is) c.carry_attach.ensures.tells
+    subst (λ (f : PairForm). PairLineTells (numbered_pair c.args.number f) old new c.carry_attach.result) (sym is)
+    c.carry_attach.ensures.tells
 
 pub returns-in-Detach-clause-plays : goal.returns-in-Detach-clause-plays
 returns-in-Detach-clause-plays g c =
@@ -80,7 +81,8 @@ returns-in-Detach-clause-tells g c =
     let new = moment (g.L.Link.honest c.carry_detach.new.link) (g.L.Link.up c.carry_detach.new.link)
     (g.L.Link.down c.carry_detach.new.link) c.carry_detach.new.ends in
     let is : pair_seen c.args.line ≡ detach_session = ap pair_seen c.in-Detach.is in
-    subst (λ (f : PairForm). PairLineTells c.args.number f old new c.carry_detach.result) (sym is) c.carry_detach.ensures.tells
+    subst (λ (f : PairForm). PairLineTells (numbered_pair c.args.number f) old new c.carry_detach.result) (sym is)
+    c.carry_detach.ensures.tells
 
 pub returns-in-First-clause-plays : goal.returns-in-First-clause-plays
 returns-in-First-clause-plays g c =
@@ -104,7 +106,8 @@ returns-in-First-clause-tells g c =
     let new = moment (g.L.Link.honest c.carry_first.new.link) (g.L.Link.up c.carry_first.new.link)
     (g.L.Link.down c.carry_first.new.link) c.carry_first.new.ends in
     let is : pair_seen c.args.line ≡ of_first (seen c.in-First.line) = ap pair_seen c.in-First.is in
-    subst (λ (f : PairForm). PairLineTells c.args.number f old new c.carry_first.result) (sym is) c.carry_first.ensures.tells
+    subst (λ (f : PairForm). PairLineTells (numbered_pair c.args.number f) old new c.carry_first.result) (sym is)
+    c.carry_first.ensures.tells
 
 pub returns-in-Second-clause-plays : goal.returns-in-Second-clause-plays
 returns-in-Second-clause-plays g c =
@@ -128,4 +131,5 @@ returns-in-Second-clause-tells g c =
     let new = moment (g.L.Link.honest c.carry_second.new.link) (g.L.Link.up c.carry_second.new.link)
     (g.L.Link.down c.carry_second.new.link) c.carry_second.new.ends in
     let is : pair_seen c.args.line ≡ of_second (seen c.in-Second.line) = ap pair_seen c.in-Second.is in
-    subst (λ (f : PairForm). PairLineTells c.args.number f old new c.carry_second.result) (sym is) c.carry_second.ensures.tells
+    subst (λ (f : PairForm). PairLineTells (numbered_pair c.args.number f) old new c.carry_second.result) (sym is)
+    c.carry_second.ensures.tells

@@ -45,7 +45,8 @@ returns-in-Ask-clause-tells g c =
     let new = moment (g.L.Link.honest c.carry_second_ask.new.link) (g.L.Link.up c.carry_second_ask.new.link)
     (g.L.Link.down c.carry_second_ask.new.link) c.carry_second_ask.new.ends in
     let is : of_second (seen c.args.line) ≡ of_second (forms.ask (seen_ask c.in-Ask.ask)) = ap (λ l. of_second (seen l)) c.in-Ask.is in
-    subst (λ (f : PairForm). PairLineTells c.args.number f old new c.carry_second_ask.result) (sym is) c.carry_second_ask.ensures.tells
+    subst (λ (f : PairForm). PairLineTells (numbered_pair c.args.number f) old new c.carry_second_ask.result) (sym is)
+    c.carry_second_ask.ensures.tells
 
 pub returns-in-ShowFront-clause-plays : goal.returns-in-ShowFront-clause-plays
 returns-in-ShowFront-clause-plays g c =
@@ -69,7 +70,7 @@ returns-in-ShowFront-clause-tells g c =
     let new = moment (g.L.Link.honest c.show_front.new.link) (g.L.Link.up c.show_front.new.link)
     (g.L.Link.down c.show_front.new.link) c.show_front.new.ends in
     let is : of_second (seen c.args.line) ≡ of_second (show_front) = ap (λ l. of_second (seen l)) c.in-ShowFront.is in
-    subst (λ (f : PairForm). PairLineTells c.args.number f old new c.show_front.result) (sym is) c.show_front.ensures.tells
+    subst (λ (f : PairForm). PairLineTells (numbered_pair c.args.number f) old new c.show_front.result) (sym is) c.show_front.ensures.tells
 
 pub returns-in-ShowSheets-clause-plays : goal.returns-in-ShowSheets-clause-plays
 returns-in-ShowSheets-clause-plays g c =
@@ -93,7 +94,8 @@ returns-in-ShowSheets-clause-tells g c =
     let new = moment (g.L.Link.honest c.show_sheets.new.link) (g.L.Link.up c.show_sheets.new.link)
     (g.L.Link.down c.show_sheets.new.link) c.show_sheets.new.ends in
     let is : of_second (seen c.args.line) ≡ of_second (show_sheets) = ap (λ l. of_second (seen l)) c.in-ShowSheets.is in
-    subst (λ (f : PairForm). PairLineTells c.args.number f old new c.show_sheets.result) (sym is) c.show_sheets.ensures.tells
+    subst (λ (f : PairForm). PairLineTells (numbered_pair c.args.number f) old new c.show_sheets.result) (sym is)
+    c.show_sheets.ensures.tells
 
 pub returns-in-ShowReplies-clause-plays : goal.returns-in-ShowReplies-clause-plays
 returns-in-ShowReplies-clause-plays g c =
@@ -117,7 +119,8 @@ returns-in-ShowReplies-clause-tells g c =
     let new = moment (g.L.Link.honest c.show_replies.new.link) (g.L.Link.up c.show_replies.new.link)
     (g.L.Link.down c.show_replies.new.link) c.show_replies.new.ends in
     let is : of_second (seen c.args.line) ≡ of_second (show_replies) = ap (λ l. of_second (seen l)) c.in-ShowReplies.is in
-    subst (λ (f : PairForm). PairLineTells c.args.number f old new c.show_replies.result) (sym is) c.show_replies.ensures.tells
+    subst (λ (f : PairForm). PairLineTells (numbered_pair c.args.number f) old new c.show_replies.result) (sym is)
+    c.show_replies.ensures.tells
 
 pub returns-in-ShowPauses-clause-plays : goal.returns-in-ShowPauses-clause-plays
 returns-in-ShowPauses-clause-plays g c =
@@ -141,7 +144,8 @@ returns-in-ShowPauses-clause-tells g c =
     let new = moment (g.L.Link.honest c.show_pauses.new.link) (g.L.Link.up c.show_pauses.new.link)
     (g.L.Link.down c.show_pauses.new.link) c.show_pauses.new.ends in
     let is : of_second (seen c.args.line) ≡ of_second (show_pauses) = ap (λ l. of_second (seen l)) c.in-ShowPauses.is in
-    subst (λ (f : PairForm). PairLineTells c.args.number f old new c.show_pauses.result) (sym is) c.show_pauses.ensures.tells
+    subst (λ (f : PairForm). PairLineTells (numbered_pair c.args.number f) old new c.show_pauses.result) (sym is)
+    c.show_pauses.ensures.tells
 
 pub returns-in-ShowStyles-clause-plays : goal.returns-in-ShowStyles-clause-plays
 returns-in-ShowStyles-clause-plays g c =
@@ -165,4 +169,5 @@ returns-in-ShowStyles-clause-tells g c =
     let new = moment (g.L.Link.honest c.show_styles.new.link) (g.L.Link.up c.show_styles.new.link)
     (g.L.Link.down c.show_styles.new.link) c.show_styles.new.ends in
     let is : of_second (seen c.args.line) ≡ of_second (show_styles c.in-ShowStyles.ask) = ap (λ l. of_second (seen l)) c.in-ShowStyles.is in
-    subst (λ (f : PairForm). PairLineTells c.args.number f old new c.show_styles.result) (sym is) c.show_styles.ensures.tells
+    subst (λ (f : PairForm). PairLineTells (numbered_pair c.args.number f) old new c.show_styles.result) (sym is)
+    c.show_styles.ensures.tells
