@@ -4,10 +4,10 @@
     python3 examples/limits.py PATH-OF-THE-PROGRAM [--only WORD]
 
 The first table tells of each input its status and the line on standard error, how much was written, processor time (user and system) and
-the greatest resident set, where it is above the 15 MB of this script. The second runs scripts on pages of 500 levels and of 100,000 nodes,
-and on texts with deep nesting, with stacks of 128 KB and more (`ulimit -s`), and tells the smallest with which what is written is the same
-as with 64 MB. --only makes the rows whose names have the word. Status 1 where an answer is not the one that docs/SCRIPT.md and
-docs/PROTOCOL.md tell, or 512 KB do not suffice.
+the greatest resident set, where it is above the 15 to 21 MB of this script. The second runs scripts on pages of 500 levels and of 100,000
+nodes, and on texts with deep nesting, with stacks of 128 KB and more (`ulimit -s`), and tells the smallest with which what is written is
+the same as with 64 MB. Rows with `both` in their names are of `pair` and `share`. --only makes the rows whose names have the word. Status 1
+where an answer is not the one that docs/SCRIPT.md and docs/PROTOCOL.md tell, or 512 KB do not suffice.
 """
 import argparse
 import hashlib
@@ -32,8 +32,13 @@ def ask(method, params=None):
     return text({"ask": {"method": method} if params is None else {"method": method, "params": params}})
 
 
-def command(number, method, params):
-    return text({"id": number, "method": method, "params": params})
+def ask_2(method, params=None):
+    """An ask of the second front end, in `pair`."""
+    return text({**json.loads(ask(method, params)), "on": 2})
+
+
+def command(number, method, params, **session):
+    return text({"id": number, "method": method, "params": params, **session})
 
 
 def padded(line, size):
@@ -153,9 +158,35 @@ limit("a sheet of 2^24 bytes", "serve")(
 limit("and a byte more", "serve")(
     lambda: [command(1, "Replay.load", {"document": [], "sheets": [{"origin": "regular", "text": "/*" + "x" * (LINE - 1)}]}) + "\0"])
 
+ATTACH, SETTLE = '{"attach":true}', '{"settle":true}'
+SHOWN_BOTH = ('{"show":"front"}', '{"show":"front","on":2}')
+S1 = {"sessionId": "S1"}
+ATTACHES = command(0, "Target.attachToTarget", {"flatten": True, "targetId": "page"})
+
+limit("10^5 asks of the second of both front ends, and a settle", "pair")(
+    lambda: lines(load(EMPTY), ATTACH) + [ask_2("DOM.enable") + "\n"] * 100000 + [SETTLE + "\n"])
+limit("10^5 asks of each of both front ends, in turn", "pair")(
+    lambda: lines(load(EMPTY), ATTACH) + lines(ask("DOM.enable"), ask_2("DOM.enable")) * 100000)
+limit("a page of 100,000 nodes, shown to both front ends", "pair")(lambda: lines(
+    load(wide(NODES)), ATTACH, ask("DOM.getDocument", {"depth": -1}), ask_2("DOM.getDocument", {"depth": -1}), *SHOWN_BOTH))
+limit("10^5 acts on the last of 90,000 children, shown to both front ends", "pair")(lambda: lines(
+    load(wide(90002)), ATTACH, ask("DOM.getDocument", {"depth": -1}), ask_2("DOM.getDocument", {"depth": -1}), SETTLE)
+    + ['{"act":{"do":"setAttr","node":90002,"name":"a","value":"b"}}\n'] * 100000)
+limit("a script for both front ends of 2^26 bytes and one", "pair", 4, "input too long")(lambda: settles(INPUT + 1))
+limit("a line of 2^24 bytes, for both front ends", "pair")(lambda: lines(load(EMPTY), padded(ATTACH, LINE)))
+limit("and a byte more", "pair", 4, "input too long")(lambda: lines(load(EMPTY), padded(ATTACH, LINE + 1)))
+limit("10^6 frames, of both sessions in turn", "share")(lambda: [ATTACHES + "\0"] + [
+    command(i, "DOM.enable", {}, **(S1 if i % 2 else {})) + "\0" for i in range(1, 1000000)])
+limit("a page of 100,000 nodes, told to both sessions", "share")(lambda: [
+    line + "\0" for line in (ATTACHES, '{"id":1,"method":"Replay.load","params":%s}' % wide(NODES),
+                             command(2, "DOM.getDocument", {"depth": -1}), command(1, "DOM.getDocument", {"depth": -1}, **S1))])
+limit("a frame of 2^26 bytes, of both sessions", "share")(lambda: frame_of(INPUT))
+limit("and a byte more", "share", 4, "input too long")(lambda: frame_of(INPUT + 1))
+
 # What is written, where it is short and is wanted so.
 WRITTEN = {
     "a frame of 2^26 bytes": b'{"error":{"code":-32601,"message":"unknown method"},"id":1}\0',
+    "a frame of 2^26 bytes, of both sessions": b'{"error":{"code":-32601,"message":"unknown method"},"id":1}\0',
     "2^26 bytes and no zero byte": b"",
     "a frame nested 127 deep": b'{"error":{"code":-32601,"message":"unknown method"},"id":1}\0',
     "a frame nested 127 deep, and once more": b'{"error":{"code":-32700,"message":"not JSON"}}\0',
@@ -176,7 +207,7 @@ def deep(name, word="replay"):
 
 
 LAST = LEVELS + 1  # the serial, and with all known the id, of the last node of the first chain
-KNOWN = (ask("DOM.getDocument", {"depth": -1}), '{"settle":true}')
+KNOWN = (ask("DOM.getDocument", {"depth": -1}), SETTLE)
 TAIL = tuple('{"show":"%s"}' % word for word in ("front", "page", "replies", "panels"))
 
 
@@ -230,6 +261,50 @@ for NAME, SHEET in (("`{` 100,000 times", "{" * 100000), ("`a{` 100,000 times", 
         ask("CSS.collectClassNames", {"styleSheetId": "s1"}), *TAIL[2:3]))
 
 
+def on_both(*said, count=LEVELS + 1, told=""):
+    """What is said on chains that both front ends know whole, and both shown, of one chain with all shows."""
+    tail = (*SHOWN_BOTH, *TAIL[1:], '{"show":"replies","on":2}') if count == LEVELS + 1 else SHOWN_BOTH
+    return lambda: lines(load(with_sheet(chains(count), told)), ATTACH, *KNOWN, ask_2("DOM.getDocument", {"depth": -1}), *said, *tail)
+
+
+def in_both(*said, page=None):
+    """Commands of the second session on a page that both know whole; a command in a list is the root's."""
+    frames = [ATTACHES, '{"id":1,"method":"Replay.load","params":%s}' % (page or chains(LEVELS + 1))]
+    asked = [["DOM.getDocument", {"depth": -1}], ("DOM.getDocument", {"depth": -1}), *said]
+    frames += [command(i, one[0], one[1], **({} if isinstance(one, list) else S1)) for i, one in enumerate(asked)]
+    return lambda: [frame + "\0" for frame in frames]
+
+
+def by_second(*said):
+    return tuple(ask_2(method, params) for method, params in said)
+
+
+for NAME, SAID in (("asked for whole and shown", ()), ("an attribute of the last level", (ATTRIBUTE,)), ("a copy", (COPY,)),
+                   ("a move", (MOVE,)), ("a removal, undone, redone", (REMOVE, *BACK)),
+                   ("all these edits undone", (ATTRIBUTE, COPY, REMOVE, *BACK)), ("queries and searches", FINDS)):
+    deep("500 levels in both front ends, by the second: " + NAME, "pair")(on_both(*by_second(*SAID)))
+    deep("500 levels in both sessions, by the second: " + NAME, "share")(in_both(*SAID))
+deep("500 levels in both front ends, by the second: matched styles of the last level", "pair")(on_both(
+    *by_second(("CSS.enable", {}), ("CSS.getMatchedStylesForNode", {"nodeId": LAST})), told=STYLES))
+deep("500 levels in both front ends: an edit and a removal of the first, undone", "pair")(
+    on_both(*(ask(method, params) for method, params in (ATTRIBUTE, REMOVE, *BACK))))
+deep("500 levels in both sessions: an edit and a removal of the root, undone", "share")(in_both(*map(list, (ATTRIBUTE, REMOVE, *BACK))))
+deep("500 levels in both front ends: acts, a detach, an attach and a later load", "pair")(on_both(
+    '{"act":{"do":"move","node":3,"parent":1,"before":2}}', '{"act":{"do":"remove","node":3}}', '{"detach":true}', ATTACH,
+    load(chains(LEVELS + 1)), *KNOWN, ask_2("DOM.getDocument", {"depth": -1})))
+deep("100,000 nodes in chains of 500 levels in both front ends", "pair")(on_both(count=NODES))
+deep("100,000 nodes in chains of 500 levels in both sessions", "share")(in_both(page=chains(NODES)))
+deep("100,000 children of one parent in both front ends", "pair")(lambda: lines(
+    load(wide(NODES)), ATTACH, *KNOWN, ask_2("DOM.getDocument", {"depth": -1}), *SHOWN_BOTH))
+deep("asks and raw texts of both front ends nested 127 deep", "pair")(lambda: lines(
+    load(EMPTY), ATTACH, '{"ask":{"method":"DOM.enable","params":{"b":%s}}}' % nested(NESTED - 3),
+    '{"ask":{"method":"DOM.enable","params":{"b":%s}},"on":2}' % nested(NESTED - 3), text({"raw": nested(NESTED)}),
+    '{"show":"replies"}', '{"show":"replies","on":2}'))
+deep("frames of both sessions nested 127 deep", "share")(lambda: [
+    ATTACHES + "\0", nested(NESTED) + "\0", '{"id":1,"method":"DOM.enable","params":{"a":%s}}\0' % nested(NESTED - 2),
+    '{"id":1,"method":"DOM.enable","params":{"a":%s},"sessionId":"S1"}\0' % nested(NESTED - 2)])
+
+
 # ---- runs
 
 def bind(stack):
@@ -240,7 +315,7 @@ def bind(stack):
 
 class Run:
     """A run of the program. Its input is made by another process and stands in a file, so that this one stays small: the memory of a child
-    is at least what this process has, some 15 MB."""
+    is at least what this process has, 15 to 21 MB."""
 
     def __init__(self, asked, folder):
         self.program, self.only = asked.program, asked.only
