@@ -1,5 +1,7 @@
-ghost use Rattle.std.specs.Prelude.{◌≡◌, ◌≤◌, ◌<◌, length, take, IfSome, IfNone};
-ghost use Rattle.std.specs.Io.KnownBytes.{Appends, Keeps};
+ghost use Rattle.std.specs.Prelude.{◌≡◌, ◌≤◌, ◌<◌, length, take, IfSome, IfNone, IfOk, OnOk};
+ghost use Rattle.std.specs.Io.{WritesAtMost};
+ghost use Rattle.std.specs.Io.KnownBytes.{Appends, Keeps, WriteAppends};
+ghost use Rattle.pipe_frames.specs.Fault.{HasCause};
 ghost use Rattle.pipe_frames.specs.Whole.{handed_on};
 
 use crate::outside::{Failed, OutErr, Sink, Source};
@@ -79,6 +81,8 @@ impl<W: Write> StdSink<W> {
             (handed_on self.new.kept (W.contents self.new.writer)) (take n piece.now)) }
         ensures kept { IfNone result (Keeps (handed_on self.old.kept (W.contents self.old.writer))
             (handed_on self.new.kept (W.contents self.new.writer))) }
+        // nothing that the writer took stays with it
+        ensures whole { IfSome result (λ n. self.new.kept ≡ 0) }
         ensures faults { self.new.faults ≡ self.old.faults }
     {
         if self.kept > 0 {
@@ -102,7 +106,15 @@ impl<W: Write> Sink for StdSink<W> {
 
     ghost faults = { λ s. s.faults };
 
-    fn write(&mut self, piece: &[u8]) -> Result<usize, OutErr> {
+    fn write(&mut self, piece: &[u8]) -> Result<usize, OutErr>
+        ensures bound { WritesAtMost result piece.now }
+        ensures bytes { WriteAppends (handed_on self.old.kept (W.contents self.old.writer))
+            (handed_on self.new.kept (W.contents self.new.writer)) result piece.now }
+        ensures some { IfOk result (λ n. 0 < length piece.now → 0 < n) }
+        ensures cause { HasCause self.old.faults self.new.faults result }
+        // what it took, it let go: nothing is with the writer still
+        ensures whole { OnOk result (self.new.kept ≡ 0) }
+    {
         match self.pass_on(piece) {
             Some(count) => Ok(count),
             None => {
