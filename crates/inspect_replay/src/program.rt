@@ -1,5 +1,6 @@
-ghost use Rattle.std.specs.Prelude.{◌≡◌, ◌≤◌, ◌<◌, ◌+◌, ◌^◌, ◌↔◌, ◌||◌, is_some, ℕ, List};
+ghost use Rattle.std.specs.Prelude.{◌≡◌, ◌≤◌, ◌<◌, ◌+◌, ◌↔◌, ◌||◌, is_some, ℕ, List};
 ghost use Rattle.std.specs.Prelude.{map, string_bytes, length, Some, [], false, true, Err, IfOk, OnOk};
+ghost use Rattle.node_tree.specs.Numbers.{max_input};
 ghost use Rattle.pipe_frames.specs.Pipe.{IsLevel};
 ghost use Rattle.pipe_frames.specs.Whole.{ReadPart};
 ghost use Rattle.replay_script.specs.Script.{script_refused};
@@ -130,7 +131,7 @@ pub fn inspect<S: Source, K: Sink, L: Link>(
     ensures whole { is_replay (map string_bytes words.now) ≡ true
         → (input : List ℕ) → S.left src.old ≡ Some input → ReadsAll result (S.left src.new) }
     // reading stops as soon as more than 2^26 bytes came
-    ensures reads { ReadPart (S.left src.old) (S.left src.new) (2 ^ 26 + 1) }
+    ensures reads { ReadPart (S.left src.old) (S.left src.new) (max_input + 1) }
     ensures nothing { is_replay (map string_bytes words.now) ≡ true → WritesNothing result (K.taken out.old) (K.taken out.new) }
     ensures cause { StatusRose (record {
       source_before = S.faults src.old;
@@ -269,7 +270,7 @@ fn replay<P: Panel, S: Source, K: Sink, L: Link>(
     ensures limits { (input : List ℕ) → S.left src.old ≡ Some input → FitsLimits result input }
     ensures whole { (input : List ℕ) → S.left src.old ≡ Some input → ReadsAll result (S.left src.new) }
     // reading stops as soon as more than 2^26 bytes came
-    ensures reads { ReadPart (S.left src.old) (S.left src.new) (2 ^ 26 + 1) }
+    ensures reads { ReadPart (S.left src.old) (S.left src.new) (max_input + 1) }
     ensures nothing { WritesNothing result (K.taken out.old) (K.taken out.new) }
     ensures cause { StatusRose (three_counts (S.faults src.old) (S.faults src.new)
         (two_counts (K.faults out.old) (K.faults out.new) (L.faults link.old) (L.faults link.new))) result }
@@ -311,7 +312,7 @@ fn pair<P: Panel, S: Source, K: Sink, L: Link>(
     ensures limits { (input : List ℕ) → S.left src.old ≡ Some input → FitsLimits result input }
     ensures whole { (input : List ℕ) → S.left src.old ≡ Some input → ReadsAll result (S.left src.new) }
     // reading stops as soon as more than 2^26 bytes came
-    ensures reads { ReadPart (S.left src.old) (S.left src.new) (2 ^ 26 + 1) }
+    ensures reads { ReadPart (S.left src.old) (S.left src.new) (max_input + 1) }
     ensures nothing { WritesNothing result (K.taken out.old) (K.taken out.new) }
     ensures cause { StatusRose (three_counts (S.faults src.old) (S.faults src.new)
         (two_counts (K.faults out.old) (K.faults out.new) (L.faults link.old) (L.faults link.new))) result }
@@ -333,7 +334,7 @@ fn pair_input<P: Panel, K: Sink, L: Link>(
     out: &mut K,
     link: &mut L,
 ) -> Status
-    requires few { length input.now ≤ 2 ^ 26 }
+    requires few { length input.now ≤ max_input }
     ensures report { L.honest link.old → IsLevel (L.up link.old) → IsLevel (L.down link.old)
         → PairTook result (K.taken out.old) (K.taken out.new) (pair_report (map P.kind_of panels.items) input.now) }
     ensures sound { L.honest link.old → IsLevel (L.up link.old) → IsLevel (L.down link.old) → IsPairHonest result }
@@ -412,7 +413,7 @@ fn run_input<P: Panel, K: Sink, L: Link>(
     out: &mut K,
     link: &mut L,
 ) -> Status
-    requires few { length input.now ≤ 2 ^ 26 }
+    requires few { length input.now ≤ max_input }
     ensures report { L.honest link.old → IsLevel (L.up link.old) → IsLevel (L.down link.old)
         → Took result (K.taken out.old) (K.taken out.new) (report (map P.kind_of panels.items) input.now) }
     ensures sound { L.honest link.old → IsLevel (L.up link.old) → IsLevel (L.down link.old) → IsHonest result }
@@ -449,11 +450,11 @@ fn run_input<P: Panel, K: Sink, L: Link>(
 /// The whole input, within its limits.
 fn read_input<S: Source>(alloc: Global, src: &mut S) -> Result<Vec<u8>, Stop>
     ensures tells { (input : List ℕ) → S.left src.old ≡ Some input → InputTells result input }
-    ensures few { IfOk result (λ read. length read.items ≤ 2 ^ 26) }
+    ensures few { IfOk result (λ read. length read.items ≤ max_input) }
     ensures whole { (input : List ℕ) → S.left src.old ≡ Some input → OnOk result (S.left src.new ≡ Some []) }
     ensures rose { IsInputStop (S.faults src.old) (S.faults src.new) result }
     ensures answered { S.faults src.old < S.faults src.new → result ≡ Err ReadFault }
-    ensures part { ReadPart (S.left src.old) (S.left src.new) (2 ^ 26 + 1) }
+    ensures part { ReadPart (S.left src.old) (S.left src.new) (max_input + 1) }
 {
     let input = match read_all(alloc, src, INPUT_LIMIT) {
         Ok(input) => input,
