@@ -1,4 +1,4 @@
-ghost use Rattle.std.specs.Prelude.{◌≡◌, ◌<◌, ◌++◌, ◌&&◌, ◌||◌, not, false, true, Some, None, Result, IfOk, OnOk};
+ghost use Rattle.std.specs.Prelude.{◌≡◌, ◌<◌, ◌++◌, ◌&&◌, ◌||◌, not, false, true, Some, None, Result, IfOk, IfSome, OnOk};
 ghost use Rattle.node_tree.specs.Numbers.{kept_before_step};
 ghost use Rattle.node_binding.specs.Bindings.{empty_from, KnowsNothing};
 ghost use Rattle.dom_breakpoints.specs.Watched.{unwatched};
@@ -6,8 +6,10 @@ ghost use Rattle.dom_search.specs.Searches.{no_searches};
 ghost use Rattle.cdp_messages.specs.DomAsks.{fits_ask};
 ghost use Rattle.cdp_messages.specs.Asked.{fits_command};
 ghost use Rattle.client_views.specs.Moves.{frames_of_moves};
+ghost use Rattle.page_forms.specs.Pages.{loaded_page, CanLoadPage};
 ghost use Rattle.back_end.specs.States.{State};
 ghost use Rattle.back_end.specs.Texts.{HasServedTexts};
+ghost use Rattle.back_end.specs.LoadFrames.{AsksLoad};
 ghost use Rattle.cdp_messages.specs.declared.command.Command.TheVariants as commands;
 ghost use Rattle.cdp_messages.specs.Answers.{ReadsAsked};
 ghost use Rattle.cdp_messages.specs.declared.command.Asked.{Asked as AskedValue};
@@ -19,7 +21,7 @@ ghost use Rattle.back_end.specs.Outside.{command_outward, asked_outward, frame_o
 ghost use Rattle.back_end.specs.Guests.{CanHear, GuestStands, Hears, heard_step};
 
 use crate::guest::Guest;
-use crate::load_scan::{LoadFrame, scan_load};
+use crate::load_scan::LoadFrame;
 use crate::side::PageSide;
 use cdp_messages::{
     Asked, Command, DomAsk, ReadErr, Refused, ReplyBody, WhitespaceWord, Why, read_command,
@@ -84,17 +86,21 @@ impl Desk {
         }
     }
 
-    /// Answers one frame: a long one that loads a page in its usual form is read token by token. The guest is told what becomes of the
-    /// page by it.
+    /// Answers one frame: one that loads a page in its usual form was read token by token. The guest is told what becomes of the page by
+    /// it.
     pub(crate) fn answer_frame(
         &mut self,
         history: &mut History,
         side: &mut PageSide,
         guest: &mut Option<Guest>,
         frame: &[u8],
+        load: Option<LoadFrame>,
         own: bool,
         out: &mut Vec<u8>,
     ) -> Result<(), AllocError>
+        requires known { IfSome load (λ f. own ≡ true) }
+        requires asks { IfSome load (λ f. AsksLoad frame.now f.id (loaded_page f.page)) }
+        requires can { IfSome load (λ f. CanLoadPage (loaded_page f.page)) }
         requires room { HasNumbersLeft self.old side.old }
         requires few { edits_in history.old < kept_before_step }
         requires standing { ∥ ((state : State) × BothStandFor self.old history.old side.old state) ∥₁ }
@@ -106,11 +112,9 @@ impl Desk {
         ensures told { (state other : State) → BothStandFor self.old history.old side.old state → GuestStands guest.old side.old other
             → OnOk result (Hears guest.old guest.new side.new (heard_step (frame_outward own frame.now state) other)) }
     {
-        if own {
-            if let Ok(load) = scan_load(self.alloc, frame) {
-                let LoadFrame { id, page } = load;
-                return self.answer_loaded(history, side, guest, id, page, out);
-            }
+        if let Some(load) = load {
+            let LoadFrame { id, page } = load;
+            return self.answer_loaded(history, side, guest, id, page, out);
         }
         let asked = read_command(self.alloc, frame, own);
         self.answer_asked(history, side, guest, asked, out)

@@ -1,5 +1,5 @@
 // A frame that loads a page, read off its tokens where it has its usual form.
-ghost use Rattle.std.specs.Prelude.{◌≡◌, [], ◌∷◌, true, Some, None, IfOk};
+ghost use Rattle.std.specs.Prelude.{◌≡◌, [], ◌∷◌, true, Some, None, IfOk, IfSome};
 ghost use Rattle.json.specs.Token.{end_object};
 ghost use Rattle.cdp_json.specs.Kinds.{is_counted};
 ghost use Rattle.page_forms.specs.Pages.{loaded_page, first_page_fault, CanLoadPage};
@@ -74,4 +74,19 @@ pub(crate) fn scan_load(alloc: Global, frame: &[u8]) -> Result<LoadFrame, ScanEr
     let mut reader = Reader::new(text, &mut scratch)?;
     let load = scan_tokens(alloc, &mut reader)?;
     Ok(load)
+}
+
+/// The same, where our own two methods are known.
+pub(crate) fn load_in(alloc: Global, frame: &[u8], own: bool) -> Option<LoadFrame>
+    ensures known { IfSome result (λ f. own ≡ true) }
+    ensures asks { IfSome result (λ f. AsksLoad frame.now f.id (loaded_page f.page)) }
+    ensures can { IfSome result (λ f. CanLoadPage (loaded_page f.page)) }
+{
+    if !own {
+        return None;
+    }
+    match scan_load(alloc, frame) {
+        Ok(load) => Some(load),
+        Err(_) => None,
+    }
 }

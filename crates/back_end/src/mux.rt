@@ -15,13 +15,14 @@ ghost use Rattle.back_end.specs.declared.guest.Guest.{Guest};
 ghost use Rattle.back_end.specs.Plans.{act_fault};
 ghost use Rattle.back_end.specs.Steps.{acts, loads};
 ghost use Rattle.back_end.specs.Texts.{HasServedTexts};
+ghost use Rattle.back_end.specs.LoadFrames.{AsksLoad};
 ghost use Rattle.back_end.specs.Pairs.{Pair, pair_step, pair_turn, root_step, attached_step, sent_to};
 ghost use Rattle.back_end.specs.PairSeats.{PairStandsFor, IsPairSeated, PairHasRoomLeft, IsUnused, IsGuestAt, IsGuestOf, seat_again};
 ghost use Rattle.back_end.specs.PairSeats.{WasToldOf, IsRenewed};
 
 use crate::faults::ActFault;
 use crate::guest::Guest;
-use crate::load_scan::scan_load;
+use crate::load_scan::{LoadFrame, load_in};
 use crate::seat::Seat;
 use crate::side::PageSide;
 use cdp_messages::{Asked, ReadErr, read_command, read_session_command};
@@ -203,10 +204,8 @@ impl Mux {
         if self.router.attached().is_some() {
             return self.serve_routed(side, bytes, own, out);
         }
-        if own {
-            if let Ok(_load) = scan_load(self.alloc, bytes) {
-                return self.serve_root(side, bytes, own, out);
-            }
+        if let Some(load) = load_in(self.alloc, bytes, own) {
+            return self.serve_root(side, bytes, Some(load), own, out);
         }
         self.serve_read(side, bytes, own, out)
     }
@@ -251,7 +250,10 @@ impl Mux {
         ensures life { self.new.is_dead ≡ self.old.is_dead }
     {
         match self.router.route(self.alloc, bytes, out)? {
-            Routed::Root => self.serve_root(side, bytes, own, out),
+            Routed::Root => {
+                let load = load_in(self.alloc, bytes, own);
+                self.serve_root(side, bytes, load, own, out)
+            }
             Routed::Attached => self.serve_attached(side, bytes, out),
             Routed::Answered => {
                 self.renew();
@@ -265,9 +267,13 @@ impl Mux {
         &mut self,
         side: &mut PageSide,
         bytes: &[u8],
+        load: Option<LoadFrame>,
         own: bool,
         out: &mut Vec<u8>,
     ) -> Result<(), AllocError>
+        requires known { IfSome load (λ f. own ≡ true) }
+        requires asks { IfSome load (λ f. AsksLoad bytes.now f.id (loaded_page f.page)) }
+        requires can { IfSome load (λ f. CanLoadPage (loaded_page f.page)) }
         requires room { PairHasRoomLeft self.old side.old }
         requires seated { ∥ ((p : Pair) × PairStandsFor self.old side.old p) ∥₁ }
         ensures stands { (p : Pair) → PairStandsFor self.old side.old p
@@ -279,7 +285,7 @@ impl Mux {
         let mut guest = self.second_as_guest();
         let mut said = Vec::new(self.alloc);
         self.root
-            .serve_frame(side, &mut guest, bytes, own, &mut said)?;
+            .serve_frame(side, &mut guest, bytes, load, own, &mut said)?;
         self.reseat_second(guest, out)?;
         out.extend_from_slice(&said)?;
         Ok(())

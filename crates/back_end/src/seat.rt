@@ -1,4 +1,4 @@
-ghost use Rattle.std.specs.Prelude.{◌≡◌, ◌++◌, ◌↔◌, IsTrue, true, false, Result, IfOk, OnOk, OnErr, IsErr};
+ghost use Rattle.std.specs.Prelude.{◌≡◌, ◌++◌, ◌↔◌, IsTrue, true, false, Result, IfOk, IfSome, OnOk, OnErr, IsErr};
 ghost use Rattle.undo_marks.specs.Marks.{no_marks};
 ghost use Rattle.node_binding.specs.Bindings.{empty_from};
 ghost use Rattle.dom_breakpoints.specs.Watched.{unwatched};
@@ -16,12 +16,14 @@ ghost use Rattle.cdp_messages.specs.declared.command.Refused.{Refused as Refused
 ghost use Rattle.back_end.specs.Steps.{act_step, asked_step, frame_step, load_step};
 ghost use Rattle.back_end.specs.Outside.{asked_outward, frame_outward};
 ghost use Rattle.back_end.specs.Texts.{HasServedTexts};
+ghost use Rattle.back_end.specs.LoadFrames.{AsksLoad};
 ghost use Rattle.back_end.specs.Seats.{StandsFor, IsSeated, HasRoomLeft};
 ghost use Rattle.back_end.specs.Guests.{CanHear, GuestStands, Hears, heard_step};
 
 use crate::desk::Desk;
 use crate::faults::ActFault;
 use crate::guest::Guest;
+use crate::load_scan::{LoadFrame, load_in};
 use crate::side::PageSide;
 use cdp_messages::{Asked, ReadErr};
 use page_forms::{Act, PageForm};
@@ -99,18 +101,24 @@ impl Seat {
         ensures memory { OnErr result (self.new.is_dead ≡ true) }
         ensures dead { self.old.is_dead ≡ true → IsErr result }
     {
-        self.serve_frame(side, &mut None, frame, own, out)
+        let load = load_in(self.desk.alloc, frame, own);
+        self.serve_frame(side, &mut None, frame, load, own, out)
     }
 
-    /// Answers one frame, as `take_message` does. The guest, if there is one, is told what becomes of the page by it.
+    /// Answers one frame, as `take_message` does; `load` is the page that it loads, if it was read off its tokens. The guest, if there is
+    /// one, is told what becomes of the page by it.
     pub(crate) fn serve_frame(
         &mut self,
         side: &mut PageSide,
         guest: &mut Option<Guest>,
         frame: &[u8],
+        load: Option<LoadFrame>,
         own: bool,
         out: &mut Vec<u8>,
     ) -> Result<(), AllocError>
+        requires known { IfSome load (λ f. own ≡ true) }
+        requires asks { IfSome load (λ f. AsksLoad frame.now f.id (loaded_page f.page)) }
+        requires can { IfSome load (λ f. CanLoadPage (loaded_page f.page)) }
         requires room { HasRoomLeft self.old side.old }
         requires seated { IsSeated self.old side.old }
         requires can_hear { CanHear kept_before_step guest.old side.old }
@@ -130,7 +138,7 @@ impl Seat {
         }
         self.is_dead = true;
         self.desk
-            .answer_frame(&mut self.history, side, guest, frame, own, out)?;
+            .answer_frame(&mut self.history, side, guest, frame, load, own, out)?;
         self.is_dead = false;
         Ok(())
     }

@@ -7,14 +7,14 @@ use Rattle.back_end.specs.PairSeats.{PairStandsFor}
 use Rattle.back_end.proofs.CommandRoutes.{load-routed}
 use Rattle.back_end.proofs.mux.Mux.serve.Goals as goal
 
-pub returns-in-Ok-clause-stands : goal.returns-in-Ok-clause-stands
-returns-in-Ok-clause-stands c = λ p stands.
+pub returns-in-Some-clause-stands : goal.returns-in-Some-clause-stands
+returns-in-Some-clause-stands c = λ p stands.
     subst (λ (done : Stepped Pair). OnOk c.serve_root.result (PairStandsFor c.serve_root.new.self c.serve_root.new.side done.state))
-    (load-routed c.args.own c.args.bytes.now p _ c.if-own.true (c.in-Ok.ensures {u = tt}).asks.asks)
+    (load-routed c.args.own c.args.bytes.now p _ c.in-Some.ensures.known c.in-Some.ensures.asks.asks)
     (c.serve_root.ensures.stands p stands)
 
-pub returns-in-Ok-clause-sent : goal.returns-in-Ok-clause-sent
-returns-in-Ok-clause-sent c = λ p stands.
+pub returns-in-Some-clause-sent : goal.returns-in-Some-clause-sent
+returns-in-Some-clause-sent c = λ p stands.
     subst (λ (done : Stepped Pair). OnOk c.serve_root.result (c.serve_root.new.out.items ≡ c.args.out.now.items ++ done.sent))
-    (load-routed c.args.own c.args.bytes.now p _ c.if-own.true (c.in-Ok.ensures {u = tt}).asks.asks)
+    (load-routed c.args.own c.args.bytes.now p _ c.in-Some.ensures.known c.in-Some.ensures.asks.asks)
     (c.serve_root.ensures.sent p stands)
