@@ -567,6 +567,16 @@ sheet_edit_step id edit state = restyled_step id (css_edited (book_in state) edi
 
 -- ---- watches
 
+-- the command that sets a watch of a node, and the one that ends it
+abbrev pub watch_command : Bool → ℕ → WatchKind → Command
+watch_command true node kind = SetBreakpoint node kind
+watch_command false node kind = RemoveBreakpoint node kind
+
+-- what becomes of all watches where one is set, and where it ends
+abbrev pub watch_change : Bool → WatchKind → ℕ → Watched → Watched
+watch_change true kind = with_watch kind
+watch_change false kind = without_watch kind
+
 -- the watches of the client become others, by a command on a known node
 abbrev pub watch_step : ℕ → (ℕ → Watched → Watched) → Option ℕ → State → Step
 watch_step id change None state = refusing (Some id) UnknownNode state

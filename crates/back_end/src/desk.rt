@@ -239,8 +239,10 @@ impl Desk {
             Command::CssDisable => self.disable_css(side, id, out),
             Command::AskCss(ask) => self.answer_styles(side, id, &ask, out),
             Command::EditCss(edit) => self.answer_sheet_edit(history, side, guest, id, &edit, out),
-            Command::SetBreakpoint { node, kind } => self.watch(side, id, node, kind, out),
-            Command::RemoveBreakpoint { node, kind } => self.unwatch(side, id, node, kind, out),
+            Command::SetBreakpoint { node, kind } => self.watch(side, id, node, kind, true, out),
+            Command::RemoveBreakpoint { node, kind } => {
+                self.watch(side, id, node, kind, false, out)
+            }
             Command::ReplayLoad { params } => {
                 self.answer_load(history, side, guest, id, params.as_value(), out)
             }

@@ -209,10 +209,7 @@ impl Slot {
     pub(crate) fn is_element(&self) -> bool
         ensures { result ≡ is_element self.now.kind }
     {
-        match self.kind {
-            Kind::Element => true,
-            Kind::Document | Kind::Text | Kind::Comment | Kind::Doctype => false,
-        }
+        self.kind.is_element()
     }
 
     /// Whether it has a value.

@@ -2,7 +2,7 @@
 ghost use Rattle.std.specs.Prelude.{◌≡◌, ◌+◌, ◌<◌, ℕ, IsSome, IfOk, OnOk, OnErr};
 ghost use Rattle.node_tree.specs.Numbers.{number_limit};
 ghost use Rattle.node_tree.specs.Nodes.{alone, node_count};
-ghost use Rattle.node_tree.specs.Labels.{is_element, is_doctype};
+ghost use Rattle.node_tree.specs.Labels.{is_doctype};
 ghost use Rattle.node_tree.specs.Keys.{find};
 ghost use Rattle.node_tree.specs.Seen.{seen_id};
 ghost use Rattle.front_mirror.specs.Shown.{known_at};
@@ -22,15 +22,6 @@ pub(crate) struct Tally {
     pub(crate) comments: u64,
     pub(crate) doctypes: u64,
     pub(crate) unopened: u64,
-}
-
-fn is_element(kind: Kind) -> bool
-    ensures { result ≡ is_element kind }
-{
-    match kind {
-        Kind::Element => true,
-        Kind::Document | Kind::Text | Kind::Comment | Kind::Doctype => false,
-    }
 }
 
 fn is_text(kind: Kind) -> bool
@@ -92,7 +83,7 @@ impl Tally {
         ensures { OnOk result (numbers_in self.new ≡ plus (numbers_in self.old) (row_numbers (known_at id mirror.now).row)) }
     {
         let kind = mirror.kind(id);
-        let elements = grown(self.elements, is_element(kind))?;
+        let elements = grown(self.elements, kind.is_element())?;
         let texts = grown(self.texts, is_text(kind))?;
         let comments = grown(self.comments, is_comment(kind))?;
         let doctypes = grown(self.doctypes, is_doctype(kind))?;

@@ -205,8 +205,3 @@ front_fault met (of_second form) = styles_fault met.second_came form
 -- the fault of a line that is in form
 abbrev pub pair_want_fault : {K : Type 0} → Met K → PairForm → Option LineFault
 pair_want_fault met form = first_of (session_fault met.stands form) (front_fault met form)
-
--- the first fault of the line of that number, where it meets this: that of its form comes before
-abbrev pub pair_fault_where : {K : Type 0} → Met K → ℕ → List ℕ → Option LineFault
-pair_fault_where met number line =
-    first_of (pair_line_fault number line) (option_and_then (pair_want_fault met) (pair_line_form line))

@@ -109,16 +109,18 @@ returns-in-SetBreakpoint-clause-sent c = λ state both.
 
 pub returns-in-RemoveBreakpoint-clause-stands : goal.returns-in-RemoveBreakpoint-clause-stands
 returns-in-RemoveBreakpoint-clause-stands c = λ state both.
-    plain-both c.unwatch.result c.args.self.now c.unwatch.new.self c.args.side.now c.args.side.now c.args.history.now state c.args.id
+    plain-both c.watch-in-RemoveBreakpoint.result c.args.self.now c.watch-in-RemoveBreakpoint.new.self c.args.side.now c.args.side.now
+    c.args.history.now state c.args.id
     (commands.RemoveBreakpoint c.in-RemoveBreakpoint.node c.in-RemoveBreakpoint.kind) c.args.command (sym c.in-RemoveBreakpoint.is)
     (unwatches-alone c.in-RemoveBreakpoint.node c.in-RemoveBreakpoint.kind) both
-    (c.unwatch.ensures.stands state both.stands)
+    (c.watch-in-RemoveBreakpoint.ensures.stands state both.stands)
 
 pub returns-in-RemoveBreakpoint-clause-sent : goal.returns-in-RemoveBreakpoint-clause-sent
 returns-in-RemoveBreakpoint-clause-sent c = λ state both.
-    part-sent c.unwatch.result state c.args.id (commands.RemoveBreakpoint c.in-RemoveBreakpoint.node c.in-RemoveBreakpoint.kind)
-    c.args.command c.args.out.now.items c.unwatch.new.out.items (sym c.in-RemoveBreakpoint.is)
-    (c.unwatch.ensures.sent state both.stands)
+    part-sent c.watch-in-RemoveBreakpoint.result state c.args.id
+    (commands.RemoveBreakpoint c.in-RemoveBreakpoint.node c.in-RemoveBreakpoint.kind)
+    c.args.command c.args.out.now.items c.watch-in-RemoveBreakpoint.new.out.items (sym c.in-RemoveBreakpoint.is)
+    (c.watch-in-RemoveBreakpoint.ensures.sent state both.stands)
 
 pub returns-in-AskDom-clause-stands : goal.returns-in-AskDom-clause-stands
 returns-in-AskDom-clause-stands c = λ state both.
@@ -273,8 +275,8 @@ watch-requires c = record {
       c.args.command c.in-SetBreakpoint.is refl c.requires.met;
 }
 
-pub unwatch-requires : goal.unwatch-requires
-unwatch-requires c = record {
+pub watch-requires-in-RemoveBreakpoint : goal.watch-requires-in-RemoveBreakpoint
+watch-requires-in-RemoveBreakpoint c = record {
   on = met-on c.args.self.now.is_on c.args.self.now.css (commands.RemoveBreakpoint c.in-RemoveBreakpoint.node c.in-RemoveBreakpoint.kind)
       c.args.command c.in-RemoveBreakpoint.is refl c.requires.met;
 }
@@ -348,7 +350,7 @@ returns-in-SetBreakpoint-clause-told c = λ state other both stands.
 
 pub returns-in-RemoveBreakpoint-clause-told : goal.returns-in-RemoveBreakpoint-clause-told
 returns-in-RemoveBreakpoint-clause-told c = λ state other both stands.
-    plain-hears c.unwatch.result c.args.guest.now c.args.self.now c.args.side.now state other
+    plain-hears c.watch-in-RemoveBreakpoint.result c.args.guest.now c.args.self.now c.args.side.now state other
     (commands.RemoveBreakpoint c.in-RemoveBreakpoint.node c.in-RemoveBreakpoint.kind)
     c.args.command c.in-RemoveBreakpoint.is refl both.stands stands
 
