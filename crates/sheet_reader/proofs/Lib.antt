@@ -67,3 +67,6 @@ pub mod LineEnds
 pub mod SealedSeams
 pub mod MediaStarts
 pub mod MediaPreludes
+mod LateForms
+mod BodyOrder
+mod OpenedForms

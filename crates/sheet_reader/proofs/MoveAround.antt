@@ -15,7 +15,7 @@ use Rattle.sheet_reader.specs.Forms.{RuleForm, rule_seen}
 use Rattle.selectors.specs.Moves.{Cut, moved_place}
 use Rattle.sheet_reader.specs.Moves.{placed_rule, rebodied, moved_rules, CanMoveBody}
 
-suc_is : (n : ℕ) → suc n ≡ n + 1
+pub suc_is : (n : ℕ) → suc n ≡ n + 1
 suc_is n = omega arith
 
 pub seam_get : {X : Type 0} (front rs : List X) (own : ℕ) (d : X) → length front ≡ own → get_or (front ++ drop own rs) own d

@@ -28,7 +28,7 @@ seen_still see P g xs ys i d inside so_far all size =
     subst P (get_or-map see ys i d)
     (still_there P g (map see xs) (map see ys) i (see d) (omega (arith, inside, len)) so_far all)
 
-map_set : {X Y : Type 0} (see : X → Y) (xs : List X) (i : ℕ) (y : X) → map see (set xs i y) ≡ set (map see xs) i (see y)
+pub map_set : {X Y : Type 0} (see : X → Y) (xs : List X) (i : ℕ) (y : X) → map see (set xs i y) ≡ set (map see xs) i (see y)
 map_set see [] i y = refl
 map_set see (x ∷ xs) zero y = refl
 map_set see (x ∷ xs) (suc i) y = ap (λ zs. see x ∷ zs) (map_set see xs i y)

@@ -21,3 +21,5 @@ pub mod Joins
 pub mod SelectorLists
 pub mod Solids
 pub mod Preludes
+pub mod Late
+pub mod Opened

@@ -7,7 +7,8 @@
 //! of bytes; a `SheetBook` is the list of its entries, each with the reading of its text. `reread` gives the reading of a text of
 //! which a part was replaced: where that is the body of a rule, no more than the new body is read, and else, outside media rules, no
 //! more than what stands between the rules around it. `plan_reread` takes the memory that it wants, `carry_out` and
-//! `SheetBook::retell` take none.
+//! `SheetBook::retell` take none. An `OpenSheet` is a sheet whose rules get new bodies one after the other: its text is copied once, and
+//! bodies in the order of the text move each rule once.
 //!
 //! Way in: those, `reread` for a text of which a part was replaced, `sealed` for one that may stand between braces, and `lone_rule`
 //! for one that is one rule.
@@ -23,11 +24,13 @@ mod brackets;
 mod declarations;
 mod ends;
 mod frames;
+mod late;
 mod laws;
 mod lists;
 mod lone;
 mod media;
 mod moves;
+mod opened;
 mod parts;
 mod place;
 mod places;
@@ -45,6 +48,7 @@ pub use laws::{
 pub use lists::{MediaRules, Places, Properties, StyleRules};
 pub use lone::{LoneRule, lone_rule};
 pub use moves::move_body;
+pub use opened::OpenSheet;
 pub use place::Position;
 pub use places::{byte_at, position};
 pub use repairs::{NewPart, Share};

@@ -2,11 +2,11 @@
 
 ghost use Rattle.std.specs.Prelude.{◌≡◌, ◌<◌, ◌+◌, ◌++◌, ◌∷◌, [], All, length, map, OnOk};
 ghost use Rattle.node_tree.specs.Numbers.{number_limit};
-ghost use Rattle.selectors.specs.Moves.{cut, moved_place};
+ghost use Rattle.selectors.specs.Moves.{cut, moved_place, CanPlace};
 ghost use Rattle.sheet_reader.specs.Forms.{rule_seen};
 ghost use Rattle.sheet_reader.specs.Moves.{placed_property, placed_media, CanPlaceProperty, CanPlaceMedia, IsPropertyWithin};
 
-use crate::moves::{Gap, move_media, move_properties, raise_properties};
+use crate::moves::{Gap, move_media, move_places, move_properties, raise_properties};
 use crate::sheet::{MediaRule, Property, StyleRule};
 use std::alloc::AllocError;
 use std::marker::Model;
@@ -168,6 +168,14 @@ impl Places {
         ensures { result.items ≡ self }
     {
         self.places
+    }
+
+    /// Moves them all. Takes no memory.
+    pub(crate) fn move_behind(&mut self, gap: Gap)
+        requires { All (CanPlace (cut gap.start gap.end gap.size)) self.old }
+        ensures moved { self.new ≡ map (moved_place (cut gap.start gap.end gap.size)) self.old }
+    {
+        move_places(&mut self.places, gap);
     }
 }
 

@@ -83,7 +83,7 @@ fn move_rule(rule: &mut StyleRule, gap: Gap)
     rule.properties.move_behind(gap);
 }
 
-fn rebody(rule: &mut StyleRule, gap: Gap, properties: Properties)
+pub(crate) fn rebody(rule: &mut StyleRule, gap: Gap, properties: Properties)
     requires head { CanPlaceHead (cut gap.start gap.end gap.size) (rule_seen rule.old) }
     requires within { All (IsPropertyWithin gap.size) properties }
     requires fits { gap.start + gap.size < number_limit }
