@@ -100,18 +100,6 @@ place_then previous x ks i other there is =
 
 -- ---- a place where an id stands
 
-pub got-inside : (ks : List ℕ) (i k : ℕ) → slice_get ks i ≡ Some k → i < length ks
-got-inside [] i k e = absurd cc
-got-inside (x ∷ ks) zero k e = omega arith
-got-inside (x ∷ ks) (suc i) k e = let h = got-inside ks i k e in omega arith
-
-pub place-low : (x : ℕ) (ks : List ℕ) → id_place x ks ≤ length ks
-place-low x [] = omega arith
-place-low x (k ∷ ks) = at (k == x) (place-low x ks) where
-  at : (b : Bool) → id_place x ks ≤ length ks → cond {A = ℕ} b 0 (suc (id_place x ks)) ≤ suc (length ks)
-  at true h = omega arith
-  at false h = omega arith
-
 -- where an id stands somewhere, it stands at the first place
 pub place-got : (x : ℕ) (ks : List ℕ) (i : ℕ) → slice_get ks i ≡ Some x → slice_get ks (id_place x ks) ≡ Some x
 place-got x [] i e = absurd cc

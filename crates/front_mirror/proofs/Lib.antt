@@ -35,3 +35,6 @@ mod CountedLemmas
 mod RecountLemmas
 mod FewLemmas
 mod EditCounts
+mod ShelfLemmas
+mod RankedIds
+mod KeptOrders

@@ -14,3 +14,4 @@ pub mod Places
 pub mod PanelTold
 pub mod Walks
 pub mod Sizes
+pub mod Orders

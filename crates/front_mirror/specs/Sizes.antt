@@ -8,6 +8,7 @@ use Rattle.node_tree.specs.Levels.{most_levels}
 use Rattle.node_tree.specs.Seen.{Seen, seen_id}
 use Rattle.std.specs.Ordering.{nat_cmp}
 use Rattle.std.specs.FinMap as numbers
+use Rattle.client_views.specs.Views.{keys}
 use Rattle.front_mirror.specs.declared.edits.NodeChange.{NodeChange}
 use Rattle.front_mirror.specs.declared.edits.NodeChange.TheVariants as edit
 use Rattle.front_mirror.specs.declared.table.Table.{Table}
@@ -56,8 +57,9 @@ leaving_trees t (edit.SetAttribute name value) = none
 leaving_trees t (edit.DropAttribute name) = none
 leaving_trees t (edit.SetValue value) = none
 
--- the table of a mirror keeps its tree, whose ids came in messages, and the map has its numbers
-pub record KeepsCounted (t : Table) (roots : List ℕ) (counts : numbers.FinMap nat_cmp ℕ) : Type 0 where
+-- The table of a mirror keeps its tree, whose ids came in messages; the map has its numbers, and the list its ids in document order.
+pub record KeepsCounted (t : Table) (roots : List ℕ) (counts : numbers.FinMap nat_cmp ℕ) (order : List ℕ) : Type 0 where
   pub kept : KeepsMirror t roots
   pub counted : IsCounted seen_id (numbers.get counts) (tree_in t roots)
   pub low : HasLowIds (tree_in t roots)
+  pub ordered : order ≡ keys seen_id (tree_in t roots)

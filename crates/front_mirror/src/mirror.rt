@@ -1,12 +1,13 @@
 ghost use Rattle.std.specs.Prelude.{◌≡◌, ◌≢◌, ◌↔◌, ◌<◌, ◌++◌, length, IsTrue, IsSome, is_some, Some, option_map, unwrap_or, slice_get};
 ghost use Rattle.std.specs.Prelude.{None, true, IfOk, IfSome, OnOk};
-ghost use Rattle.node_tree.specs.Nodes.{none, alone, width, tree_at, branch_count};
+ghost use Rattle.node_tree.specs.Nodes.{none, alone, width, tree_at, branch_count, node_count};
 ghost use Rattle.std.specs.Option.{option_copied};
 ghost use Rattle.node_tree.specs.Keys.{has, find, parent_of, level_of, spot};
 ghost use Rattle.node_tree.specs.Seen.{is_opened, shows_count, seen_id, seen_serial};
 ghost use Rattle.dom_objects.specs.Told.{count_in, seen_nodes};
 ghost use Rattle.dom_objects.specs.NodeData.{fits_tree};
 ghost use Rattle.front_mirror.specs.Shown.{known_at, root_id};
+ghost use Rattle.front_mirror.specs.Walks.{rank_of};
 ghost use Rattle.client_views.specs.Moves.{has_tree, removes};
 ghost use Rattle.front_mirror.specs.PanelTold.{panel_change};
 ghost use Rattle.front_mirror.specs.Outline.{lines_at, seen_line};
@@ -14,6 +15,8 @@ ghost use Rattle.front_mirror.specs.Tables.{mirror_row, root_ids, TableLooks};
 
 use crate::checks::MOST_LEVELS;
 use crate::edits::NodeChange;
+use crate::order_changes::{OrderChange, push_ids};
+use crate::orders::Order;
 use crate::panels::Change;
 use crate::sizes::{note_all, recount};
 use crate::slots::{IdList, Slot};
@@ -32,6 +35,7 @@ pub struct Mirror {
     table: Table,
     roots: IdList,
     counts: NumberMap,
+    order: Order,
 }
 
 impl Model for Mirror {
@@ -46,13 +50,14 @@ impl Model for Mirror {
 
     ghost view = { λ m. tree_in m.table m.roots };
 
-    ghost invariant = { λ m. KeepsCounted m.table m.roots m.counts };
+    ghost invariant = { λ m. KeepsCounted m.table m.roots m.counts m.order };
 }
 
 impl Mirror {
     ghost use Rattle.client_views.specs.Views.{IsMirror};
     ghost use Rattle.node_tree.specs.Levels.{most_levels};
     ghost use Rattle.front_mirror.specs.Front.{root_fault};
+    ghost use Rattle.front_mirror.specs.Orders.{ChangesOrder};
     ghost use Rattle.front_mirror.specs.Edits.{fits_edit, edit_change, edit_told, spot_fault, with_changed};
 
     pub(crate) fn new(alloc: Global) -> Mirror
@@ -62,6 +67,7 @@ impl Mirror {
             table: Table::new(alloc),
             roots: IdList::new(alloc),
             counts: NumberMap::new(alloc),
+            order: Order::new(alloc),
         }
     }
 
@@ -75,16 +81,20 @@ impl Mirror {
         let mut roots = IdList::new(alloc);
         let mut counts = NumberMap::new(alloc);
         roots.push(root.id)?;
+        let mut ids = Vec::new(alloc);
         note_all(&mut counts, slice::from_ref(&root))?;
+        push_ids(slice::from_ref(&root), &mut ids)?;
+        let order = Order::of(alloc, &ids)?;
         table.plant(alloc, root, None)?;
         Ok(Mirror {
             table,
             roots,
             counts,
+            order,
         })
     }
 
-    /// Changes a known node, where nothing is wrong with the edit. After want of memory the mirror is empty.
+    /// Changes a known node, where nothing is wrong with the edit. After want of memory the mirror is empty, or as before.
     pub(crate) fn change(
         &mut self,
         alloc: Global,
@@ -95,14 +105,34 @@ impl Mirror {
         requires clear { spot_fault self.old (edit_told id edit) (spot seen_id id 0 self.old) ≡ None }
         ensures { OnOk result (self.new ≡ with_changed id (edit_change edit) self.old) }
     {
+        let turn = self.order_change(alloc, id, &edit)?;
+        self.change_in(alloc, id, edit, &turn)
+    }
+
+    /// The same, where it is known what the edit makes of the ids in document order.
+    fn change_in(
+        &mut self,
+        alloc: Global,
+        id: u64,
+        edit: NodeChange,
+        turn: &OrderChange,
+    ) -> Result<(), AllocError>
+        requires fits { fits_edit edit ≡ true }
+        requires clear { spot_fault self.old (edit_told id edit) (spot seen_id id 0 self.old) ≡ None }
+        requires turn { ChangesOrder turn.now self.old (with_changed id (edit_change edit) self.old) }
+        ensures { OnOk result (self.new ≡ with_changed id (edit_change edit) self.old) }
+    {
         let mut table = mem::replace(&mut self.table, Table::new(alloc));
         let roots = mem::replace(&mut self.roots, IdList::new(alloc));
         let mut counts = mem::replace(&mut self.counts, NumberMap::new(alloc));
+        let mut order = mem::replace(&mut self.order, Order::new(alloc));
         recount(alloc, &mut counts, &table, &roots, id, &edit)?;
+        order.splice(alloc, turn.place, turn.gone, &turn.ids)?;
         table.change(alloc, id, edit)?;
         self.table = table;
         self.roots = roots;
         self.counts = counts;
+        self.order = order;
         Ok(())
     }
 
@@ -287,6 +317,22 @@ impl Mirror {
             unreachable!()
         };
         count as usize
+    }
+
+    /// How many known nodes there are.
+    pub(crate) fn known_count(&self) -> usize
+        ensures { result ≡ node_count self.now }
+    {
+        self.order.len()
+    }
+
+    /// How many known nodes stand before the node of that id in document order.
+    pub fn rank(&self, id: u64) -> usize
+        requires known { IsSome (find seen_id id self.now) }
+        ensures { result ≡ rank_of seen_id id self.now }
+    {
+        self.valid();
+        self.order.place_of(id)
     }
 
     /// What panels are told where the child of that id leaves.

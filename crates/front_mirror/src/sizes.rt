@@ -100,7 +100,7 @@ fn leaving(alloc: Global, table: &Table, edit: &NodeChange) -> Result<Vec<u64>, 
 }
 
 /// Takes the numbers of these ids out.
-fn forget(counts: &mut NumberMap, ids: &[u64])
+pub(crate) fn forget(counts: &mut NumberMap, ids: &[u64])
     ensures { (k : ℕ) → is_in k ids.now ≡ false → map.get counts.new k ≡ map.get counts.old k }
 {
     for id in ids {

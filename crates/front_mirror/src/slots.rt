@@ -1,4 +1,4 @@
-ghost use Rattle.std.specs.Prelude.{◌≡◌, ◌<◌, ◌≤◌, ◌==◌, ◌||◌, true, ℕ, List, [], ◌∷◌, ◌++◌, length, Some, IfOk, IfSome, OnOk, slice_get};
+ghost use Rattle.std.specs.Prelude.{◌≡◌, ◌<◌, ◌≤◌, ◌==◌, ◌||◌, true, ℕ, List, [], ◌∷◌, ◌++◌, length, Some, IfOk, OnOk, slice_get};
 ghost use Rattle.std.specs.List.{insert};
 ghost use Rattle.client_views.specs.Views.{is_in};
 ghost use Rattle.node_tree.specs.Nodes.{Nodes};
@@ -44,6 +44,15 @@ impl IdList {
         })
     }
 
+    /// These ids.
+    pub(crate) fn of(alloc: Global, ids: &[u64]) -> Result<IdList, AllocError>
+        ensures { IfOk result (λ list. list ≡ ids.now) }
+    {
+        let mut list = IdList::with_room(alloc, ids.len())?;
+        list.ids.extend_from_slice(ids)?;
+        Ok(list)
+    }
+
     pub(crate) fn as_slice(&self) -> &[u64]
         ensures { result.now ≡ self.now }
     {
@@ -69,36 +78,6 @@ impl IdList {
     {
         self.ids.push(id)?;
         Ok(())
-    }
-
-    /// A place where the id stands, looked for from both ends at once.
-    fn place_by_ends(&self, id: u64) -> Option<usize>
-        ensures { IfSome result (λ i. slice_get self.now i ≡ Some id) }
-    {
-        let len = self.len();
-        for i in 0..len - len / 2 {
-            let front = self.at(i);
-            if front == id {
-                return Some(i);
-            }
-            let last = len - 1 - i;
-            let back = self.at(last);
-            if back == id {
-                return Some(last);
-            }
-        }
-        None
-    }
-
-    /// A place where the id stands, if it stands anywhere.
-    pub(crate) fn place_of(&self, id: u64) -> usize
-        ensures inside { result ≤ length self.now }
-        ensures there { (i : ℕ) → slice_get self.now i ≡ Some id → slice_get self.now result ≡ Some id }
-    {
-        if let Some(place) = self.place_by_ends(id) {
-            return place;
-        }
-        self.place(id)
     }
 
     /// The place of the first that is the id, and else the number of them.

@@ -12,7 +12,7 @@ use Rattle.front_mirror.specs.Panels.{NodeTurns, Opens, Gains, Loses, Differs, w
 use Rattle.front_mirror.specs.Walks.{walk, walk_in, spliced, rank_of, count_first}
 use Rattle.front_mirror.proofs.OrderLemmas.{splits, splice_parts, walk_in-count}
 use Rattle.front_mirror.proofs.GrowLemmas.{Grown, grown_place, grown-at, grows, rank-child}
-use Rattle.front_mirror.proofs.RankLemmas.{count_first-zero, count_first-suc}
+use Rattle.front_mirror.proofs.RankLemmas.{count_first-zero, count-without, child_end}
 use Rattle.front_mirror.proofs.ChildLemmas.{known-found, child_found, child_is}
 use Rattle.panels.specs.Lines.{outline_line, outline_lines, place_left}
 use Rattle.panels.proofs.ChangedNodes.{bare-at, unopened_none, shut_unopened, grown-stands}
@@ -108,11 +108,6 @@ module _ (id : ℕ) (before after : Nodes Seen) (was : IsMirror before) (is : Is
 
 -- ---- a child comes, and a child goes
 
-pub count-without : (i : ℕ) (n : Nodes Seen) → count_first i (without_place i n) ≡ count_first i n
-count-without i none = refl
-count-without zero (node r c t) = count_first-zero t
-count-without (suc i) (node r c t) = let h = count-without i t in omega arith
-
 pub width-without : (i : ℕ) (n : Nodes Seen) (b : Branch Seen) → tree_at i n ≡ Some b → i ≤ width (without_place i n)
 width-without i none b e = absurd cc
 width-without zero (node r c t) b e = omega arith
@@ -172,19 +167,7 @@ module _ (child parent : ℕ) (before after : Nodes Seen) (was : IsMirror before
       lines_turn (place_left parent place after) known s.front (walk_in outline_line (0 + suc t.depth) w) [] s.rest before after
       (omega arith) (sym (walk_in-count outline_line (0 + suc t.depth) w ∙ t.turns.known_were)) s.is s.was
 
--- where a child of a known node ends
-pub child_end : (id : ℕ) (n : Nodes Seen) (is : IsMirror n) (b w : Branch Seen) (i : ℕ) → find seen_id id n ≡ Some b
-    → tree_at i b.children ≡ Some w
-    → rank_of seen_id w.row.id n + branch_count w ≡ rank_of seen_id id n + suc (count_first (suc i) b.children)
-child_end id n is b w i found child =
-    let s = stands-find seen_id id n b found in
-    let h = rank-child seen_id i w child s.2 is.view.ids in
-    let k = found_key seen_id id n b found in
-    let same : rank_of seen_id b.row.id n ≡ rank_of seen_id id n = ap (λ x. rank_of seen_id x n) k in
-    let c = count_first-suc i b.children w child in
-    omega arith
-
--- and where it began
+-- where a child that went began
 pub child_start : (parent place : ℕ) (n : Nodes Seen) → IsMirror n → IsSome (find seen_id parent n) → (sibling : ℕ)
     → 0 < place
     → Some sibling ≡ option_map (λ (b : Branch Seen). b.row.id) (tree_at (place - 1) (known_at parent n).children)

@@ -8,7 +8,10 @@ use Rattle.node_tree.specs.Seen.{seen_id}
 use Rattle.front_mirror.specs.Shown.{shown_of}
 use Rattle.front_mirror.specs.Sizes.{noted}
 use Rattle.front_mirror.specs.Tables.{tree_in}
+use Rattle.client_views.specs.Views.{keys}
+use Rattle.front_mirror.specs.Shown.{told_id}
 use Rattle.front_mirror.proofs.EditCounts.{root_counted, low_again}
+use Rattle.front_mirror.proofs.KeptOrders.{root_ordered}
 use Rattle.front_mirror.proofs.ViewLemmas.{mirror_of_root, low_of_root}
 use Rattle.front_mirror.proofs.FewLemmas.{few_of_root}
 use Rattle.front_mirror.proofs.EditTableLemmas.{root_kept}
@@ -36,6 +39,10 @@ invariant_of-result c =
           k.0 (mirror_of_root c.args.root c.requires.clear c.requires.fits).view.ids;
       low = low_again (seen_nodes (alone c.args.root)) (tree_in c.plant.new.self c.push.new.self)
           (low_of_root c.args.root c.requires.fits) k.0;
+      ordered = root_ordered c.args.root c.from_ref-2.result.now c.push_ids.new.ids.items c.in_ok-order.order
+          (tree_in c.plant.new.self c.push.new.self) c.from_ref-2.ensures.value
+          (c.in_ok-push_ids.ensures ∙ ap (λ (l : List ℕ). l ++ keys told_id (nodes_of c.from_ref-2.result.now)) c.new-ids.ensures.items)
+          (c.in_ok-order.ensures ∙ c.deref.ensures.value) k.0;
     }
 
 pub returns : goal.returns

@@ -1,17 +1,18 @@
 -- The edit, made in the table.
-use Rattle.std.proofs.Common.{IsSome, sym, ap, subst, ◌∙◌}
+use Rattle.std.proofs.Common.{ℕ, ◌+◌, ◌≤◌, List, length, IsSome, sym, ap, subst, ◌∙◌}
 use Rattle.front_mirror.specs.declared.table.Table.{Table}
 use Rattle.std.specs.FinMap as map
 use Rattle.node_tree.specs.Nodes.{Nodes}
 use Rattle.node_tree.specs.Seen.{Seen, seen_id}
 use Rattle.front_mirror.specs.Edits.{edit_change, with_changed}
 use Rattle.front_mirror.specs.Sizes.{HasLowIds, IsCounted}
-use Rattle.client_views.specs.Views.{IsMirror}
+use Rattle.client_views.specs.Views.{IsMirror, keys}
 use Rattle.front_mirror.proofs.EditLemmas.{low_of_edit}
 use Rattle.front_mirror.specs.Tables.{table_slots, table_ids, tree_in}
-use Rattle.front_mirror.proofs.EditCounts.{none_counted, none_low, low_again, kept_again, tree_again, counted_again, clear_again}
-use Rattle.front_mirror.proofs.EditTableLemmas.{edit_there, edit_suits, edit_lands, nothing_kept}
-use Rattle.front_mirror.proofs.mirror.Mirror.change.Goals as goal
+use Rattle.front_mirror.proofs.EditCounts.{low_again, kept_again, tree_again, counted_again, clear_again}
+use Rattle.front_mirror.proofs.EditTableLemmas.{edit_there, edit_suits, edit_lands}
+use Rattle.front_mirror.proofs.KeptOrders.{nothing_counted, order_spliced}
+use Rattle.front_mirror.proofs.mirror.Mirror.change_in.Goals as goal
 
 pub change-requires-clause-there : goal.change-requires-clause-there
 change-requires-clause-there c =
@@ -29,29 +30,31 @@ change-requires-clause-suits c =
 -- after want of memory it is empty
 pub invariant_of-self : goal.invariant_of-self
 invariant_of-self c =
-    let k = nothing_kept c.replace-table.new.dest c.replace-roots.new.dest
+    nothing_counted c.replace-table.new.dest c.replace-roots.new.dest c.replace-counts.new.dest c.replace-order.new.dest
     (λ k. ap (λ (t : Table). table_slots t k) c.replace-table.ensures.after ∙ c.new.ensures.slots k)
     (λ x. ap (λ (t : Table). table_ids t x) c.replace-table.ensures.after ∙ c.new.ensures.ids x)
-    (c.replace-roots.ensures.after ∙ c.new-2.ensures)
-    in
-    record {
-      kept = k.1;
-      counted = none_counted (map.get c.replace-counts.new.dest) (tree_in c.replace-table.new.dest c.replace-roots.new.dest) k.0;
-      low = none_low (tree_in c.replace-table.new.dest c.replace-roots.new.dest) k.0;
-    }
+    (c.replace-roots.ensures.after ∙ c.new-2.ensures) (c.replace-order.ensures.after ∙ c.new-4.ensures)
+
+pub invariant_of-self-in_err-splice : goal.invariant_of-self-in_err-splice
+invariant_of-self-in_err-splice c =
+    nothing_counted c.replace-table.new.dest c.replace-roots.new.dest c.replace-counts.new.dest c.replace-order.new.dest
+    (λ k. ap (λ (t : Table). table_slots t k) c.replace-table.ensures.after ∙ c.new.ensures.slots k)
+    (λ x. ap (λ (t : Table). table_ids t x) c.replace-table.ensures.after ∙ c.new.ensures.ids x)
+    (c.replace-roots.ensures.after ∙ c.new-2.ensures) (c.replace-order.ensures.after ∙ c.new-4.ensures)
 
 pub invariant_of-self-in_err-change : goal.invariant_of-self-in_err-change
 invariant_of-self-in_err-change c =
-    let k = nothing_kept c.replace-table.new.dest c.replace-roots.new.dest
+    nothing_counted c.replace-table.new.dest c.replace-roots.new.dest c.replace-counts.new.dest c.replace-order.new.dest
     (λ k. ap (λ (t : Table). table_slots t k) c.replace-table.ensures.after ∙ c.new.ensures.slots k)
     (λ x. ap (λ (t : Table). table_ids t x) c.replace-table.ensures.after ∙ c.new.ensures.ids x)
-    (c.replace-roots.ensures.after ∙ c.new-2.ensures)
-    in
-    record {
-      kept = k.1;
-      counted = none_counted (map.get c.replace-counts.new.dest) (tree_in c.replace-table.new.dest c.replace-roots.new.dest) k.0;
-      low = none_low (tree_in c.replace-table.new.dest c.replace-roots.new.dest) k.0;
-    }
+    (c.replace-roots.ensures.after ∙ c.new-2.ensures) (c.replace-order.ensures.after ∙ c.new-4.ensures)
+
+-- the list is of the tree
+pub splice-requires : goal.splice-requires
+splice-requires c =
+    subst (λ (l : List ℕ). c.args.turn.now.place + c.args.turn.now.gone ≤ length l)
+    (sym (c.replace-order.ensures.value ∙ c.self.invariant.ordered ∙ ap (λ (n : Nodes Seen). keys seen_id n) c.self.view_is))
+    c.requires.turn.fits
 
 -- the table and the map are of one tree
 pub recount-requires : goal.recount-requires
@@ -91,6 +94,11 @@ invariant_of-self-2 c =
           (low_of_edit c.args.self.now c.args.id c.args.edit (subst IsMirror c.self.view_is c.self.invariant.kept.mirror) c.requires.fits
           c.requires.clear (subst HasLowIds c.self.view_is c.self.invariant.low))
           l.0;
+      ordered = order_spliced c.args.turn.now c.args.self.now (with_changed c.args.id (edit_change c.args.edit) c.args.self.now)
+          (tree_in c.change.new.self c.replace-roots.result) c.deref.result.now c.replace-order.result c.splice.new.self
+          c.requires.turn
+          (c.replace-order.ensures.value ∙ c.self.invariant.ordered ∙ ap (λ (n : Nodes Seen). keys seen_id n) c.self.view_is)
+          c.deref.ensures.value (c.in_ok-splice.ensures {u = tt}) l.0;
     }
 
 pub returns : goal.returns

@@ -1,0 +1,257 @@
+-- Ids in shelves: passed over, found, taken out and put in.
+use Rattle.std.proofs.Common.{◌≡◌, ℕ, zero, suc, ◌+◌, ◌-◌, ◌<◌, ◌≤◌, Bool, true, false, cond, ◌||◌, nat_eq, Option, Some, List, [], ◌∷◌}
+use Rattle.std.proofs.Common.{◌++◌}
+use Rattle.std.proofs.Common.{length, take, drop, get_or, slice_get, refl, sym, ap, subst, ◌∙◌, arith, inl, inr}
+use Rattle.std.proofs.Common.{append_assoc, append-nil, length-append, take-append-drop, take_at, drop_at, drop-drop, length-take-le}
+use Rattle.std.proofs.lemmas.List.{take_more, drop_more, drop_all, take-append-le, drop-append-le}
+use Rattle.std.proofs.lemmas.Bool.{eq-eqb, eqb-true, ne_eqb, cases_eq}
+use Rattle.std.proofs.lemmas.Grind.{flat_map-append}
+use Rattle.std.specs.List.{insert, remove}
+use Rattle.front_mirror.specs.declared.orders.Shelf.{Shelf}
+use Rattle.front_mirror.specs.IdLists.{id_place}
+use Rattle.front_mirror.specs.Orders.{ids_in}
+use Rattle.front_mirror.specs.Tables.{PutsAt}
+use Rattle.front_mirror.specs.Walks.{spliced}
+use Rattle.client_views.specs.Views.{is_in}
+
+-- ---- lists of ids behind one another
+
+module _ {A : Type 0} where
+  pub get-front : (xs ys : List A) (i : ℕ) (x : A) → slice_get xs i ≡ Some x → slice_get (xs ++ ys) i ≡ Some x
+  get-front [] ys i x e = absurd cc
+  get-front (y ∷ xs) ys zero x e = e
+  get-front (y ∷ xs) ys (suc i) x e = get-front xs ys i x e
+
+  pub get-behind : (xs ys : List A) (i : ℕ) → slice_get (xs ++ ys) (length xs + i) ≡ slice_get ys i
+  get-behind [] ys i = let e : 0 + i ≡ i = omega arith in ap (slice_get ys) e
+  get-behind (y ∷ xs) ys i =
+      let e : suc (length xs) + i ≡ suc (length xs + i) = omega arith in
+      ap (slice_get (y ∷ (xs ++ ys))) e ∙ get-behind xs ys i
+
+module _ (x : ℕ) where
+  pub place-at : (ks : List ℕ) → id_place x ks < length ks → slice_get ks (id_place x ks) ≡ Some x
+  place-at [] low = absurd (omega arith)
+  place-at (k ∷ ks) low = elim (cases_eq k x) [
+    | inl same ↦ rw (eq-eqb k x same) (ap (λ (y : ℕ). Some y) same)
+    | inr other ↦
+        let low2 : suc (id_place x ks) < suc (length ks) =
+        subst (λ (b : Bool). cond {A = ℕ} b 0 (suc (id_place x ks)) < suc (length ks)) (ne_eqb k x other) low
+        in
+        rw (ne_eqb k x other) (place-at ks (omega (arith, low2)))
+  ]
+
+  pub place-front : (a b : List ℕ) → id_place x a < length a → id_place x (a ++ b) ≡ id_place x a
+  place-front [] b low = absurd (omega arith)
+  place-front (k ∷ a) b low = elim (cases_eq k x) [
+    | inl same ↦ rw (eq-eqb k x same) refl
+    | inr other ↦
+        let low2 : suc (id_place x a) < suc (length a) =
+        subst (λ (v : Bool). cond {A = ℕ} v 0 (suc (id_place x a)) < suc (length a)) (ne_eqb k x other) low
+        in
+        rw (ne_eqb k x other) (ap suc (place-front a b (omega (arith, low2))))
+  ]
+
+  pub place-behind : (a b : List ℕ) → length a ≤ id_place x a → id_place x (a ++ b) ≡ length a + id_place x b
+  place-behind [] b past = let e : 0 + id_place x b ≡ id_place x b = omega arith in sym e
+  place-behind (k ∷ a) b past = elim (cases_eq k x) [
+    | inl same ↦
+        let none : suc (length a) ≤ 0 =
+        subst (λ (v : Bool). suc (length a) ≤ cond {A = ℕ} v 0 (suc (id_place x a))) (eq-eqb k x same) past
+        in
+        absurd (omega (arith, none))
+    | inr other ↦
+        let past2 : suc (length a) ≤ suc (id_place x a) =
+        subst (λ (v : Bool). suc (length a) ≤ cond {A = ℕ} v 0 (suc (id_place x a))) (ne_eqb k x other) past
+        in
+        let h = place-behind a b (omega (arith, past2)) in
+        rw (ne_eqb k x other) (omega (arith, h))
+  ]
+
+-- ---- shelves in parts
+
+pub parts : (i : ℕ) (ss : List Shelf) → ids_in (take i ss) ++ ids_in (drop i ss) ≡ ids_in ss
+parts i ss =
+    sym (flat_map-append (λ (s : Shelf). s.ids) (take i ss) (drop i ss)) ∙ ap (λ (l : List Shelf). ids_in l) (take-append-drop i ss)
+
+pub parts-length : (i : ℕ) (ss : List Shelf) → length (ids_in (take i ss)) + length (ids_in (drop i ss)) ≡ length (ids_in ss)
+parts-length i ss =
+    let e = ap (λ (l : List ℕ). length l) (parts i ss) in
+    let a = length-append (ids_in (take i ss)) (ids_in (drop i ss)) in
+    omega (arith, e, a)
+
+module _ (ss : List Shelf) (i : ℕ) (s : Shelf) (within : i < length ss) (is : s ≡ get_or ss i s) where
+  pub next-rest : ids_in (drop i ss) ≡ s.ids ++ ids_in (drop (i + 1) ss)
+  next-rest =
+      let e : drop i ss ≡ s ∷ drop (i + 1) ss = drop_more ss i s within ∙ ap (λ (x : Shelf). x ∷ drop (i + 1) ss) (sym is) in
+      ap (λ (l : List Shelf). ids_in l) e
+
+  pub next-front : length (ids_in (take (i + 1) ss)) ≡ length (ids_in (take i ss)) + length s.ids
+  next-front =
+      let a = parts-length i ss in
+      let b = parts-length (i + 1) ss in
+      let n = ap (λ (l : List ℕ). length l) next-rest in
+      let d = length-append s.ids (ids_in (drop (i + 1) ss)) in
+      omega (arith, a, b, n, d)
+
+  pub front-fits : length (ids_in (take i ss)) + length s.ids ≤ length (ids_in ss)
+  front-fits =
+      let a = next-front in
+      let b = parts-length (i + 1) ss in
+      omega (arith, a, b)
+
+  pub left-turn : (place left size rest : ℕ) → length (ids_in (take i ss)) + left ≡ place → size ≡ length s.ids → size < left
+      → rest ≡ left - size → length (ids_in (take (i + 1) ss)) + rest ≡ place
+  left-turn place left size rest before sized less is_rest = let a = next-front in omega (arith, a, before, sized, less, is_rest)
+
+  pub before-turn : (before size sum : ℕ) → before ≡ length (ids_in (take i ss)) → size ≡ length s.ids → sum ≡ before + size
+      → sum ≡ length (ids_in (take (i + 1) ss))
+  before-turn before size sum b sized is_sum = let a = next-front in omega (arith, a, b, sized, is_sum)
+
+  -- an id that is found in the shelf
+  pub found-in : (id before place : ℕ) → before ≡ length (ids_in (take i ss)) → place ≡ id_place id s.ids → place < length s.ids
+      → slice_get (ids_in ss) (before + place) ≡ Some id
+  found-in id before place b p low =
+      let low2 : id_place id s.ids < length s.ids = subst (λ k. k < length s.ids) p low in
+      let here : slice_get (s.ids ++ ids_in (drop (i + 1) ss)) (id_place id s.ids) ≡ Some id =
+      get-front s.ids (ids_in (drop (i + 1) ss)) (id_place id s.ids) id (place-at id s.ids low2)
+      in
+      let where_ : before + place ≡ length (ids_in (take i ss)) + id_place id s.ids = omega (arith, b, p) in
+      ap (slice_get (ids_in ss)) where_
+      ∙ ap (λ (l : List ℕ). slice_get l (length (ids_in (take i ss)) + id_place id s.ids)) (sym (parts i ss))
+      ∙ get-behind (ids_in (take i ss)) (ids_in (drop i ss)) (id_place id s.ids)
+      ∙ ap (λ (l : List ℕ). slice_get l (id_place id s.ids)) next-rest ∙ here
+
+  pub first-in : (id before place all : ℕ) → before + id_place id (ids_in (drop i ss)) ≡ all → place ≡ id_place id s.ids
+      → place < length s.ids → before + place ≡ all
+  first-in id before place all e p low =
+      let low2 : id_place id s.ids < length s.ids = subst (λ k. k < length s.ids) p low in
+      let f = ap (id_place id) next-rest ∙ place-front id s.ids (ids_in (drop (i + 1) ss)) low2 in
+      omega (arith, e, p, f)
+
+  pub first-turn : (id before place size sum all : ℕ) → before + id_place id (ids_in (drop i ss)) ≡ all → place ≡ id_place id s.ids
+      → size ≡ length s.ids → size ≤ place → sum ≡ before + size → sum + id_place id (ids_in (drop (i + 1) ss)) ≡ all
+  first-turn id before place size sum all e p sized past is_sum =
+      let past2 : length s.ids ≤ id_place id s.ids = omega (arith, p, sized, past) in
+      let f = ap (id_place id) next-rest ∙ place-behind id s.ids (ids_in (drop (i + 1) ss)) past2 in
+      omega (arith, e, sized, is_sum, f)
+
+pub first-end : (ss : List Shelf) (i id before all : ℕ) → length ss ≤ i → before + id_place id (ids_in (drop i ss)) ≡ all → before ≡ all
+first-end ss i id before all past e =
+    let none : ids_in (drop i ss) ≡ [] = ap (λ (l : List Shelf). ids_in l) (drop_all i ss past) in
+    let f : id_place id (ids_in (drop i ss)) ≡ 0 = ap (id_place id) none in
+    omega (arith, e, f)
+
+-- ---- shelves taken out and put in
+
+module _ {A : Type 0} where
+  pub take-removed : (i : ℕ) (xs : List A) → i ≤ length xs → take i (remove xs i) ≡ take i xs
+  take-removed zero xs low = refl
+  take-removed (suc i) [] low = refl
+  take-removed (suc i) (x ∷ xs) low = ap (λ (l : List A). x ∷ l) (take-removed i xs (omega (arith, low)))
+
+  pub drop-removed : (i : ℕ) (xs : List A) → drop i (remove xs i) ≡ drop (i + 1) xs
+  drop-removed zero [] = refl
+  drop-removed zero (x ∷ xs) = refl
+  drop-removed (suc i) [] = let e : suc i + 1 ≡ suc (suc i) = omega arith in sym (ap (λ k. drop {A = A} k []) e)
+  drop-removed (suc i) (x ∷ xs) =
+      let e : suc i + 1 ≡ suc (i + 1) = omega arith in
+      drop-removed i xs ∙ ap (λ k. drop k (x ∷ xs)) (sym e)
+
+  pub take-inserted : (i : ℕ) (xs : List A) (x : A) → i ≤ length xs → take i (insert xs i x) ≡ take i xs
+  take-inserted zero xs x low = refl
+  take-inserted (suc i) [] x low = absurd (omega (arith, low))
+  take-inserted (suc i) (y ∷ xs) x low = ap (λ (l : List A). y ∷ l) (take-inserted i xs x (omega (arith, low)))
+
+  pub drop-inserted : (i : ℕ) (xs : List A) (x : A) → i ≤ length xs → drop i (insert xs i x) ≡ x ∷ drop i xs
+  drop-inserted zero xs x low = refl
+  drop-inserted (suc i) [] x low = absurd (omega (arith, low))
+  drop-inserted (suc i) (y ∷ xs) x low = drop-inserted i xs x (omega (arith, low))
+
+  take-past : (a b : List A) (k : ℕ) → take (length a + k) (a ++ b) ≡ a ++ take k b
+  take-past [] b k = let e : 0 + k ≡ k = omega arith in ap (λ i. take i b) e
+  take-past (x ∷ a) b k =
+      let e : suc (length a) + k ≡ suc (length a + k) = omega arith in
+      ap (λ i. take i (x ∷ (a ++ b))) e ∙ ap (λ (l : List A). x ∷ l) (take-past a b k)
+
+  drop-past : (a b : List A) (k : ℕ) → drop (length a + k) (a ++ b) ≡ drop k b
+  drop-past [] b k = let e : 0 + k ≡ k = omega arith in ap (λ i. drop i b) e
+  drop-past (x ∷ a) b k =
+      let e : suc (length a) + k ≡ suc (length a + k) = omega arith in
+      ap (λ i. drop i (x ∷ (a ++ b))) e ∙ drop-past a b k
+
+  -- a list in three parts, spliced within the second
+  pub spliced_within : (front gone place : ℕ) (a old rest new mid all fin : List A) → front + gone ≤ length old
+      → length a + front ≡ place → all ≡ a ++ (old ++ rest) → mid ≡ (take front old ++ new) ++ drop (front + gone) old
+      → fin ≡ a ++ (mid ++ rest) → fin ≡ spliced place gone new all
+  spliced_within front gone place a old rest new mid all fin low at was made is =
+      let t : take place all ≡ a ++ take front old =
+      ap (λ i. take i all) (sym at) ∙ ap (take (length a + front)) was ∙ take-past a (old ++ rest) front
+      ∙ ap (λ (l : List A). a ++ l) (take-append-le front old rest (omega (arith, low)))
+      in
+      let p : place + gone ≡ length a + (front + gone) = omega (arith, at) in
+      let d : drop (place + gone) all ≡ drop (front + gone) old ++ rest =
+      ap (λ i. drop i all) p ∙ ap (drop (length a + (front + gone))) was ∙ drop-past a (old ++ rest) (front + gone)
+      ∙ drop-append-le (front + gone) old rest low
+      in
+      is ∙ ap (λ (l : List A). a ++ (l ++ rest)) made ∙ around a (take front old) new (drop (front + gone) old) rest
+      ∙ (λ i. sym t i ++ (new ++ sym d i))
+    where
+      around : (a b c d e : List A) → a ++ (((b ++ c) ++ d) ++ e) ≡ (a ++ b) ++ (c ++ (d ++ e))
+      around a b c d e = simp append_assoc
+
+pub removed-rest : (ss : List Shelf) (start : ℕ) (s : Shelf) → start < length ss → s ≡ get_or ss start s → (ids new all : List ℕ)
+    → new ≡ ids ++ s.ids → ids ++ ids_in (drop start ss) ≡ all → new ++ ids_in (drop start (remove ss start)) ≡ all
+removed-rest ss start s within is ids new all made before =
+    ap (λ (l : List Shelf). new ++ ids_in l) (drop-removed start ss)
+    ∙ ap (λ (l : List ℕ). l ++ ids_in (drop (start + 1) ss)) made
+    ∙ append_assoc ids s.ids (ids_in (drop (start + 1) ss))
+    ∙ ap (λ (l : List ℕ). ids ++ l) (sym (next-rest ss start s within is)) ∙ before
+
+-- where no shelf is left, all ids behind the first shelves were taken out
+pub enough-end : (ss now : List Shelf) (start wanted : ℕ) (ids : List ℕ) → length now ≤ start
+    → ids ++ ids_in (drop start now) ≡ ids_in (drop start ss) → length (ids_in (take start ss)) + wanted ≤ length (ids_in ss)
+    → wanted ≤ length ids
+enough-end ss now start wanted ids past rest there =
+    let none : ids_in (drop start now) ≡ [] = ap (λ (l : List Shelf). ids_in l) (drop_all start now past) in
+    let all : length (ids ++ ids_in (drop start now)) ≡ length (ids_in (drop start ss)) = ap (λ (l : List ℕ). length l) rest in
+    let a = length-append ids (ids_in (drop start now)) in
+    let n : length (ids_in (drop start now)) ≡ 0 = ap (λ (l : List ℕ). length l) none in
+    let p = parts-length start ss in
+    omega (arith, all, a, n, p, there)
+
+-- a part cut off and put in before a shelf
+pub cut-rest : (ids part new a b all : List ℕ) (cut : ℕ) → part ≡ drop cut ids → new ≡ take cut ids → b ≡ part ++ a → ids ++ a ≡ all
+    → new ++ b ≡ all
+cut-rest ids part new a b all cut p n made before =
+    ap (λ (l : List ℕ). new ++ l) made
+    ∙ sym (append_assoc new part a)
+    ∙ (λ i. (n i ++ p i) ++ a) ∙ ap (λ (l : List ℕ). l ++ a) (take-append-drop cut ids) ∙ before
+
+-- all ids, by those before a shelf and those from it on
+pub joined : (start : ℕ) (ss old : List Shelf) (mid : List ℕ) → take start ss ≡ take start old → ids_in (drop start ss) ≡ mid
+    → ids_in ss ≡ ids_in (take start old) ++ mid
+joined start ss old mid front rest =
+    sym (parts start ss) ∙ (λ i. ids_in (front i) ++ rest i)
+
+-- ---- the numbers of shelves
+
+noted_step : (v w : Bool) (n a b : Option ℕ) → (v ≡ true → a ≡ n) → (v ≡ false → a ≡ b) → cond w n a ≡ cond (v || w) n b
+noted_step true true n a b y f = refl
+noted_step true false n a b y f = y refl
+noted_step false true n a b y f = refl
+noted_step false false n a b y f = f refl
+
+pub noted-turn : (ids : List ℕ) (i k number : ℕ) (now new : ℕ → Option ℕ) → i < length ids
+    → PutsAt now new (get_or ids i 0) (Some number)
+    → cond (is_in k (drop (i + 1) ids)) (Some number) (new k) ≡ cond (is_in k (drop i ids)) (Some number) (now k)
+noted-turn ids i k number now new within puts =
+    let x = get_or ids i 0 in
+    noted_step (nat_eq k x) (is_in k (drop (i + 1) ids)) (Some number) (new k) (now k)
+    (λ y. ap new (eqb-true k x y) ∙ puts.at)
+    (λ f. puts.others k (λ same. let clash : ◌≡◌ {A = Bool} true false = sym (eq-eqb k x same) ∙ f in absurd cc))
+    ∙ ap (λ (l : List ℕ). cond (is_in k l) (Some number) (now k)) (sym (drop_more ids i 0 within))
+
+pub noted-end : (ids : List ℕ) (i k number : ℕ) (now : ℕ → Option ℕ) (all : Option ℕ) → length ids ≤ i
+    → cond (is_in k (drop i ids)) (Some number) (now k) ≡ all → now k ≡ all
+noted-end ids i k number now all past e =
+    ap (λ (l : List ℕ). cond (is_in k l) (Some number) (now k)) (sym (drop_all i ids past)) ∙ e
