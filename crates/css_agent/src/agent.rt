@@ -49,7 +49,7 @@ impl CssAgent {
     }
 
     /// Turns the domain on or off. Where it was off and comes on, appends a `CSS.styleSheetAdded` for each sheet of the book, in
-    /// order. After an error it is as it was, and some of these may have been appended.
+    /// order. After want of memory it is as it was, and nothing is said of `out`.
     pub fn switch(
         &mut self,
         on: bool,
@@ -100,7 +100,7 @@ impl CssAgent {
 
     /// Carries the edit out, and appends what tells of it: a `CSS.styleSheetChanged` for each splice, and the reply to the command
     /// with that id. Answers the splices that lead back, in the order of the edits. A fault changes nothing and appends nothing:
-    /// the caller writes the refusal. After want of memory the book may be as it was or as the edit leaves it.
+    /// the caller writes the refusal. After want of memory nothing is said of the book and of `out`.
     pub fn edit(
         &self,
         book: &mut SheetBook,

@@ -354,8 +354,8 @@ fn set_only(
 }
 
 /// Makes the body of each edit's style rule another text: all of them, each found in the text that the earlier ones left, or
-/// none. Answers the splices that lead back, in the order of the edits, and appends to `rules` the rules that were edited, which
-/// may hold some of them after an error.
+/// none. Answers the splices that lead back, in the order of the edits, and appends to `rules` the rules that were edited; after an
+/// error nothing is said of `rules`.
 pub fn set_styles_noting(
     book: &mut SheetBook,
     edits: &[StyleEdit],
