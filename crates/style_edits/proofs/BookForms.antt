@@ -119,7 +119,7 @@ one_restored olds rest old book next total is new so_far = ap (olds_restored res
 -- ---- a sheet that is kept already
 
 -- an entry in the place of one that took the place of another with its id
-changed_over : (old new : SheetEntry) (es : List SheetEntry) → new.id ≡ old.id
+pub changed_over : (old new : SheetEntry) (es : List SheetEntry) → new.id ≡ old.id
     → book_changed old (book_changed new es) ≡ book_changed old es
 changed_over old new [] same = refl
 changed_over old new (x ∷ es) same =

@@ -74,7 +74,7 @@ put_done s book next e text d back found same drafted changed back_is =
 -- ---- old sheets
 
 -- a sheet in its own place
-changed_self : (e : SheetEntry) (es : List SheetEntry) → entry_of e.id es ≡ Some e → book_changed e es ≡ es
+pub changed_self : (e : SheetEntry) (es : List SheetEntry) → entry_of e.id es ≡ Some e → book_changed e es ≡ es
 changed_self e [] there = refl
 changed_self e (x ∷ es) there = by (nat_eq e.id x.id) there (changed_self e es)
   where

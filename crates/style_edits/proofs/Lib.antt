@@ -17,3 +17,4 @@ pub mod Fronts
 pub mod PassedPieces
 pub mod NewPreludes
 pub mod MadeMedia
+pub mod RunForms

@@ -1,8 +1,9 @@
 -- What stands at lines and columns: bytes on characters' edges are told apart by their positions.
-use Rattle.std.proofs.Common.{eq-eqb, ◌≡◌, ℕ, Bool, true, false, cond, ◌&&◌, nat_eq, List, [], ◌∷◌, map, length, All, Option, Some, None}
+use Rattle.std.proofs.Common.{eq-eqb, ◌≡◌, ℕ, zero, suc, Bool, true, false, cond, ◌&&◌, nat_eq, List, []}
+use Rattle.std.proofs.Common.{◌∷◌, map, length, All, Option, Some, None}
 use Rattle.std.proofs.Common.{refl, sym}
 use Rattle.std.proofs.Common.{ap, subst, ◌∙◌, arith}
-use Rattle.std.specs.Prelude.{IfSome}
+use Rattle.std.specs.Prelude.{slice_get, IfSome, IsSomeAnd}
 use Rattle.std.specs.List.{find}
 use Rattle.std.specs.Str.{IsUtf8, IsCharBoundary}
 use Rattle.std.proofs.lemmas.Bool.{eqb-true}
@@ -15,7 +16,9 @@ use Rattle.sheet_reader.specs.declared.sheet.StyleRule.{StyleRule}
 use Rattle.sheet_reader.specs.declared.sheet.MediaRule.{MediaRule}
 use Rattle.sheet_reader.specs.declared.sheet.Sheet.{Sheet}
 use Rattle.sheet_reader.specs.declared.book.SheetEntry.{SheetEntry}
-use Rattle.sheet_reader.specs.Books.{IsEntry}
+use Rattle.sheet_reader.specs.Books.{IsEntry, IsStored}
+use Rattle.sheet_reader.specs.Late.{HasOther}
+use Rattle.sheet_reader.specs.Rereads.{HasBody}
 use Rattle.sheet_reader.specs.Forms.{range, RuleForm, rule_seen}
 use Rattle.sheet_reader.specs.Positions.{position, position_of}
 use Rattle.sheet_reader.specs.Sheets.{sheet_of}
@@ -290,3 +293,58 @@ pub media_range : (e : SheetEntry) (text : List ℕ) (lines : LineRange) (o : Op
     → o ≡ media_at e.text lines → IfSome o (IsRangeOf e.text)
 media_range e text lines o is utf8 found = found_range e.text lines (media_preludes (sheet_of e.text).media) o found
     (media_usable e.text (subst IsUtf8 is utf8))
+
+-- ---- a body that an open sheet has, or has not
+
+same_range : (a b : Range) → b ≡ a → is_same_range a b ≡ true
+same_range a b e =
+    both (nat_eq a.start b.start) (nat_eq a.end b.end) (ap (λ (r : Range). nat_eq a.start r.start) e ∙ same_nat a.start)
+    (ap (λ (r : Range). nat_eq a.end r.end) e ∙ same_nat a.end)
+
+body_among : (body : Range) (rules : List RuleForm) (k : ℕ) → IsSomeAnd (slice_get rules k) (HasBody body)
+    → find (is_same_range body) (bodies rules) ≡ Some body
+body_among body [] k has = absurd has
+body_among body (r ∷ rules) zero has =
+    ap (λ (b : Bool). cond b (Some r.body) (find (is_same_range body) (bodies rules))) (same_range body r.body has) ∙ ap Some has
+body_among body (r ∷ rules) (suc k) has = by (is_same_range body r.body) refl (body_among body rules k has)
+  where
+    by : (b : Bool) → is_same_range body r.body ≡ b → find (is_same_range body) (bodies rules) ≡ Some body
+        → cond b (Some r.body) (find (is_same_range body) (bodies rules)) ≡ Some body
+    by true is rest = ap Some (sym (same_is body r.body is))
+    by false is rest = rest
+
+no_body_among : (body : Range) (rules : List RuleForm) → All (HasOther body) rules → find (is_same_range body) (bodies rules) ≡ None
+no_body_among body [] all = refl
+no_body_among body (r ∷ rules) all =
+    by (is_same_range body r.body) refl (All-head (HasOther body) r rules all)
+    (no_body_among body rules (All-tail (HasOther body) r rules all))
+  where
+    by : (b : Bool) → is_same_range body r.body ≡ b → HasOther body r → find (is_same_range body) (bodies rules) ≡ None
+        → cond b (Some r.body) (find (is_same_range body) (bodies rules)) ≡ None
+    by true is other rest = absurd (other (sym (same_is body r.body is)))
+    by false is other rest = rest
+
+-- what is found among the bodies of a sheet is what has these lines and columns
+lines_found : (e : SheetEntry) (lines : LineRange) (body : Range) → IsStored e → IsAt e.text lines body
+    → find (is_same_range body) (bodies e.reading.rules) ≡ body_at e.text lines
+lines_found e lines body own at =
+    ap (λ (s : Sheet). find (is_same_range body) (bodies s.rules)) own.entry.read
+    ∙ found_at e.text lines body (bodies (sheet_of e.text).rules) at
+    (all_cut e.text (bodies (sheet_of e.text).rules) (bodies_usable e.text own.utf8))
+
+pub open_found : (e : SheetEntry) (lines : LineRange) (body : Range) (k : ℕ) → IsStored e → IsAt e.text lines body
+    → IsSomeAnd (slice_get e.reading.rules k) (HasBody body) → body_at e.text lines ≡ Some body
+open_found e lines body k own at has = sym (lines_found e lines body own at) ∙ body_among body e.reading.rules k has
+
+pub open_range : (e : SheetEntry) (lines : LineRange) (body : Range) (k : ℕ) → IsStored e → IsAt e.text lines body
+    → IsSomeAnd (slice_get e.reading.rules k) (HasBody body) → IsRangeOf e.text body
+open_range e lines body k own at has =
+    subst (λ (o : Option Range). IfSome o (IsRangeOf e.text)) (open_found e lines body k own at has)
+    (body_range e e.text lines (body_at e.text lines) refl own.utf8 refl)
+
+pub open_other : (e : SheetEntry) (lines : LineRange) (body : Range) → IsStored e → IsAt e.text lines body
+    → All (HasOther body) e.reading.rules → body_at e.text lines ≡ None
+open_other e lines body own at all = sym (lines_found e lines body own at) ∙ no_body_among body e.reading.rules all
+
+pub open_none : (e : SheetEntry) (lines : LineRange) → IsStored e → NoneThere e.text lines → body_at e.text lines ≡ None
+open_none e lines own none = sym (body_none e e.text lines refl own.utf8 none)

@@ -3,3 +3,4 @@ pub mod Edits
 pub mod Drafts
 pub mod EditedRules
 pub mod MediaEdits
+pub mod StyleRuns

@@ -6,7 +6,7 @@ ghost use Rattle.std.specs.List.{list_any};
 ghost use Rattle.sheet_reader.specs.Books.{IsEntry, entry_of};
 ghost use Rattle.style_edits.specs.Edits.{style_in, selector_in, text_in, rule_in, client_sheet, style_splice, selector_splice};
 ghost use Rattle.style_edits.specs.Edits.{text_splice, rule_splice, edited, styles_edited, IfFault, whole_range};
-ghost use Rattle.style_edits.specs.Drafts.{Drafts, IsToldBy, Keeps, IsOld, olds_restored, with_backs};
+ghost use Rattle.style_edits.specs.Drafts.{Drafts, IsToldBy, Keeps, IsOld, olds_restored};
 ghost use Rattle.style_edits.specs.EditedRules.{edited_rules};
 
 use crate::drafts::{Draft, apply, placed};
@@ -14,6 +14,7 @@ use crate::faults::{SheetErr, SheetFault};
 use crate::lines::{LineRange, body_at, place_at, prelude_at};
 use crate::rule_places::{RulePlace, edited_rule};
 use crate::splice::Splice;
+use crate::style_runs::set_each;
 use css_tokens::Range;
 use node_tree::Text;
 use selectors::{SelErr, read_selectors};
@@ -121,32 +122,6 @@ fn rule_in(
     }
 }
 
-/// Makes the body of a style rule, which has these lines and columns, another text.
-fn set_style(
-    book: &mut SheetBook,
-    edit: &StyleEdit,
-    olds: &mut Vec<SheetEntry>,
-) -> Result<Splice, SheetErr>
-    requires olds { All (IsOld book.old) olds.old.items }
-    ensures done { IfOk result (λ back. edited book.old (style_splice edit.now book.old) ≡ Ok (book.new, back)) }
-    ensures fault { IfFault result (λ f. style_splice edit.now book.old ≡ Err f) }
-    ensures olds { All (IsOld book.new) olds.new.items }
-    ensures same { olds_restored olds.new.items book.new ≡ olds_restored olds.old.items book.old }
-{
-    let entry = match client_sheet(book, edit.sheet) {
-        Ok(entry) => entry,
-        Err(fault) => return Err(SheetErr::Fault(fault)),
-    };
-    let draft = match style_in(book.allocator(), entry, edit) {
-        Ok(draft) => draft,
-        Err(stop) => return Err(stop),
-    };
-    match keep(book.allocator(), entry, olds) {
-        Ok(()) => Ok(apply(book, draft)),
-        Err(_) => Err(SheetErr::Memory),
-    }
-}
-
 /// Whether a sheet with this id is among those that are kept.
 fn is_kept(olds: &[SheetEntry], id: u64) -> bool
     ensures { result ≡ list_any (λ old. old.id == id) olds.now }
@@ -179,7 +154,11 @@ fn push_old(olds: &mut Vec<SheetEntry>, old: SheetEntry) -> Result<(), AllocErro
 }
 
 /// Keeps a sheet as it is, unless one with its id is kept already.
-fn keep(alloc: Global, entry: &SheetEntry, olds: &mut Vec<SheetEntry>) -> Result<(), AllocError>
+pub(crate) fn keep(
+    alloc: Global,
+    entry: &SheetEntry,
+    olds: &mut Vec<SheetEntry>,
+) -> Result<(), AllocError>
     requires { IsEntry entry.now }
     ensures kept { OnOk result (list_any (λ old. old.id == entry.now.id) olds.new.items ≡ true) }
     ensures olds { Keeps entry.now olds.old.items olds.new.items }
@@ -261,46 +240,6 @@ fn restore(book: &mut SheetBook, mut olds: Vec<SheetEntry>)
     while let Some(old) = olds.pop() {
         book.change(old);
     }
-}
-
-/// Makes the edits, and keeps the splices that lead back, the rules and the old sheets.
-fn set_each(
-    book: &mut SheetBook,
-    edits: &[StyleEdit],
-    backs: &mut Vec<Splice>,
-    rules: &mut Vec<RulePlace>,
-    olds: &mut Vec<SheetEntry>,
-) -> Result<(), SheetErr>
-    requires olds { All (IsOld book.old) olds.old.items }
-    ensures done { OnOk result (with_backs backs.old.items (styles_edited edits.now book.old) ≡ Ok (book.new, backs.new.items)) }
-    ensures rules { OnOk result (rules.new.items ≡ rules.old.items ++ edited_rules edits.now book.old) }
-    ensures fault { IfFault result (λ f. styles_edited edits.now book.old ≡ Err f) }
-    ensures olds { All (IsOld book.new) olds.new.items }
-    ensures same { olds_restored olds.new.items book.new ≡ olds_restored olds.old.items book.old }
-{
-    for edit in edits {
-        let back = match set_style(book, edit, olds) {
-            Ok(back) => back,
-            Err(stop) => return Err(stop),
-        };
-        push_rule(rules, edited_rule(book, &back))?;
-        push_back(backs, back)?;
-    }
-    Ok(())
-}
-
-fn push_rule(rules: &mut Vec<RulePlace>, rule: RulePlace) -> Result<(), AllocError>
-    ensures { OnOk result (rules.new.items ≡ rules.old.items ++ rule ∷ []) }
-{
-    rules.push(rule)?;
-    Ok(())
-}
-
-fn push_back(backs: &mut Vec<Splice>, back: Splice) -> Result<(), AllocError>
-    ensures { OnOk result (backs.new.items ≡ backs.old.items ++ back ∷ []) }
-{
-    backs.push(back)?;
-    Ok(())
 }
 
 /// Appends a rule where there is room for it.

@@ -24,7 +24,7 @@ pub struct LineRange {
 }
 
 /// The bytes with these lines and columns; none where a line has no such column, or the text no such line.
-fn bytes_at(text: &str, lines: LineRange) -> Option<Range>
+pub(crate) fn bytes_at(text: &str, lines: LineRange) -> Option<Range>
     ensures there { IfSome result (IsAt text.now lines) }
     ensures none { IfNone result ((r : Range) → IsCharBoundary text.now r.start → IsCharBoundary text.now r.end
         → is_at text.now lines r ≡ false) }
