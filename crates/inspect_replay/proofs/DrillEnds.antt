@@ -13,7 +13,7 @@ use Rattle.drill_script.specs.LineKinds.{AreDrillLines, most_lines}
 use Rattle.inspect_world.specs.Costs.{lines_cost}
 use Rattle.inspect_world.specs.Scripts.{loaded_world}
 use Rattle.inspect_world.specs.Links.{Started, run_started}
-use Rattle.inspect_replay.specs.declared.ends.Ends.{Ends}
+use Rattle.inspect_replay.specs.declared.one_front.OneFront.{OneFront}
 use Rattle.replay_parts.specs.declared.status.Status.{Status}
 use Rattle.replay_parts.specs.declared.stop.Stop.{Stop}
 use Rattle.replay_parts.specs.declared.stop.Stop.TheVariants.{Line, TooLong, ReadFault, WriteFault, LinkFault, FrontRefused, NoRoom}
@@ -145,7 +145,7 @@ drill_start kinds page = run_started (loaded_state page) 0 [] (map Some kinds)
 
 -- the ends of the page follow the link, with room for the lines
 pub drill-follows : {P : Type 0} {g : Ghosts P} (up down : Pipe) (kinds : List PanelKind) (page : LoadedPage) (lines : List LineForm)
-    (e : Ends P g)
+    (e : OneFront P g)
     → length up.given ≤ length up.sent → length down.given ≤ length down.sent → CanLoadPage page → PageHasTexts page
     → length lines ≤ most_lines
     → IsNew e kinds page → FollowsRun (lines_more (length lines) (drill_start kinds page)) up down up down e
@@ -156,7 +156,7 @@ drill-follows up down kinds page lines e up_within down_within can texts few new
 
 -- and over an honest link they are in a run
 pub drill-plays : {P : Type 0} {g : Ghosts P} (honest : Type 0) (up down : Pipe) (kinds : List PanelKind) (page : LoadedPage)
-    (lines : List LineForm) (e : Ends P g)
+    (lines : List LineForm) (e : OneFront P g)
     → honest → CanLoadPage page → PageHasTexts page → IsLevel up → IsLevel down → AreDrillLines lines → length lines ≤ most_lines
     → IsNew e kinds page
     → InPlay honest up down up down (0 + lines_cost lines) (loaded_world kinds page) e

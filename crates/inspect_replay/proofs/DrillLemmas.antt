@@ -22,7 +22,7 @@ use Rattle.inspect_world.specs.Costs.{edits_commanded, ask_edits, line_cost, lin
 use Rattle.inspect_world.specs.Scripts.{after_line, after_lines}
 use Rattle.inspect_world.specs.ScriptsFit.{IsLater}
 use Rattle.inspect_world.specs.Links.{Started, run_started, one_line_more}
-use Rattle.inspect_replay.specs.declared.ends.Ends.{Ends}
+use Rattle.inspect_replay.specs.declared.one_front.OneFront.{OneFront}
 use Rattle.inspect_replay.specs.Runs.{InPlay}
 use Rattle.inspect_replay.specs.Followed.{FollowsRun}
 use Rattle.inspect_replay.specs.Drilled.{lines_more}
@@ -84,7 +84,7 @@ pub rest-drill : (lines : List LineForm) (line : LineForm) (more : List LineForm
 rest-drill lines line more is are = subst AreDrillLines is are
 
 -- a run that may carry out so many lines may carry out one, and then the others
-pub follow-line : {P : Type 0} {g : Ghosts P} (state0 : Started) (up0 down0 up down : Pipe) (e : Ends P g) (lines : List LineForm)
+pub follow-line : {P : Type 0} {g : Ghosts P} (state0 : Started) (up0 down0 up down : Pipe) (e : OneFront P g) (lines : List LineForm)
     (line : LineForm) (more : List LineForm) → lines ≡ line ∷ more
     → FollowsRun (lines_more (length lines) state0) up0 down0 up down e
     → FollowsRun (one_line_more (lines_more (length more) state0)) up0 down0 up down e
@@ -95,14 +95,14 @@ follow-line state0 up0 down0 up down e lines line more is run =
 
 -- over an honest link the lines so far led to a world from which those that are left lead on
 pub record Turned {P : Type 0} {g : Ghosts P} (honest : Type 0) (up0 down0 up down : Pipe) (more : ℕ) (all left : List LineForm)
-    (w : World RunState) (e : Ends P g) : Type 0 where
+    (w : World RunState) (e : OneFront P g) : Type 0 where
   pub world : World RunState
   pub in_play : InPlay honest up0 down0 up down (more + lines_cost left) world e
   pub leads : after_lines left world ≡ after_lines all w
 
 -- before a line the run has room for it
 pub turn-room : {P : Type 0} {g : Ghosts P} (honest : Type 0) (up0 down0 up down : Pipe) (more : ℕ) (all left : List LineForm)
-    (line : LineForm) (rest : List LineForm) (w : World RunState) (e : Ends P g) → left ≡ line ∷ rest
+    (line : LineForm) (rest : List LineForm) (w : World RunState) (e : OneFront P g) → left ≡ line ∷ rest
     → (t : Turned honest up0 down0 up down more all left w e)
     → InPlay honest up0 down0 up down ((more + lines_cost rest) + line_cost line) t.world e
 turn-room honest up0 down0 up down more all left line rest w e is t =
@@ -113,7 +113,7 @@ turn-room honest up0 down0 up down more all left line rest w e is t =
 
 -- after it the lines that are left lead on
 pub turn-on : {P : Type 0} {g : Ghosts P} (honest honest1 : Type 0) (up0 down0 up down up1 down1 : Pipe) (more : ℕ)
-    (all left : List LineForm) (line : LineForm) (rest : List LineForm) (w : World RunState) (e e1 : Ends P g) → left ≡ line ∷ rest
+    (all left : List LineForm) (line : LineForm) (rest : List LineForm) (w : World RunState) (e e1 : OneFront P g) → left ≡ line ∷ rest
     → (t : Turned honest up0 down0 up down more all left w e)
     → InPlay honest1 up0 down0 up1 down1 (more + lines_cost rest) (after_line line t.world) e1
     → Turned honest1 up0 down0 up1 down1 more all rest w e1
@@ -125,7 +125,7 @@ turn-on honest honest1 up0 down0 up down up1 down1 more all left line rest w e e
 
 -- behind the last line
 pub turn-end : {P : Type 0} {g : Ghosts P} (honest : Type 0) (up0 down0 up down : Pipe) (more : ℕ) (all left : List LineForm)
-    (w : World RunState) (e : Ends P g) → left ≡ [] → Turned honest up0 down0 up down more all left w e
+    (w : World RunState) (e : OneFront P g) → left ≡ [] → Turned honest up0 down0 up down more all left w e
     → InPlay honest up0 down0 up down more (after_lines all w) e
 turn-end honest up0 down0 up down more all left w e is t =
     let room : more + lines_cost left ≡ more = ap (λ ls. more + lines_cost ls) is ∙ (let z : more + 0 ≡ more = omega arith in z) in
@@ -142,7 +142,7 @@ pub gave-none : (left after : List LineForm) (o : Option Line) → o ≡ None �
 gave-none left after o is gives = (subst (λ (p : Option Line). GivesFirst left (option_map seen p) after) is gives).0
 
 -- behind the last line no room is kept for another
-pub follow-none : {P : Type 0} {g : Ghosts P} (state0 : Started) (up0 down0 up down : Pipe) (e : Ends P g) (left : List LineForm)
+pub follow-none : {P : Type 0} {g : Ghosts P} (state0 : Started) (up0 down0 up down : Pipe) (e : OneFront P g) (left : List LineForm)
     → left ≡ [] → FollowsRun (lines_more (length left) state0) up0 down0 up down e → FollowsRun state0 up0 down0 up down e
 follow-none state0 up0 down0 up down e left is run =
     let count : length left ≡ 0 = ap length is in

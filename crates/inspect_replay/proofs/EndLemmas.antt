@@ -1,6 +1,6 @@
 -- What the calls on the link and on the ends make of a run.
 use Rattle.std.proofs.Common.{◌≡◌, ℕ, suc, ◌+◌, ◌*◌, ◌-◌, ◌<◌, ◌≤◌, ◌^◌, min, List, [], ◌∷◌, ◌++◌, length, take, drop, get_or, drop-cons}
-use Rattle.std.proofs.Common.{add-one, Bool, true, false, not, cond, Ok, Option, Some, None, refl, sym, ◌∙◌, ap, subst, Result, arith}
+use Rattle.std.proofs.Common.{add-one, Bool, true, false, not, cond, Ok, Err, Option, Some, None, refl, sym, ◌∙◌, ap, subst, Result, arith}
 use Rattle.std.proofs.lemmas.List.{take_min}
 use Rattle.front_mirror.specs.declared.panels.Panel.{Ghosts}
 use Rattle.pipe_frames.specs.Pipe.{Pipe, waiting}
@@ -40,20 +40,67 @@ use Rattle.inspect_world.specs.StepBytes.{step, turn}
 use Rattle.inspect_world.specs.RunStates.{RunState, run_step, run_turn}
 use Rattle.back_end.specs.Laws.{IsTurn}
 use Rattle.inspect_world.specs.Held.{Ends, InWorld}
-use Rattle.inspect_replay.specs.declared.ends.Ends.{Ends as ProgramEnds}
+use Rattle.inspect_replay.specs.declared.one_front.OneFront.{OneFront}
 use Rattle.replay_parts.specs.declared.stop.Stop.{Stop}
 use Rattle.back_end.specs.Seats.{StandsFor, HasRoomLeft}
-use Rattle.inspect_replay.specs.Runs.{InRunWith, InRun, AnswersOne, AnswersAll, Steps, FetchesOne, FetchesAll, ends_of}
-use Rattle.replay_parts.specs.Moments.{moment}
+use Rattle.inspect_replay.specs.Runs.{HonestRun, InRunWith, InRun, AnswersOne, AnswersAll}
+use Rattle.inspect_replay.specs.Runs.{Steps, FetchesOne, FetchesAll, with_ends, ends_of}
+use Rattle.replay_parts.specs.Moments.{Moment, moment}
+use Rattle.replay_parts.specs.LinkEnds.{LinkEnds, TookUp, EachAnswered}
+use Rattle.replay_parts.proofs.SendLemmas.{SentUp, sent-up, SentDown, sent-down}
 use Rattle.replay_parts.specs.Stops.{GoesWell}
 use Rattle.back_end.proofs.SeatLemmas.{on_ok}
-use Rattle.session_runs.proofs.Worlds.{answered-cons}
+use Rattle.session_runs.proofs.Worlds.{answered-cons, put-nil}
 use Rattle.inspect_world.proofs.Pipes.{waiting-is}
 use Rattle.inspect_world.proofs.Scripts.{turn-left}
 use Rattle.inspect_world.proofs.FetchesFit.{fetched-if-spends, few-then}
 use Rattle.inspect_world.proofs.Ends.{world-room, world-ids, world-sent, world-fetched, world-raw, world-turned, world-answered}
 use Rattle.inspect_world.proofs.Ends.{world-given_up, world-delivered_down, never-refuses}
 use Rattle.replay_parts.proofs.ValueLemmas.{refs-seen}
+
+-- ---- the ends, by what they hold of the link
+
+-- they are in a run, and every whole frame is answered
+abbrev pub PlayWith : Type 0 → (up0 down0 up down : Pipe) → World RunState → LinkEnds → Ends → Type 0
+PlayWith honest up0 down0 up down w s e = EachAnswered (HonestRun honest up0 down0 up down w (with_ends s e)) s.splitter.whole
+
+-- the run goes on where bytes were sent up
+pub sent-run : (result : Result (Unit {0}) Stop) (honest : Type 0) (up0 down0 up down up1 down1 : Pipe)
+    (w : World RunState) (s s1 : LinkEnds) (e : Ends) (bytes : List ℕ) → SentUp result up down up1 down1 s s1 bytes → honest
+    → s.splitter.whole ≡ [] → s.up_there ≤ length (waiting up)
+    → ((there : ℕ) → (up1.sent ≡ up.sent ++ bytes) × (up1.given ≡ up.given) → there ≡ s.up_there + length bytes
+    → InWorld up0 down0 up1 down1 w (s.splitter.whole ++ awaited w.up) (record (with_ends s e) { up_there = there }))
+    → OnOk result (PlayWith honest up0 down0 up1 down1 w s1 e)
+sent-run result honest up0 down0 up down up1 down1 w s s1 e bytes c is_honest none waits goes =
+    sent-up result up down up1 down1 s s1 bytes c (λ u1 d1 x. PlayWith honest up0 down0 u1 d1 w x e) waits
+    (λ there sent given left. record {
+      so_far = record {
+        is_honest = is_honest;
+        in_world = subst (λ pipe. InWorld up0 down0 up1 pipe w (s.splitter.whole ++ awaited w.up)
+            (record (with_ends s e) { up_there = there })) c.other (goes there (sent, given) left);
+      };
+      none_whole = none;
+    })
+
+-- or down
+pub told-run : (result : Result (Unit {0}) Stop) (honest : Type 0) (up0 down0 up down up1 down1 : Pipe)
+    (w : World RunState) (s s1 : LinkEnds) (e : Ends) (bytes : List ℕ) → SentDown result up down up1 down1 s s1 bytes → honest
+    → s.down_there ≤ length (waiting down)
+    → ((there : ℕ) → (down1.sent ≡ down.sent ++ bytes) × (down1.given ≡ down.given) → there ≡ s.down_there + length bytes
+    → InWorld up0 down0 up1 down1 w (s.splitter.whole ++ awaited w.up) (record (with_ends s e) { down_there = there }))
+    → OnOk result (HonestRun honest up0 down0 up1 down1 w (with_ends s1 e) s1.splitter.whole)
+told-run result honest up0 down0 up down up1 down1 w s s1 e bytes c is_honest waits goes =
+    sent-down result up down up1 down1 s s1 bytes c
+    (λ u1 d1 x. HonestRun honest up0 down0 u1 d1 w (with_ends x e) x.splitter.whole) waits
+    (λ there sent given left. record { is_honest = is_honest; in_world = goes there (sent, given) left })
+
+-- with each frame answered
+pub whole-run : (result : Result (Unit {0}) Stop) (honest : Type 0) (up0 down0 up down : Pipe) (w : World RunState)
+    (s : LinkEnds) (e : Ends) → s.splitter.whole ≡ []
+    → OnOk result (HonestRun honest up0 down0 up down w (with_ends s e) s.splitter.whole)
+    → OnOk result (PlayWith honest up0 down0 up down w s e)
+whole-run (Ok u) honest up0 down0 up down w s e none run = record { so_far = run; none_whole = none }
+whole-run (Err stop) honest up0 down0 up down w s e none run = tt
 
 -- ---- a step is made
 
@@ -286,39 +333,97 @@ no_fault up0 down0 up down w frames e n max piece front1 f in_world max_is front
 
 -- while frames are answered: where the run is, and that it goes to where it would have gone
 pub record Answering {P : Type 0} {g : Ghosts P} (honest : Type 0) (up0 down0 up down : Pipe) (target : World RunState)
-    (e : ProgramEnds P g) : Type 0 where
+    (e : OneFront P g) : Type 0 where
   pub world : World RunState
   pub so_far : InRunWith honest up0 down0 up down world e
-  pub goes : answered run_step e.splitter.whole world ≡ target
+  pub goes : answered run_step e.ends.splitter.whole world ≡ target
 
 -- what the answer to the next frame makes of it
 pub answer_turn : {P : Type 0} {g : Ghosts P} {T : Type 0} (result : Result T Stop) (honest honest1 : Type 0)
     (up0 down0 up down up1 down1 : Pipe)
     (target : World RunState)
-    (e e1 : ProgramEnds P g) (s : Frames) (frame : List ℕ)
+    (e e1 : OneFront P g) (s : LinkEnds) (frame : List ℕ)
     → Answering honest up0 down0 up down target e
-    → e.splitter.whole ≡ frame ∷ s.whole → s.rest ≡ e.splitter.rest
-    → AnswersOne (moment honest up down (record e { splitter = s })) (moment honest1 up1 down1 e1) frame result → e1.splitter ≡ s
+    → e.ends.splitter.whole ≡ frame ∷ s.splitter.whole → s.splitter.rest ≡ e.ends.splitter.rest
+    → s ≡ record e.ends { splitter = s.splitter }
+    → AnswersOne (moment honest up down (record e { ends = s })) (moment honest1 up1 down1 e1) frame result
+    → e1.ends.splitter ≡ s.splitter
     → GoesWell result × OnOk result (Answering honest1 up0 down0 up1 down1 target e1)
-answer_turn {T} result honest honest1 up0 down0 up down up1 down1 target e e1 s frame going whole rest answers same =
+answer_turn {T} result honest honest1 up0 down0 up down up1 down1 target e e1 s frame going whole rest ends answers same =
     let w = going.world in
-    let start : InWorld up0 down0 up down w (frame ∷ (s.whole ++ awaited w.up)) (ends_of (record e { splitter = s })) =
-    subst (λ r. InWorld up0 down0 up down w (frame ∷ (s.whole ++ awaited w.up)) (record (ends_of e) { back_rest = r })) (sym rest)
-    (subst (λ frames. InWorld up0 down0 up down w (frames ++ awaited w.up) (ends_of e)) whole going.so_far.in_world) in
+    let start : InWorld up0 down0 up down w (frame ∷ (s.splitter.whole ++ awaited w.up)) (ends_of (record e { ends = s })) =
+    subst (λ x. InWorld up0 down0 up down w (frame ∷ (s.splitter.whole ++ awaited w.up)) (with_ends x (ends_of e))) (sym ends)
+    (subst (λ r. InWorld up0 down0 up down w (frame ∷ (s.splitter.whole ++ awaited w.up)) (record (ends_of e) { back_rest = r })) (sym rest)
+    (subst (λ frames. InWorld up0 down0 up down w (frames ++ awaited w.up) (ends_of e)) whole going.so_far.in_world)) in
     let both = answers up0 down0 w going.so_far.is_honest start in
-    let goes : answered run_step e1.splitter.whole (answered run_step (frame ∷ []) w) ≡ target =
+    let goes : answered run_step e1.ends.splitter.whole (answered run_step (frame ∷ []) w) ≡ target =
     ap (λ (f : Frames). answered run_step f.whole (answered run_step (frame ∷ []) w)) same
-    ∙ sym (answered-cons run_step frame s.whole w)
+    ∙ sym (answered-cons run_step frame s.splitter.whole w)
     ∙ ap (λ frames. answered run_step frames w) (sym whole)
     ∙ going.goes in
     (both.0, on_ok result _ _ both.1 (λ run. record { world = answered run_step (frame ∷ []) w; so_far = run; goes = goes }))
+
+-- no frame is left
+pub answer_end : {P : Type 0} {g : Ghosts P} (honest : Type 0) (up0 down0 up down : Pipe) (target : World RunState)
+    (e : OneFront P g) (s : LinkEnds) → Answering honest up0 down0 up down target e → s ≡ e.ends → s.splitter.whole ≡ []
+    → InRun honest up0 down0 up down target (record e { ends = s })
+answer_end honest up0 down0 up down target e s going same none =
+    let w = going.world in
+    let empty : e.ends.splitter.whole ≡ [] = ap (λ (x : LinkEnds). x.splitter.whole) (sym same) ∙ none in
+    let at_target : w ≡ target = sym (ap (λ frames. answered run_step frames w) empty ∙ nothing w) ∙ going.goes in
+    let world : InWorld up0 down0 up down w (s.splitter.whole ++ awaited w.up) (ends_of (record e { ends = s })) =
+    subst (λ x. InWorld up0 down0 up down w (x.splitter.whole ++ awaited w.up) (with_ends x (ends_of e))) (sym same)
+    going.so_far.in_world in
+    subst (λ v. InRun honest up0 down0 up down v (record e { ends = s })) at_target
+    (record { so_far = record { is_honest = going.so_far.is_honest; in_world = world }; none_whole = none })
+  where
+    nothing : (w : World RunState) → answered run_step [] w ≡ w
+    nothing w = ap (λ (s : Stream). record w { down = s }) (put-nil w.down)
+
+-- bytes came up, as `take_up` says
+pub took-run : (up0 down0 : Pipe) (n : ℕ) (old new : Moment LinkEnds) (w : World RunState) (e : Ends) → TookUp n old new
+    → new.down ≡ old.down → (old.honest → new.honest) → PlayWith old.honest up0 down0 old.up old.down w old.ends e
+    → HonestRun new.honest up0 down0 new.up new.down (given_up n w) (with_ends new.ends e) new.ends.splitter.whole
+    × (new.ends.splitter.whole ≡ arriving n w.up)
+took-run up0 down0 n old new w e took same_down keeps run =
+    let there : new.ends.up_there + length took.piece ≡ old.ends.up_there = took.count in
+    let left : new.ends.up_there ≡ old.ends.up_there - length took.piece = omega (arith, there) in
+    let all = given_in up0 down0 old.up old.down new.up new.down w (with_ends old.ends e) n new.ends.up_there
+    (min n old.ends.up_there) took.piece old.ends.splitter new.ends.splitter run.so_far.in_world run.none_whole refl refl
+    (took.all run.so_far.is_honest) (took.sent, took.given) same_down left took.cut in (
+      record {
+        is_honest = keeps run.so_far.is_honest;
+        in_world = subst (λ m. InWorld up0 down0 new.up new.down (given_up n w)
+            (new.ends.splitter.whole ++ awaited (given_up n w).up) (record (with_ends new.ends e) { down_there = m }))
+            (sym took.down_there) all.0;
+      },
+      all.1,
+    )
+
+-- bytes came down, as `take_down` says
+pub got-run : (honest honest1 : Type 0) (up0 down0 up down up1 down1 : Pipe) (w : World RunState) (n : ℕ) (s s1 : LinkEnds)
+    (e : Ends) (bytes : List ℕ) (front1 : FrontState)
+    → PlayWith honest up0 down0 up down w s e → (honest → honest1) → s1 ≡ record s { down_there = s1.down_there }
+    → s1.down_there + length bytes ≡ s.down_there → (honest → bytes ≡ take (min n s.down_there) (waiting down))
+    → (down1.sent ≡ down.sent) × (down1.given ≡ down.given ++ bytes) → up1 ≡ up → front1 ≡ after_take e.front bytes
+    → PlayWith honest1 up0 down0 up1 down1 (delivered_down n w) s1 (record e { front = front1 })
+got-run honest honest1 up0 down0 up down up1 down1 w n s s1 e bytes front1 run keeps ends count all moved same_up front_is =
+    let left : s1.down_there ≡ s.down_there - length bytes = omega (arith, count) in
+    subst (λ x. PlayWith honest1 up0 down0 up1 down1 (delivered_down n w) x (record e { front = front1 })) (sym ends) (record {
+      so_far = record {
+        is_honest = keeps run.so_far.is_honest;
+        in_world = delivered_in up0 down0 up down up1 down1 w (s.splitter.whole ++ awaited w.up) (with_ends s e) n s1.down_there
+            (min n s.down_there) bytes front1 run.so_far.in_world refl (all run.so_far.is_honest) moved same_up left front_is;
+      };
+      none_whole = run.none_whole;
+    })
 
 -- bytes came up, and their frames are answered
 pub deliver_goes : {P : Type 0} {g : Ghosts P} {T : Type 0} (result : Result T Stop) (honest honest1 : Type 0)
     (up0 down0 up down up1 down1 : Pipe)
     (w : World RunState) (n : ℕ)
-    (e e1 : ProgramEnds P g)
-    → InRunWith honest up0 down0 up down (given_up n w) e × (e.splitter.whole ≡ arriving n w.up)
+    (e e1 : OneFront P g)
+    → InRunWith honest up0 down0 up down (given_up n w) e × (e.ends.splitter.whole ≡ arriving n w.up)
     → AnswersAll (moment honest up down e) (moment honest1 up1 down1 e1) result
     → GoesWell result × OnOk result (InRun honest1 up0 down0 up1 down1 (delivered_up run_step n w) e1)
 deliver_goes result honest honest1 up0 down0 up down up1 down1 w n e e1 run answers =
@@ -330,13 +435,13 @@ pub settle_goes : {P : Type 0} {g : Ghosts P} {T : Type 0} (result : Result T St
     (up0 down0 up down up1 down1 : Pipe)
     (w : World RunState)
     (n : ℕ)
-    (e e1 : ProgramEnds P g)
+    (e e1 : OneFront P g)
     → n ≡ length w.up.flying
     → InRun honest up0 down0 up down (delivered_up run_step n w) e
-    → Steps (moment honest up down e) (moment honest1 up1 down1 e1) result (λ v. delivered_down e.down_there v)
+    → Steps (moment honest up down e) (moment honest1 up1 down1 e1) result (λ v. delivered_down e.ends.down_there v)
     → GoesWell result × OnOk result (InRun honest1 up0 down0 up1 down1 (settled run_step w) e1)
 settle_goes result honest honest1 up0 down0 up down up1 down1 w n e e1 all run steps =
-    let same : delivered_down e.down_there (delivered_up run_step n w) ≡ settled run_step w =
+    let same : delivered_down e.ends.down_there (delivered_up run_step n w) ≡ settled run_step w =
     ap (λ m. delivered_down m (delivered_up run_step n w)) run.so_far.in_world.down_left
     ∙ ap (λ m. delivered_down (length (delivered_up run_step m w).down.flying) (delivered_up run_step m w)) all in
     subst (λ v. GoesWell result × OnOk result (InRun honest1 up0 down0 up1 down1 v e1)) same
@@ -345,14 +450,14 @@ settle_goes result honest honest1 up0 down0 up down up1 down1 w n e e1 all run s
 -- ---- the fetches of a settle
 
 -- the front end of the run is that of the ends
-pub run-front : {P : Type 0} {g : Ghosts P} (honest : Type 0) (up0 down0 up down : Pipe) (w : World RunState) (e : ProgramEnds P g)
+pub run-front : {P : Type 0} {g : Ghosts P} (honest : Type 0) (up0 down0 up down : Pipe) (w : World RunState) (e : OneFront P g)
     → InRun honest up0 down0 up down w e
     → front_in replay (first_value []) w ≡ Ok e.front.value
 run-front honest up0 down0 up down w e run =
     run.so_far.in_world.is_fold ∙ ap (λ (f : FrontState). Ok f.value) (sym run.so_far.in_world.front_is)
 
 -- a sheet is fetched where the front end knows it
-fetched-is : {P : Type 0} {g : Ghosts P} (honest : Type 0) (up0 down0 up down : Pipe) (w : World RunState) (e : ProgramEnds P g)
+fetched-is : {P : Type 0} {g : Ghosts P} (honest : Type 0) (up0 down0 up down : Pipe) (w : World RunState) (e : OneFront P g)
     (number : ℕ) (known : Bool)
     → InRun honest up0 down0 up down w e
     → has_sheet number e.front.value.sheets ≡ known
@@ -364,7 +469,7 @@ fetched-is honest up0 down0 up down w e number known run is =
 pub fetch_known : {P : Type 0} {g : Ghosts P} {T : Type 0} (result : Result T Stop) (honest honest1 : Type 0)
     (up0 down0 up down up1 down1 : Pipe)
     (w : World RunState)
-    (e e1 : ProgramEnds P g) (number : ℕ)
+    (e e1 : OneFront P g) (number : ℕ)
     → InRun honest up0 down0 up down w e → has_sheet number e.front.value.sheets ≡ true
     → GoesWell result × OnOk result (InRun honest1 up0 down0 up1 down1 (fetched replay front_fetcher number w) e1)
     → GoesWell result × OnOk result
@@ -373,7 +478,7 @@ fetch_known result honest honest1 up0 down0 up down up1 down1 w e e1 number run 
     subst (λ v. GoesWell result × OnOk result (InRun honest1 up0 down0 up1 down1 v e1))
     (sym (fetched-is honest up0 down0 up down w e number true run is)) goes
 
-pub fetch_unknown : {P : Type 0} {g : Ghosts P} (honest : Type 0) (up0 down0 up down : Pipe) (w : World RunState) (e : ProgramEnds P g)
+pub fetch_unknown : {P : Type 0} {g : Ghosts P} (honest : Type 0) (up0 down0 up down : Pipe) (w : World RunState) (e : OneFront P g)
     (number : ℕ)
     → InRun honest up0 down0 up down w e → has_sheet number e.front.value.sheets ≡ false
     → InRun honest up0 down0 up down (fetched_if replay front_fetcher (front_in replay (first_value []) w) number w) e
@@ -382,7 +487,7 @@ fetch_unknown honest up0 down0 up down w e number run is =
 
 -- while texts are fetched: where the run is, and that it goes to where it would have gone
 pub record Fetching {P : Type 0} {g : Ghosts P} (honest : Type 0) (up0 down0 up down : Pipe) (target : World RunState) (numbers : List ℕ)
-    (e : ProgramEnds P g) : Type 0 where
+    (e : OneFront P g) : Type 0 where
   pub world : World RunState
   pub in_run : InRun honest up0 down0 up down world e
   pub few : world.spent.fetches + length numbers ≤ most_fetches
@@ -392,7 +497,7 @@ pub record Fetching {P : Type 0} {g : Ghosts P} (honest : Type 0) (up0 down0 up 
 next_fetched : {P : Type 0} {g : Ghosts P} {T : Type 0} (result : Result T Stop) (honest honest1 : Type 0)
     (up0 down0 up down up1 down1 : Pipe)
     (target : World RunState) (number : ℕ) (numbers : List ℕ)
-    (e e1 : ProgramEnds P g)
+    (e e1 : OneFront P g)
     → Fetching honest up0 down0 up down target (number ∷ numbers) e
     → FetchesOne (moment honest up down e) (moment honest1 up1 down1 e1) number result
     → GoesWell result × OnOk result (Fetching honest1 up0 down0 up1 down1 target numbers e1)
@@ -407,7 +512,7 @@ next_fetched result honest honest1 up0 down0 up down up1 down1 target number num
 pub fetch_turn : {P : Type 0} {g : Ghosts P} {T : Type 0} (result : Result T Stop) (honest honest1 : Type 0)
     (up0 down0 up down up1 down1 : Pipe)
     (target : World RunState) (numbers : List ℕ) (i number : ℕ)
-    (e e1 : ProgramEnds P g) → i < length numbers → number ≡ get_or numbers i 0
+    (e e1 : OneFront P g) → i < length numbers → number ≡ get_or numbers i 0
     → Fetching honest up0 down0 up down target (drop i numbers) e
     → FetchesOne (moment honest up down e) (moment honest1 up1 down1 e1) number result
     → GoesWell result × OnOk result (Fetching honest1 up0 down0 up1 down1 target (drop (i + 1) numbers) e1)
@@ -419,7 +524,7 @@ fetch_turn result honest honest1 up0 down0 up down up1 down1 target numbers i nu
 
 -- no sheet is left
 pub fetch_end : {P : Type 0} {g : Ghosts P} (honest : Type 0) (up0 down0 up down : Pipe) (target : World RunState) (numbers : List ℕ)
-    (e : ProgramEnds P g) → numbers ≡ []
+    (e : OneFront P g) → numbers ≡ []
     → Fetching honest up0 down0 up down target numbers e → InRun honest up0 down0 up down target e
 fetch_end honest up0 down0 up down target numbers e none going =
     subst (λ w. InRun honest up0 down0 up down w e)
@@ -429,7 +534,7 @@ fetch_end honest up0 down0 up down target numbers e none going =
 pub refresh_goes : {P : Type 0} {g : Ghosts P} {T : Type 0} (result : Result T Stop) (honest honest0 honest1 : Type 0)
     (up0 down0 up down up1 down1 up2 down2 : Pipe)
     (w : World RunState)
-    (e e1 e2 : ProgramEnds P g)
+    (e e1 e2 : OneFront P g)
     → HasLeft w.spent 0 → InRun honest up0 down0 up down w e → InRun honest0 up0 down0 up1 down1 (settled run_step w) e1
     → FetchesAll (moment honest0 up1 down1 e1) (moment honest1 up2 down2 e2) (stale_of e1.front.value.sheets) result
     → GoesWell result × OnOk result (InRun honest1 up0 down0 up2 down2 (refreshes front_fetcher w) e2)

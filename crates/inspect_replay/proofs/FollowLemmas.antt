@@ -6,7 +6,7 @@ use Rattle.std.proofs.lemmas.List.{drop_all}
 use Rattle.std.specs.Result.{OnOk, IsOk}
 use Rattle.std.specs.Io.KnownBytes.{Appends}
 use Rattle.front_mirror.specs.declared.panels.Panel.{Ghosts}
-use Rattle.pipe_frames.specs.Pipe.{Pipe, given_since, sent_since}
+use Rattle.pipe_frames.specs.Pipe.{Pipe, waiting, given_since, sent_since}
 use Rattle.pipe_frames.specs.Frames.{IsText, Frames, framed, frames_of, held_after, continued}
 use Rattle.pipe_frames.proofs.WholeLemmas.{Appends-append}
 use Rattle.node_tree.specs.Nodes.{Nodes}
@@ -40,22 +40,27 @@ use Rattle.inspect_world.proofs.Scripts.{fit-first}
 use Rattle.inspect_world.proofs.LinkLemmas.{follows-fewer, front-full, seat-full, follows-told, follows-less, follows-start, follows-sends}
 use Rattle.inspect_world.proofs.LinkLemmas.{follows-fetched, follows-raw, follows-given_up, follows-answered, follows-turned}
 use Rattle.inspect_world.proofs.LinkLemmas.{follows-delivered_down, follows-refused, follows-fold, follows-replies}
-use Rattle.inspect_replay.specs.declared.ends.Ends.{Ends}
+use Rattle.inspect_replay.specs.declared.one_front.OneFront.{OneFront}
 use Rattle.replay_parts.specs.declared.stop.Stop.{Stop}
 use Rattle.replay_parts.specs.declared.stop.Stop.TheVariants.{Line, TooLong, ReadFault, WriteFault, LinkFault, FrontRefused, NoRoom}
 use Rattle.replay_parts.specs.declared.stop.Stop.TheVariants.{Memory}
 use Rattle.replay_parts.specs.declared.status.Status.{Status}
 use Rattle.replay_parts.specs.declared.status.Status.TheVariants as status
-use Rattle.replay_parts.specs.Says.{Phase, untouched, reading, underway, ended, anywhen, Lie, PartRose, Says, says, status_of}
-use Rattle.replay_parts.specs.Answers.{InReadOnly, source_counts, IsInputStop}
+use Rattle.replay_parts.specs.Says.{Phase, status_of}
+use Rattle.replay_parts.specs.Answers.{IsInputStop}
 use Rattle.back_end.specs.Seats.{StandsFor, HasRoomLeft}
-use Rattle.inspect_replay.specs.Followed.{AllCame, GivesNoMore, Passed, FoldsAt, fold_since, StatusFolds, StopFolds, EndsShown}
-use Rattle.inspect_replay.specs.Followed.{AnswersInOrder, FollowsWith, FollowsRun, FollowsAnswer, LessAt, StatusLess, IsWell}
+use Rattle.inspect_replay.specs.Followed.{AllCame, Passed, fold_since, StatusFolds, StopFolds, EndsShown}
+use Rattle.inspect_replay.specs.Followed.{AnswersInOrder, FollowsWith, FollowsRun, FollowsAnswer, StatusLess}
+use Rattle.node_tree.specs.Numbers.{sent_when_full}
+use Rattle.replay_parts.specs.LinkFolds.{GivesNoMore, LessAt, IsWell}
+use Rattle.replay_parts.proofs.FoldLemmas as parts
 use Rattle.replay_parts.specs.Printed.{PrintedSome}
-use Rattle.replay_parts.specs.Reads.{IsRead, ReadsAt}
-use Rattle.inspect_replay.specs.Runs.{ends_of}
-use Rattle.replay_parts.specs.Moments.{moment}
+use Rattle.replay_parts.specs.Reads.{IsRead}
+use Rattle.inspect_replay.specs.Runs.{with_ends, ends_of}
+use Rattle.replay_parts.specs.Moments.{Moment, moment}
+use Rattle.replay_parts.specs.LinkEnds.{LinkEnds, TookUp, EachAnswered}
 use Rattle.replay_parts.specs.Stops.{GoesWell}
+use Rattle.replay_parts.proofs.SendLemmas.{SentUp, sent-up, unsent-up, SentDown, sent-down, unsent-down}
 use Rattle.back_end.proofs.SeatRoom.{room-of}
 use Rattle.inspect_replay.specs.Starts.{IsNew}
 use Rattle.back_end.proofs.StartLemmas.{stands-first}
@@ -66,14 +71,7 @@ use Rattle.inspect_replay.proofs.RunLemmas.{first_ends, ends-first}
 -- a stop that is not the front end's, where all went well
 pub stop-folds : (stop : Stop) (passed : Passed) → GoesWell {T = Unit {0}} (Err stop) → IsWell passed
     → StopFolds {T = Unit {0}} (Err stop) passed
-stop-folds (Line number fault) passed never good = good
-stop-folds TooLong passed never good = good
-stop-folds ReadFault passed never good = good
-stop-folds WriteFault passed never good = good
-stop-folds LinkFault passed never good = good
-stop-folds (FrontRefused place kind) passed never good = absurd never
-stop-folds NoRoom passed never good = absurd never
-stop-folds Memory passed never good = (tt, tt)
+stop-folds stop passed never good = parts.stop-folds sent_when_full stop passed never good
 
 -- a run that follows goes well
 pub follows-good : (state0 : Started) (up0 down0 up down : Pipe) (waiting : List (List ℕ)) (e : HeldEnds)
@@ -82,60 +80,112 @@ pub follows-good : (state0 : Started) (up0 down0 up down : Pipe) (waiting : List
 follows-good state0 up0 down0 up down waiting e f =
     (subst IsOk (sym (follows-fold state0 up0 down0 up down waiting e f)) refl, follows-less state0 up0 down0 up down waiting e f)
 
-pub run-good : {P : Type 0} {g : Ghosts P} (state0 : Started) (up0 down0 up down : Pipe) (e : Ends P g)
+pub run-good : {P : Type 0} {g : Ghosts P} (state0 : Started) (up0 down0 up down : Pipe) (e : OneFront P g)
     → FollowsRun state0 up0 down0 up down e
     → IsWell (fold_since up0 down0 up down)
-run-good state0 up0 down0 up down e run = follows-good state0 up0 down0 up down e.splitter.whole (ends_of e) run.so_far
+run-good state0 up0 down0 up down e run = follows-good state0 up0 down0 up down e.ends.splitter.whole (ends_of e) run.so_far
 
 -- the matched styles that were shown came
-pub run-came : {P : Type 0} {g : Ghosts P} (state0 : Started) (up0 down0 up down : Pipe) (e : Ends P g)
+pub run-came : {P : Type 0} {g : Ghosts P} (state0 : Started) (up0 down0 up down : Pipe) (e : OneFront P g)
     → FollowsRun state0 up0 down0 up down e
     → AllCame (fold_since up0 down0 up down) state0.shown
 run-came state0 up0 down0 up down e run =
     let f = run.so_far in
     let fold : (fold_since up0 down0 up down).fold
-    ≡ Ok e.front.value = follows-fold state0 up0 down0 up down e.splitter.whole (ends_of e) f in
+    ≡ Ok e.front.value = follows-fold state0 up0 down0 up down e.ends.splitter.whole (ends_of e) f in
     let value : f.value ≡ e.front.value = sym (ap (λ (s : FrontState). s.value) f.front_is) in
     subst (λ r. All (λ ask. came_styles r ask ≡ true) state0.shown) (sym fold)
     (subst (λ v. All (λ ask. knows_styles v ask ≡ true) state0.shown) value f.styled)
 
 -- whether some came is what the front end has kept
-pub run-kept : {P : Type 0} {g : Ghosts P} (state0 : Started) (up0 down0 up down : Pipe) (e : Ends P g) (ask : ℕ)
+pub run-kept : {P : Type 0} {g : Ghosts P} (state0 : Started) (up0 down0 up down : Pipe) (e : OneFront P g) (ask : ℕ)
     → FollowsRun state0 up0 down0 up down e
     → came_styles (fold_since up0 down0 up down).fold ask ≡ is_some (matched_in ask e.front.value.matched)
 run-kept state0 up0 down0 up down e ask run =
-    ap (λ r. came_styles r ask) (follows-fold state0 up0 down0 up down e.splitter.whole (ends_of e) run.so_far)
-
--- nothing was sent or given when a call stops
-pub same-stop : (stop : Stop) (state0 : Started) (up0 down0 up down up1 down1 : Pipe) (waiting : List (List ℕ)) (e : HeldEnds)
-    → Follows state0 up0 down0 up down waiting e → GoesWell {T = Unit {0}} (Err stop) → up1 ≡ up → down1 ≡ down
-    → StopFolds {T = Unit {0}} (Err stop) (fold_since up0 down0 up1 down1)
-same-stop stop state0 up0 down0 up down up1 down1 waiting e f never same_up same_down =
-    stop-folds stop (fold_since up0 down0 up1 down1) never
-    (subst (λ u. IsWell (fold_since up0 down0 u down1)) (sym same_up)
-    (subst (λ d. IsWell (fold_since up0 down0 up d)) (sym same_down) (follows-good state0 up0 down0 up down waiting e f)))
+    ap (λ r. came_styles r ask) (follows-fold state0 up0 down0 up down e.ends.splitter.whole (ends_of e) run.so_far)
 
 -- ---- what a call keeps
 
+-- the ends, with so much of the link, follow it, and every whole frame is answered
+abbrev pub RunWith : Started → (up0 down0 up down : Pipe) → LinkEnds → HeldEnds → Type 0
+RunWith state0 up0 down0 up down s e = EachAnswered (λ waiting. Follows state0 up0 down0 up down waiting (with_ends s e)) s.splitter.whole
+
+with-good : (state0 : Started) (up0 down0 up down : Pipe) (s : LinkEnds) (e : HeldEnds) → RunWith state0 up0 down0 up down s e
+    → IsWell (fold_since up0 down0 up down)
+with-good state0 up0 down0 up down s e run = follows-good state0 up0 down0 up down s.splitter.whole (with_ends s e) run.so_far
+
 -- it has come through, or not
+pub kept-with : {T : Type 0} (result : Result T Stop) (state0 : Started) (up0 down0 up down : Pipe) (s : LinkEnds) (e : HeldEnds)
+    → GoesWell result → RunWith state0 up0 down0 up down s e
+    → OnOk result (RunWith state0 up0 down0 up down s e) × StopFolds result (fold_since up0 down0 up down)
+kept-with (Ok value) state0 up0 down0 up down s e never run = (run, with-good state0 up0 down0 up down s e run)
+kept-with (Err stop) state0 up0 down0 up down s e never run =
+    (tt, stop-folds stop (fold_since up0 down0 up down) never (with-good state0 up0 down0 up down s e run))
+
+-- the same of all that stands at the ends
 pub kept-run : {P : Type 0} {g : Ghosts P} {T : Type 0} (result : Result T Stop) (state0 : Started) (up0 down0 up down : Pipe)
-    (e : Ends P g) → GoesWell result
-    → FollowsRun state0 up0 down0 up down e
+    (e : OneFront P g) → GoesWell result → FollowsRun state0 up0 down0 up down e
     → OnOk result (FollowsRun state0 up0 down0 up down e) × StopFolds result (fold_since up0 down0 up down)
 kept-run (Ok value) state0 up0 down0 up down e never run = (run, run-good state0 up0 down0 up down e run)
 kept-run (Err stop) state0 up0 down0 up down e never run =
     (tt, stop-folds stop (fold_since up0 down0 up down) never (run-good state0 up0 down0 up down e run))
 
+-- bytes were sent up, as `send_up` says
+pub sent-follows : (result : Result (Unit {0}) Stop) (state0 : Started) (up0 down0 up down up1 down1 : Pipe) (s s1 : LinkEnds)
+    (e : HeldEnds) (bytes : List ℕ) → SentUp result up down up1 down1 s s1 bytes → s.splitter.whole ≡ []
+    → s.up_there ≤ length (waiting up) → IsWell (fold_since up0 down0 up down)
+    → ((there : ℕ) → (up1.sent ≡ up.sent ++ bytes) × (up1.given ≡ up.given) → there ≡ s.up_there + length bytes
+    → Follows state0 up0 down0 up1 down s.splitter.whole (record (with_ends s e) { up_there = there }))
+    → OnOk result (RunWith state0 up0 down0 up1 down1 s1 e) × StopFolds result (fold_since up0 down0 up1 down1)
+sent-follows (Ok u) state0 up0 down0 up down up1 down1 s s1 e bytes c none waits well goes =
+    let run : RunWith state0 up0 down0 up1 down1 s1 e =
+    sent-up (Ok u) up down up1 down1 s s1 bytes c (λ u1 d1 x. RunWith state0 up0 down0 u1 d1 x e) waits
+    (λ there sent given left. record { so_far = goes there (sent, given) left; none_whole = none }) in
+    (run, with-good state0 up0 down0 up1 down1 s1 e run)
+sent-follows (Err stop) state0 up0 down0 up down up1 down1 s s1 e bytes c none waits well goes = (
+  tt,
+  stop-folds stop (fold_since up0 down0 up1 down1) c.never
+      (unsent-up stop up down up1 down1 s s1 bytes c (λ u1 d1. IsWell (fold_since up0 down0 u1 d1)) well),
+)
+
+-- bytes were sent down, as `send_down` says
+pub told-follows : (result : Result (Unit {0}) Stop) (state0 : Started) (up0 down0 up down up1 down1 : Pipe) (s s1 : LinkEnds)
+    (e : HeldEnds) (bytes : List ℕ) → SentDown result up down up1 down1 s s1 bytes
+    → s.down_there ≤ length (waiting down) → IsWell (fold_since up0 down0 up down)
+    → ((there : ℕ) → (down1.sent ≡ down.sent ++ bytes) × (down1.given ≡ down.given) → there ≡ s.down_there + length bytes
+    → Follows state0 up0 down0 up1 down1 s.splitter.whole (record (with_ends s e) { down_there = there }))
+    → OnOk result (Follows state0 up0 down0 up1 down1 s1.splitter.whole (with_ends s1 e))
+    × StopFolds result (fold_since up0 down0 up1 down1)
+told-follows (Ok u) state0 up0 down0 up down up1 down1 s s1 e bytes c waits well goes =
+    let all : Follows state0 up0 down0 up1 down1 s1.splitter.whole (with_ends s1 e) =
+    sent-down (Ok u) up down up1 down1 s s1 bytes c
+    (λ u1 d1 x. Follows state0 up0 down0 u1 d1 x.splitter.whole (with_ends x e)) waits
+    (λ there sent given left. goes there (sent, given) left) in
+    (all, follows-good state0 up0 down0 up1 down1 s1.splitter.whole (with_ends s1 e) all)
+told-follows (Err stop) state0 up0 down0 up down up1 down1 s s1 e bytes c waits well goes = (
+  tt,
+  stop-folds stop (fold_since up0 down0 up1 down1) c.never
+      (unsent-down stop up down up1 down1 s s1 bytes c (λ u1 d1. IsWell (fold_since up0 down0 u1 d1)) well),
+)
+
+-- with each frame answered
+pub whole-follows : (result : Result (Unit {0}) Stop) (state0 : Started) (up0 down0 up down : Pipe) (s : LinkEnds) (e : HeldEnds)
+    (passed : Passed) → s.splitter.whole ≡ []
+    → OnOk result (Follows state0 up0 down0 up down s.splitter.whole (with_ends s e)) × StopFolds result passed
+    → OnOk result (RunWith state0 up0 down0 up down s e) × StopFolds result passed
+whole-follows (Ok u) state0 up0 down0 up down s e passed none both = (record { so_far = both.0; none_whole = none }, both.1)
+whole-follows (Err stop) state0 up0 down0 up down s e passed none both = (tt, both.1)
+
 -- a line that makes no step of the script
-pub run-fewer : {P : Type 0} {g : Ghosts P} (state0 : Started) (up0 down0 up down : Pipe) (e : Ends P g) → FollowsRun
+pub run-fewer : {P : Type 0} {g : Ghosts P} (state0 : Started) (up0 down0 up down : Pipe) (e : OneFront P g) → FollowsRun
     (one_line_more state0) up0 down0 up down e
     → FollowsRun state0 up0 down0 up down e
 run-fewer state0 up0 down0 up down e run =
-    record { so_far = follows-fewer state0 up0 down0 up down e.splitter.whole (ends_of e) run.so_far; none_whole = run.none_whole }
+    record { so_far = follows-fewer state0 up0 down0 up down e.ends.splitter.whole (ends_of e) run.so_far; none_whole = run.none_whole }
 
 -- the line that comes next is one of those that are left
 pub run-line : {P : Type 0} {g : Ghosts P} (begun : Begun) (shown : List ℕ) (panels : List (Option PanelKind)) (up0 down0 up down : Pipe)
-    (e : Ends P g)
+    (e : OneFront P g)
     (lines : List (List ℕ)) (line : List ℕ)
     (more : List (List ℕ)) → lines ≡ line ∷ more
     → FollowsRun (run_started begun.state (length lines) shown panels) up0 down0 up down e
@@ -146,13 +196,13 @@ run-line begun shown panels up0 down0 up down e lines line more is run =
     subst (λ n. FollowsRun (run_started begun.state n shown panels) up0 down0 up down e) plus run
 
 -- where the front end has no id left, the call stops
-pub front-stops : {P : Type 0} {g : Ghosts P} (state0 : Started) (up0 down0 up down : Pipe) (e : Ends P g)
+pub front-stops : {P : Type 0} {g : Ghosts P} (state0 : Started) (up0 down0 up down : Pipe) (e : OneFront P g)
     → FollowsRun state0 up0 down0 up down e
     → ((e.front.next < 2 ^ 30) × (2 ^ 30 + e.front.fetches < 2 ^ 52) → false ≡ true)
     → StopFolds {T = Unit {0}} (Err NoRoom) (fold_since up0 down0 up down)
 front-stops state0 up0 down0 up down e run none =
     let well = run-good state0 up0 down0 up down e run in
-    ((well.0, front-full state0 up0 down0 up down e.splitter.whole (ends_of e) run.so_far none), well.1)
+    ((well.0, front-full state0 up0 down0 up down e.ends.splitter.whole (ends_of e) run.so_far none), well.1)
 
 -- or the back end
 pub seat-stops : (state0 : Started) (up0 down0 up down : Pipe) (waiting : List (List ℕ)) (e : HeldEnds)
@@ -208,20 +258,29 @@ raw-follows state0 up0 down0 up down up1 down1 e text waiting frame bytes there 
     subst (λ pipe. Follows state0 up0 down0 up1 pipe waiting (record e { up_there = there })) (sym same_down) all
 
 -- bytes came up, and were cut into frames
-pub given-follows : (state0 : Started) (up0 down0 up down up1 down1 : Pipe) (e : HeldEnds) (s s1 : Frames) (piece bytes : List ℕ)
-    (there : ℕ)
-    → Follows state0 up0 down0 up down s.whole (record e { back_rest = s.rest }) → there + length bytes ≡ e.up_there
-    → (up1.sent ≡ up.sent) × (up1.given ≡ up.given ++ bytes) → down1 ≡ down
-    → piece ≡ bytes → s1 ≡ continued s piece
+given-follows : (state0 : Started) (up0 down0 up down up1 down1 : Pipe) (e : HeldEnds) (s s1 : Frames) (piece : List ℕ) (there : ℕ)
+    → Follows state0 up0 down0 up down s.whole (record e { back_rest = s.rest }) → there + length piece ≡ e.up_there
+    → up1.sent ≡ up.sent → up1.given ≡ up.given ++ piece → down1 ≡ down → s1 ≡ continued s piece
     → Follows state0 up0 down0 up1 down1 s1.whole (record e { back_rest = s1.rest; up_there = there })
-given-follows state0 up0 down0 up down up1 down1 e s s1 piece bytes there f left moved same_down same_bytes cut =
-    let all : Follows state0 up0 down0 up1 down (continued s bytes).whole
-    (record e { back_rest = (continued s bytes).rest; up_there = there }) =
-    follows-given_up state0 up0 down0 up down up1 s.whole (record e { back_rest = s.rest }) bytes
-    (held_after s.rest bytes) there f left moved.0 moved.1 refl in
-    let now : continued s bytes ≡ s1 = sym (cut ∙ ap (continued s) same_bytes) in
+given-follows state0 up0 down0 up down up1 down1 e s s1 piece there f left sent given same_down cut =
+    let all : Follows state0 up0 down0 up1 down (continued s piece).whole
+    (record e { back_rest = (continued s piece).rest; up_there = there }) =
+    follows-given_up state0 up0 down0 up down up1 s.whole (record e { back_rest = s.rest }) piece
+    (held_after s.rest piece) there f left sent given refl in
     subst (λ pipe. Follows state0 up0 down0 up1 pipe s1.whole (record e { back_rest = s1.rest; up_there = there })) (sym same_down)
-    (subst (λ (x : Frames). Follows state0 up0 down0 up1 down x.whole (record e { back_rest = x.rest; up_there = there })) now all)
+    (subst (λ (x : Frames). Follows state0 up0 down0 up1 down x.whole (record e { back_rest = x.rest; up_there = there })) (sym cut) all)
+
+-- as `take_up` says
+pub took-follows : (state0 : Started) (up0 down0 : Pipe) (n : ℕ) (old new : Moment LinkEnds) (e : HeldEnds) → TookUp n old new
+    → new.down ≡ old.down → Follows state0 up0 down0 old.up old.down old.ends.splitter.whole (with_ends old.ends e)
+    → Follows state0 up0 down0 new.up new.down new.ends.splitter.whole (with_ends new.ends e)
+took-follows state0 up0 down0 n old new e took same_down f =
+    subst (λ there. Follows state0 up0 down0 new.up new.down new.ends.splitter.whole (record (with_ends new.ends e) {
+      down_there = there;
+    }))
+    (sym took.down_there)
+    (given-follows state0 up0 down0 old.up old.down new.up new.down (with_ends old.ends e) old.ends.splitter new.ends.splitter took.piece
+    new.ends.up_there f took.count took.sent took.given same_down took.cut)
 
 -- a frame was answered
 pub answered-follows : (state0 : Started) (up0 down0 up down up1 down1 : Pipe) (frame : List ℕ) (frames : List (List ℕ))
@@ -278,6 +337,20 @@ delivered-follows state0 up0 down0 up down up1 down1 waiting e piece bytes there
     subst (λ pipe. Follows state0 up0 down0 pipe down1 waiting (record e { front = front1; down_there = there })) (sym same_up)
     (subst (λ s. Follows state0 up0 down0 up down1 waiting (record e { front = s; down_there = there })) (sym now) all)
 
+-- as `take_down` says
+pub got-follows : (state0 : Started) (up0 down0 up down up1 down1 : Pipe) (s s1 : LinkEnds) (e : HeldEnds)
+    (bytes : List ℕ) (front1 : FrontState)
+    → RunWith state0 up0 down0 up down s e → s1 ≡ record s { down_there = s1.down_there } → s1.down_there + length bytes ≡ s.down_there
+    → (down1.sent ≡ down.sent) × (down1.given ≡ down.given ++ bytes) → up1 ≡ up
+    → front1 ≡ after_take e.front bytes → front1.fault ≡ None
+    → RunWith state0 up0 down0 up1 down1 s1 (record e { front = front1 })
+got-follows state0 up0 down0 up down up1 down1 s s1 e bytes front1 run ends left moved same_up front_is good =
+    subst (λ x. RunWith state0 up0 down0 up1 down1 x (record e { front = front1 })) (sym ends) (record {
+      so_far = delivered-follows state0 up0 down0 up down up1 down1 s.splitter.whole (with_ends s e) bytes bytes s1.down_there front1
+          run.so_far left moved same_up refl front_is good;
+      none_whole = run.none_whole;
+    })
+
 -- as many bytes came down as were there at most
 less-down : (state0 : Started) (up0 down0 up down down1 : Pipe) (waiting : List (List ℕ)) (e : HeldEnds) (bytes : List ℕ)
     → Follows state0 up0 down0 up down waiting e → length bytes ≤ e.down_there
@@ -311,40 +384,37 @@ refused-folds state0 up0 down0 up down up1 down1 waiting e piece bytes front1 fa
 
 -- the next frame is answered, before those that the splitter holds
 pub follow_turn : {P : Type 0} {g : Ghosts P} {T : Type 0} (result : Result T Stop) (state0 : Started)
-    (up0 down0 up down up1 down1 : Pipe) (e e1 : Ends P g)
-    (s : Frames)
-    (frame : List ℕ)
-    → FollowsWith state0 up0 down0 up down e → e.splitter.whole ≡ frame ∷ s.whole → s.rest ≡ e.splitter.rest
-    → FollowsAnswer (moment (Unit {0}) up down (record e { splitter = s })) (moment (Unit {0}) up1 down1 e1) frame result
+    (up0 down0 up down up1 down1 : Pipe) (e e1 : OneFront P g) (s : LinkEnds) (frame : List ℕ)
+    → FollowsWith state0 up0 down0 up down e → e.ends.splitter.whole ≡ frame ∷ s.splitter.whole
+    → s.splitter.rest ≡ e.ends.splitter.rest → s ≡ record e.ends { splitter = s.splitter }
+    → FollowsAnswer (moment (Unit {0}) up down (record e { ends = s })) (moment (Unit {0}) up1 down1 e1) frame result
     → OnOk result (FollowsWith state0 up0 down0 up1 down1 e1) × StopFolds result (fold_since up0 down0 up1 down1)
-follow_turn result state0 up0 down0 up down up1 down1 e e1 s frame f whole rest answers =
+follow_turn result state0 up0 down0 up down up1 down1 e e1 s frame f whole rest ends answers =
     answers state0 up0 down0
-    (subst (λ r. Follows state0 up0 down0 up down (frame ∷ s.whole) (record (ends_of e) { back_rest = r })) (sym rest)
-    (subst (λ frames. Follows state0 up0 down0 up down frames (ends_of e)) whole f))
+    (subst (λ x. Follows state0 up0 down0 up down (frame ∷ s.splitter.whole) (with_ends x (ends_of e))) (sym ends)
+    (subst (λ r. Follows state0 up0 down0 up down (frame ∷ s.splitter.whole) (record (ends_of e) { back_rest = r })) (sym rest)
+    (subst (λ frames. Follows state0 up0 down0 up down frames (ends_of e)) whole f)))
 
 -- no frame is left
-pub follow_end : {P : Type 0} {g : Ghosts P} (state0 : Started) (up0 down0 up down : Pipe) (e e1 : Ends P g)
-    → FollowsWith state0 up0 down0 up down e
-    → e1.splitter ≡ e.splitter → e1.splitter.whole ≡ []
-    → ((rest : List ℕ) → record (ends_of e) { back_rest = rest } ≡ record (ends_of e1) { back_rest = rest })
-    → FollowsRun state0 up0 down0 up down e1 × IsWell (fold_since up0 down0 up down)
-follow_end state0 up0 down0 up down e e1 f same none ends = (
+pub follow_end : {P : Type 0} {g : Ghosts P} (state0 : Started) (up0 down0 up down : Pipe) (e : OneFront P g) (s : LinkEnds)
+    → FollowsWith state0 up0 down0 up down e → s ≡ e.ends → s.splitter.whole ≡ []
+    → FollowsRun state0 up0 down0 up down (record e { ends = s }) × IsWell (fold_since up0 down0 up down)
+follow_end state0 up0 down0 up down e s f same none = (
   record {
-    so_far = subst (Follows state0 up0 down0 up down e1.splitter.whole) (ends e1.splitter.rest)
-        (subst (λ (x : Frames). Follows state0 up0 down0 up down x.whole (record (ends_of e) { back_rest = x.rest })) (sym same) f);
+    so_far = subst (λ x. Follows state0 up0 down0 up down x.splitter.whole (with_ends x (ends_of e))) (sym same) f;
     none_whole = none;
   },
-  follows-good state0 up0 down0 up down e.splitter.whole (ends_of e) f,
+  follows-good state0 up0 down0 up down e.ends.splitter.whole (ends_of e) f,
 )
 
 -- ---- what is told and printed
 
-pub told-run : {P : Type 0} {g : Ghosts P} (state0 : Started) (up0 down0 up down : Pipe) (e e1 : Ends P g) (replies pauses : ℕ)
+pub told-run : {P : Type 0} {g : Ghosts P} (state0 : Started) (up0 down0 up down : Pipe) (e e1 : OneFront P g) (replies pauses : ℕ)
     → e1 ≡ record e { told = replies; told_pauses = pauses }
     → FollowsRun state0 up0 down0 up down e → FollowsRun state0 up0 down0 up down e1
 told-run state0 up0 down0 up down e e1 replies pauses is run =
     subst (λ x. FollowsRun state0 up0 down0 up down x) (sym is) (record {
-      so_far = follows-told state0 up0 down0 up down e.splitter.whole (ends_of e)
+      so_far = follows-told state0 up0 down0 up down e.ends.splitter.whole (ends_of e)
           (record { replies = replies; pauses = pauses }) run.so_far;
       none_whole = run.none_whole;
     })
@@ -352,7 +422,7 @@ told-run state0 up0 down0 up down e e1 replies pauses is run =
 -- the closing part, where it was printed
 pub closes-shown : {P : Type 0} {g : Ghosts P} (result : Result (Unit {0}) Stop) (state0 : Started) (up0 down0 up down : Pipe)
     (before after : Option (List ℕ))
-    (e : Ends P g) (tree : Nodes Seen)
+    (e : OneFront P g) (tree : Nodes Seen)
     → FollowsRun state0 up0 down0 up down e → tree ≡ e.front.value.tree → GoesWell result
     → OnOk result (Appends before after (codes "# end" ++ 10 ∷ outline_text seen_line tree))
     → OnOk result (EndsShown before after (fold_since up0 down0 up down) × AnswersInOrder up0 down0 up down
@@ -361,7 +431,7 @@ closes-shown (Ok value) state0 up0 down0 up down before after e tree run shows n
   (
     record {
       value = e.front.value;
-      is_fold = follows-fold state0 up0 down0 up down e.splitter.whole (ends_of e) run.so_far;
+      is_fold = follows-fold state0 up0 down0 up down e.ends.splitter.whole (ends_of e) run.so_far;
       written = [];
       printed = subst (λ t. Appends before after (codes "# end" ++ 10 ∷ outline_text seen_line t)) shows printed;
     },
@@ -419,19 +489,19 @@ start-good up down =
       (omega (arith, nothing up.given), omega (arith, nothing down.given)),
     )
 
-pub run-first : {P : Type 0} {g : Ghosts P} (up down : Pipe) (kinds : List PanelKind) (page : LoadedPage) (lines : ℕ) (e : Ends P g)
+pub run-first : {P : Type 0} {g : Ghosts P} (up down : Pipe) (kinds : List PanelKind) (page : LoadedPage) (lines : ℕ) (e : OneFront P g)
     → length up.given ≤ length up.sent → length down.given ≤ length down.sent → CanLoadPage page → PageHasTexts page → lines ≤ 2 ^ 26
     → IsNew e kinds page → FollowsRun (run_started (loaded_state page) lines [] (map Some kinds)) up down up down e
 run-first up down kinds page lines e up_within down_within can texts few new =
     let start : Started = run_started (loaded_state page) lines [] (map Some kinds) in
     let same : ends_of e ≡ first_ends kinds e.seat e.side = ends-first e kinds page new in
-    let none : e.splitter.whole ≡ [] = ap (λ (f : Frames). f.whole) new.splitter in
+    let none : e.ends.splitter.whole ≡ [] = ap (λ (x : LinkEnds). x.splitter.whole) new.ends in
     let fit = fit-first page can texts in
     let drew : Drew (loaded_state page) 0 0 0 = record { ids = omega arith; trees = omega arith; edits = omega arith } in
     let serials : (loaded_state page).side.page.next + 0 * (max_nodes + 1) ≤ (0 + 1) * (max_nodes + 1) = fit.serials in
     let numbers : (loaded_state page).side.next_sheet + 0 * max_sheets ≤ (0 + 1) * max_sheets + 1 = fit.numbers in
     record {
-      so_far = subst (λ h. Follows start up down up down e.splitter.whole h) (sym same)
+      so_far = subst (λ h. Follows start up down up down e.ends.splitter.whole h) (sym same)
           (subst (λ frames. Follows start up down up down frames (first_ends kinds e.seat e.side)) (sym none)
           (follows-start up down kinds start e.seat e.side up_within down_within refl refl
           (stands-first e.seat e.side page can texts new.side) few drew (omega (arith, serials))
@@ -443,45 +513,25 @@ run-first up down kinds page lines e up_within down_within can texts few new =
 pub read-folds : (stop : Stop) (number : ℕ) (bad : Option LineFault) (passed : Passed) → IsRead {T = Unit {0}} (Err stop) number bad
     → IsWell passed
     → StopFolds {T = Unit {0}} (Err stop) passed
-read-folds stop number bad passed read good = let s : Says = says (status_of stop) in at-line s.phase s.lie s.line read
-  where
-    at-line : (phase : Phase) (lie : Option Lie) (line : Option (ℕ × LineFault)) → ReadsAt phase line number bad
-        → FoldsAt phase lie passed × LessAt phase passed
-    at-line untouched lie line read = absurd read
-    at-line reading lie line read = absurd read
-    at-line underway lie line read = absurd read
-    at-line ended lie line read = good
-    at-line anywhen lie line read = (tt, tt)
+read-folds stop number bad passed read good = parts.read-folds sent_when_full stop number bad passed read good
 
 -- where no more was given than sent, each phase says so
 pub less-at : (phase : Phase) (passed : Passed) → GivesNoMore passed → LessAt phase passed
-less-at untouched passed less = less
-less-at reading passed less = less
-less-at underway passed less = less
-less-at ended passed less = less
-less-at anywhen passed less = tt
+less-at phase passed less = parts.less-at phase passed less
 
 -- the status that a stop is
 pub status-folds : (stop : Stop) (status : Status) (passed : Passed) → status ≡ status_of stop → StopFolds {T = Unit {0}} (Err stop) passed
     → StatusFolds status passed
-status-folds stop status passed is folds = subst (λ s. StatusFolds s passed) (sym is) folds.0
+status-folds stop status passed is folds = parts.status-folds sent_when_full stop status passed is folds
 
 pub status-less : (stop : Stop) (status : Status) (passed : Passed) → status ≡ status_of stop → StopFolds {T = Unit {0}} (Err stop) passed
     → StatusLess status passed
-status-less stop status passed is folds = subst (λ s. StatusLess s passed) (sym is) folds.1
+status-less stop status passed is folds = parts.status-less sent_when_full stop status passed is folds
 
 -- an input that is not read
 pub input-folds : (stop : Stop) (before after : ℕ) (passed : Passed) → IsInputStop before after (Err stop) → IsWell passed
     → StopFolds {T = Unit {0}} (Err stop) passed
-input-folds stop before after passed is good = let s : Says = says (status_of stop) in at-input s.phase s.lie
-    (PartRose (source_counts before after) s.failed) is
-  where
-    at-input : (phase : Phase) (lie : Option Lie) (P : Type 0) → InReadOnly phase P → FoldsAt phase lie passed × LessAt phase passed
-    at-input untouched lie P is = absurd is
-    at-input reading lie P is = good
-    at-input underway lie P is = absurd is
-    at-input ended lie P is = absurd is
-    at-input anywhen lie P is = (tt, tt)
+input-folds stop before after passed is good = parts.input-folds sent_when_full stop before after passed is good
 
 -- a stop is not the end
 pub never-done : (stop : Stop) (s : Status) → s ≡ status_of stop → s ≡ status.Done → ⊥

@@ -30,7 +30,7 @@ use Rattle.inspect_world.specs.Scripts.{has_styles, styles_shown, lacking, shown
 use Rattle.inspect_world.specs.Scripts.{report_refused}
 use Rattle.inspect_world.proofs.LineSizes.{line-long}
 use Rattle.inspect_world.proofs.Scripts.{left-fewer}
-use Rattle.inspect_replay.specs.declared.ends.Ends.{Ends}
+use Rattle.inspect_replay.specs.declared.one_front.OneFront.{OneFront}
 use Rattle.replay_parts.specs.declared.stop.Stop.{Stop}
 use Rattle.replay_parts.specs.declared.stop.Stop.TheVariants.{Line, TooLong, ReadFault, WriteFault, LinkFault, FrontRefused, NoRoom}
 use Rattle.replay_parts.specs.declared.stop.Stop.TheVariants.{Memory}
@@ -64,7 +64,7 @@ plain-lacking there panels form keeps none =
 
 pub plain-line : {P : Type 0} {g : Ghosts P} (result : Result (Unit {0}) Stop) (honest honest1 : Type 0) (up down up1 down1 : Pipe)
     (taken taken1 : Option (List ℕ))
-    (e e1 : Ends P g) (number : ℕ) (form : LineForm)
+    (e e1 : OneFront P g) (number : ℕ) (form : LineForm)
     (sink0 sink1 link0 link1 : ℕ) → closed_by form ≡ None → styles_ask form ≡ None → HasStopCause sink0 sink1 link0 link1 result
     → CarriesOut (scene (moment honest up down e) taken) (scene (moment honest1 up1 down1 e1) taken1) (numbered_line number form) result
     → CarriesLine (scene (moment honest up down e) taken) (scene (moment honest1 up1 down1 e1) taken1) (numbered_line number form) result
@@ -157,7 +157,7 @@ pub record Whole : Type 0 where
 -- where a run of lines is: the world, what was printed so far, and that the lines left do the rest
 pub record Running {P : Type 0} {g : Ghosts P} (honest : Type 0) (up0 down0 up down : Pipe) (taken0 taken : Option (List ℕ))
     (all : Whole) (number : ℕ)
-    (lines : List (List ℕ)) (e : Ends P g) : Type 0 where
+    (lines : List (List ℕ)) (e : OneFront P g) : Type 0 where
   pub world : World RunState
   pub in_play : InPlay honest up0 down0 up down (line_bytes lines) world e
   pub so_far : List ℕ
@@ -177,13 +177,14 @@ whole_of lines w = record {
 -- the same of lines that are equal
 pub with_lines : {P : Type 0} {g : Ghosts P} (honest : Type 0) (up0 down0 up down : Pipe) (taken0 taken : Option (List ℕ)) (all : Whole)
     (number : ℕ)
-    (lines lines1 : List (List ℕ)) (e : Ends P g) → lines ≡ lines1
+    (lines lines1 : List (List ℕ)) (e : OneFront P g) → lines ≡ lines1
     → Running honest up0 down0 up down taken0 taken all number lines e → Running honest up0 down0 up down taken0 taken all number lines1 e
 with_lines honest up0 down0 up down taken0 taken all number lines lines1 e same running =
     subst (λ ls. Running honest up0 down0 up down taken0 taken all number ls e) same running
 
 -- room for more bytes is room for fewer
-play-fewer : {P : Type 0} {g : Ghosts P} (honest : Type 0) (up0 down0 up down : Pipe) (j k : ℕ) (w : World RunState) (e : Ends P g) → j ≤ k
+play-fewer : {P : Type 0} {g : Ghosts P} (honest : Type 0) (up0 down0 up down : Pipe) (j k : ℕ) (w : World RunState) (e : OneFront P g) → j
+    ≤ k
     → InPlay honest up0 down0 up down k w e → InPlay honest up0 down0 up down j w e
 play-fewer honest up0 down0 up down j k w e less play = record {
   fresh = play.fresh;
@@ -196,7 +197,7 @@ play-fewer honest up0 down0 up down j k w e less play = record {
 pub run-later : {P : Type 0} {g : Ghosts P} (honest : Type 0) (up0 down0 up down : Pipe) (line : List ℕ) (more : List (List ℕ))
     (form : LineForm)
     (w : World RunState)
-    (e : Ends P g) → line_form line ≡ Some form
+    (e : OneFront P g) → line_form line ≡ Some form
     → InPlay honest up0 down0 up down (line_bytes (line ∷ more)) w e
     → InPlay honest up0 down0 up down (line_bytes more + line_cost form) w e
 run-later honest up0 down0 up down line more form w e is play =
@@ -213,7 +214,7 @@ record ThisLine (all : Whole) (number : ℕ) (form : LineForm) (later : List Lin
 at-line : {P : Type 0} {g : Ghosts P} (honest : Type 0) (up0 down0 up down : Pipe) (taken0 taken : Option (List ℕ)) (all : Whole)
     (number : ℕ)
     (line : List ℕ)
-    (more : List (List ℕ)) (form : LineForm) (e : Ends P g)
+    (more : List (List ℕ)) (form : LineForm) (e : OneFront P g)
     → (running : Running honest up0 down0 up down taken0 taken all number (line ∷ more) e) → line_fault number line ≡ None
     → line_form line ≡ Some form
     → ThisLine all number form (good_lines (number + 1) more) (first_bad (number + 1) more) running.world running.so_far
@@ -231,7 +232,7 @@ at-line honest up0 down0 up down taken0 taken all number line more form e runnin
 pub run-on : {P : Type 0} {g : Ghosts P} (honest honest1 : Type 0) (up0 down0 up down up1 down1 : Pipe)
     (taken0 taken taken1 : Option (List ℕ))
     (all : Whole)
-    (number : ℕ) (line : List ℕ) (more : List (List ℕ)) (form : LineForm) (e e1 : Ends P g)
+    (number : ℕ) (line : List ℕ) (more : List (List ℕ)) (form : LineForm) (e e1 : OneFront P g)
     → Running honest up0 down0 up down taken0 taken all number (line ∷ more) e → line_fault number line ≡ None → line_form line ≡ Some form
     → CarriesLine {T = Unit {0}} (scene (moment honest up down e) taken) (scene (moment honest1 up1 down1 e1) taken1)
     (numbered_line number form) (Ok tt)
@@ -272,7 +273,7 @@ part-line taken0 taken1 number form later w so_far (Some fault) is wrote =
 -- a line stopped the run
 module _ {P : Type 0} {g : Ghosts P} (honest honest1 : Type 0) (up0 down0 up down up1 down1 : Pipe) (taken0 taken taken1 : Option (List ℕ))
     (all : Whole) (number : ℕ)
-    (line : List ℕ) (more : List (List ℕ)) (form : LineForm) (e e1 : Ends P g)
+    (line : List ℕ) (more : List (List ℕ)) (form : LineForm) (e e1 : OneFront P g)
     (running : Running honest up0 down0 up down taken0 taken all number (line ∷ more) e) (good : line_fault number line ≡ None)
     (is : line_form line ≡ Some form) where
   part-all : WrotePart taken taken1 (line_text number form running.world) → WrotePart taken0 taken1 all.text
@@ -323,7 +324,7 @@ nothing-left so_far number w forms e = ap (λ fs. so_far ++ lines_text number (s
 pub read-stops : {P : Type 0} {g : Ghosts P} (stop : Stop) (honest : Type 0) (up0 down0 up down : Pipe) (taken0 taken : Option (List ℕ))
     (all : Whole)
     (number : ℕ)
-    (line : List ℕ) (more : List (List ℕ)) (e : Ends P g)
+    (line : List ℕ) (more : List (List ℕ)) (e : OneFront P g)
     → Running honest up0 down0 up down taken0 taken all number (line ∷ more) e
     → IsRead {T = Unit {0}} (Err stop) number (line_fault number line)
     → RunTook {T = Unit {0}} (Err stop) taken0 taken all.text × RunTells {T = Unit {0}} (Err stop) all.refused
@@ -350,7 +351,7 @@ read-stops Memory honest up0 down0 up down taken0 taken all number line more e r
 -- no line is left
 pub lines-done : {P : Type 0} {g : Ghosts P} (honest : Type 0) (up0 down0 up down : Pipe) (taken0 taken : Option (List ℕ)) (all : Whole)
     (number : ℕ)
-    (lines : List (List ℕ)) (e : Ends P g)
+    (lines : List (List ℕ)) (e : OneFront P g)
     → Running honest up0 down0 up down taken0 taken all number lines e → lines ≡ []
     → InPlay honest up0 down0 up down 0 all.world e × Appends taken0 taken all.text × (all.refused ≡ None)
 lines-done honest up0 down0 up down taken0 taken all number lines e running none =
@@ -413,7 +414,7 @@ stopped-took stop taken0 taken bad forms w tells took = by stop tells took
 -- a line that did not settle
 pub stopped-line : {P : Type 0} {g : Ghosts P} (stop : Stop) (sink0 sink1 link0 link1 number : ℕ) (form : LineForm)
     (honest honest1 : Type 0)
-    (up down up1 down1 : Pipe) (taken taken1 : Option (List ℕ)) (e e1 : Ends P g)
+    (up down up1 down1 : Pipe) (taken taken1 : Option (List ℕ)) (e e1 : OneFront P g)
     → HasStopCause {T = Unit {0}} sink0 sink1 link0 link1 (Err stop)
     → CarriesOut {T = Unit {0}} (scene (moment honest up down e) taken) (scene (moment honest1 up1 down1 e1) taken1)
     (numbered_line number form) (Err stop)

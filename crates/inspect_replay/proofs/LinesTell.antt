@@ -18,7 +18,7 @@ use Rattle.front_mirror.specs.declared.panels.PanelKind.{PanelKind}
 use Rattle.front_mirror.specs.Front.{FrontState}
 use Rattle.inspect_world.specs.Links.{Begun, Started, run_started, knows_styles, came_styles}
 use Rattle.inspect_world.proofs.LinkLemmas.{follows-fold, follows-showing}
-use Rattle.inspect_replay.specs.declared.ends.Ends.{Ends}
+use Rattle.inspect_replay.specs.declared.one_front.OneFront.{OneFront}
 use Rattle.replay_parts.specs.declared.stop.Stop.{Stop}
 use Rattle.replay_parts.specs.declared.stop.Stop.TheVariants.{Line, TooLong, ReadFault, WriteFault, LinkFault, FrontRefused, NoRoom}
 use Rattle.replay_parts.specs.declared.stop.Stop.TheVariants.{Memory}
@@ -37,14 +37,15 @@ use Rattle.replay_parts.proofs.StopLemmas.{part-tells, closed-tells, came-throug
 -- ---- one line
 
 -- what came of a run that follows
-pub ok-came : {P : Type 0} {g : Ghosts P} (result : Result (Unit {0}) Stop) (state0 : Started) (up0 down0 up down : Pipe) (e : Ends P g)
+pub ok-came : {P : Type 0} {g : Ghosts P} (result : Result (Unit {0}) Stop) (state0 : Started) (up0 down0 up down : Pipe) (e : OneFront P g)
     → OnOk result (FollowsRun state0 up0 down0 up down e)
     → OnOk result (AllCame (fold_since up0 down0 up down) state0.shown)
 ok-came (Ok value) state0 up0 down0 up down e run = run-came state0 up0 down0 up down e run
 ok-came (Err stop) state0 up0 down0 up down e run = tt
 
 -- a line that shows no matched styles lacks none
-pub plain-tells : {P : Type 0} {g : Ghosts P} (result : Result (Unit {0}) Stop) (old new : Moment (Ends P g)) (number : ℕ) (form : LineForm)
+pub plain-tells : {P : Type 0} {g : Ghosts P} (result : Result (Unit {0}) Stop) (old new : Moment (OneFront P g)) (number : ℕ)
+    (form : LineForm)
     (sink0 sink1 link0 link1 : ℕ)
     → closed_by form ≡ None → styles_ask form ≡ None → HasStopCause sink0 sink1 link0 link1 result → LineFollows old new result
     → LineTells old new (numbered_line number form) result
@@ -57,7 +58,7 @@ plain-tells result old new number form sink0 sink1 link0 link1 keeps none cause 
     )
 
 -- a line that drops no panel keeps them
-pub keeps-passing : {P : Type 0} {g : Ghosts P} (result : Result (Unit {0}) Stop) (old new : Moment (Ends P g)) (form : LineForm)
+pub keeps-passing : {P : Type 0} {g : Ghosts P} (result : Result (Unit {0}) Stop) (old new : Moment (OneFront P g)) (form : LineForm)
     → closed_by form ≡ None
     → LineFollows old new result → LinePasses old new form result
 keeps-passing result old new form keeps follows = λ state0 up0 down0 run.
@@ -83,21 +84,21 @@ stopped-tells stop sink0 sink1 link0 link1 number form state0 passed cause = (
 -- there
 pub record Carried {P : Type 0} {g : Ghosts P} (begun : Begun) (up0 down0 up down : Pipe) (initial : List (List ℕ)) (number : ℕ)
     (lines : List (List ℕ))
-    (e : Ends P g) : Type 0 where
+    (e : OneFront P g) : Type 0 where
   pub shown : List ℕ
   pub panels : List (Option PanelKind)
   pub run : FollowsRun (run_started begun.state (length lines) shown panels) up0 down0 up down e
   pub goes : (there : ℕ → Bool) → All (λ ask. there ask ≡ true) shown
       → first_refused there begun.panels 2 initial ≡ first_refused there panels number lines
 
-pub carried-first : {P : Type 0} {g : Ghosts P} (begun : Begun) (up0 down0 up down : Pipe) (lines : List (List ℕ)) (e : Ends P g)
+pub carried-first : {P : Type 0} {g : Ghosts P} (begun : Begun) (up0 down0 up down : Pipe) (lines : List (List ℕ)) (e : OneFront P g)
     → FollowsRun (run_started begun.state (length lines) [] begun.panels) up0 down0 up down e
     → Carried begun up0 down0 up down lines 2 lines e
 carried-first begun up0 down0 up down lines e run = record { shown = []; panels = begun.panels; run = run; goes = λ there all. refl }
 
 pub carried-lines : {P : Type 0} {g : Ghosts P} (begun : Begun) (up0 down0 up down : Pipe) (initial : List (List ℕ)) (number : ℕ)
     (lines lines1 : List (List ℕ))
-    (e : Ends P g) → lines ≡ lines1
+    (e : OneFront P g) → lines ≡ lines1
     → Carried begun up0 down0 up down initial number lines e → Carried begun up0 down0 up down initial number lines1 e
 carried-lines begun up0 down0 up down initial number lines lines1 e same carried = subst
     (λ ls. Carried begun up0 down0 up down initial number ls e) same carried
@@ -132,17 +133,17 @@ refused-from there panels number line more form good is =
     (first_refused there (option_map_or (λ f. panels_after f panels) o panels) (number + 1) more)) is
 
 -- a run that follows has the matched styles that came
-run-shows : {P : Type 0} {g : Ghosts P} (start : Started) (asks : List ℕ) (up0 down0 up down : Pipe) (e : Ends P g)
+run-shows : {P : Type 0} {g : Ghosts P} (start : Started) (asks : List ℕ) (up0 down0 up down : Pipe) (e : OneFront P g)
     → FollowsRun start up0 down0 up down e
     → AllCame (fold_since up0 down0 up down) asks
     → FollowsRun (run_started start.state start.lines asks start.panels) up0 down0 up down e
 run-shows start asks up0 down0 up down e run all =
     let f = run.so_far in
     let fold : (fold_since up0 down0 up down).fold
-    ≡ Ok e.front.value = follows-fold start up0 down0 up down e.splitter.whole (ends_of e) f in
+    ≡ Ok e.front.value = follows-fold start up0 down0 up down e.ends.splitter.whole (ends_of e) f in
     let value : e.front.value ≡ f.value = ap (λ (s : FrontState). s.value) f.front_is in
     record {
-      so_far = follows-showing start asks up0 down0 up down e.splitter.whole (ends_of e) f
+      so_far = follows-showing start asks up0 down0 up down e.ends.splitter.whole (ends_of e) f
           (subst (λ v. All (λ ask. knows_styles v ask ≡ true) asks) value
           (subst (λ r. All (λ ask. came_styles r ask ≡ true) asks) fold all));
       none_whole = run.none_whole;
@@ -158,7 +159,7 @@ lacks-none : (there : ℕ → Bool) (panels : List (Option PanelKind)) (form : L
 lacks-none there panels form panel styles = ap (λ o. first_of o (styles_fault there form)) panel ∙ styles
 
 -- a line was carried out
-pub carried-on : {P : Type 0} {g : Ghosts P} (begun : Begun) (up0 down0 up down : Pipe) (old new : Moment (Ends P g))
+pub carried-on : {P : Type 0} {g : Ghosts P} (begun : Begun) (up0 down0 up down : Pipe) (old new : Moment (OneFront P g))
     (initial : List (List ℕ))
     (number : ℕ)
     (line : List ℕ) (more : List (List ℕ)) (form : LineForm)
@@ -193,7 +194,7 @@ ok-lacks number o tells = no-number number o tells
 pub line-stops : {P : Type 0} {g : Ghosts P} (stop : Stop) (begun : Begun) (up0 down0 up down : Pipe) (passed : Passed)
     (initial : List (List ℕ))
     (number : ℕ)
-    (line : List ℕ) (more : List (List ℕ)) (form : LineForm) (e : Ends P g)
+    (line : List ℕ) (more : List (List ℕ)) (form : LineForm) (e : OneFront P g)
     → (c : Carried begun up0 down0 up down initial number (line ∷ more) e) → line_fault number line ≡ None → line_form line ≡ Some form
     → RunTells {T = Unit {0}} (Err stop) (numbered_or number (want_fault (came_styles passed.fold) c.panels form) None)
     × AtEnd (says (status_of stop)).phase (AllCame passed c.shown)
@@ -214,7 +215,7 @@ line-stops Memory begun up0 down0 up down passed initial number line more form e
 -- a line is not read
 pub read-tells : {P : Type 0} {g : Ghosts P} (stop : Stop) (begun : Begun) (up0 down0 up down : Pipe) (initial : List (List ℕ)) (number : ℕ)
     (line : List ℕ)
-    (more : List (List ℕ)) (e : Ends P g)
+    (more : List (List ℕ)) (e : OneFront P g)
     → Carried begun up0 down0 up down initial number (line ∷ more) e → IsRead {T = Unit {0}} (Err stop) number (line_fault number line)
     → RunTells {T = Unit {0}} (Err stop) (first_refused (came_styles (fold_since up0 down0 up down).fold) begun.panels 2 initial)
 read-tells (Line n fault) begun up0 down0 up down initial number line more e c read =
@@ -232,7 +233,7 @@ read-tells NoRoom begun up0 down0 up down initial number line more e c read = tt
 read-tells Memory begun up0 down0 up down initial number line more e c read = tt
 
 -- no line is left
-pub carried-all : {P : Type 0} {g : Ghosts P} (begun : Begun) (up0 down0 : Pipe) (new : Moment (Ends P g)) (initial : List (List ℕ))
+pub carried-all : {P : Type 0} {g : Ghosts P} (begun : Begun) (up0 down0 : Pipe) (new : Moment (OneFront P g)) (initial : List (List ℕ))
     (number : ℕ)
     (lines : List (List ℕ))
     → lines ≡ []
@@ -247,7 +248,7 @@ carried-all begun up0 down0 new initial number lines none c = record {
 }
 
 -- and then none is refused
-pub carried-tells : {P : Type 0} {g : Ghosts P} (begun : Begun) (up0 down0 : Pipe) (new : Moment (Ends P g)) (lines : List (List ℕ))
+pub carried-tells : {P : Type 0} {g : Ghosts P} (begun : Begun) (up0 down0 : Pipe) (new : Moment (OneFront P g)) (lines : List (List ℕ))
     → LinesCarried begun up0 down0 new lines
     → first_refused (came_styles (fold_since up0 down0 new.up new.down).fold) begun.panels 2 lines ≡ None
 carried-tells begun up0 down0 new lines c = c.none _
@@ -256,7 +257,7 @@ carried-tells begun up0 down0 new lines c = c.none _
 -- nor after the closing part
 pub closing-tells : {P : Type 0} {g : Ghosts P} (result : Result (Unit {0}) Stop) (sink0 sink1 link0 link1 : ℕ) (begun : Begun)
     (up0 down0 up down : Pipe)
-    (new : Moment (Ends P g)) (before after : Option (List ℕ)) (lines : List (List ℕ))
+    (new : Moment (OneFront P g)) (before after : Option (List ℕ)) (lines : List (List ℕ))
     → (c : LinesCarried begun up0 down0 new lines) → HasStopCause sink0 sink1 link0 link1 result
     → OnOk result (EndsShown before after (fold_since up0 down0 up down) × AnswersInOrder up0 down0 up down
     × AllCame (fold_since up0 down0 up down) c.shown)

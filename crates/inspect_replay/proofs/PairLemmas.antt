@@ -1,42 +1,35 @@
 -- What the answers of a script with two front ends follow from.
-use Rattle.std.proofs.Common.{◌≡◌, ℕ, List, [], Option, Err, refl, sym, subst}
+use Rattle.std.proofs.Common.{◌≡◌, ℕ, List, [], Option, Err, refl}
 use Rattle.std.proofs.Common.{Bool, true}
-use Rattle.std.specs.Prelude.{IsOk}
 use Rattle.pipe_frames.specs.Pipe.{Pipe}
 use Rattle.replay_parts.specs.declared.status.Status.{Status}
 use Rattle.replay_parts.specs.declared.stop.Stop.{Stop}
 use Rattle.replay_parts.specs.declared.stop.Stop.TheVariants.{Line, TooLong, ReadFault, WriteFault, LinkFault, FrontRefused, NoRoom}
 use Rattle.replay_parts.specs.declared.stop.Stop.TheVariants.{Memory}
-use Rattle.replay_parts.specs.Says.{Phase, untouched, reading, underway, ended, anywhen, Lie, PartRose, Says, says, status_of}
-use Rattle.replay_parts.specs.Answers.{OnTrue, is_too_long, AtEnd, InReadOnly, InputTells, source_counts, IsInputStop}
+use Rattle.replay_parts.specs.Says.{Phase, untouched, reading, underway, ended, anywhen, Lie, Says, says, status_of}
+use Rattle.replay_parts.specs.Answers.{OnTrue, is_too_long, AtEnd, InReadOnly, InputTells, IsInputStop}
 use Rattle.pair_replay.specs.PairAnswers.{PairTook, PairTookAt, PairRunTook, TellsRoom, IsPairHonest, PairPassed, pair_since}
-use Rattle.pair_replay.specs.PairAnswers.{PairFoldsAt, PairFolds, PairGivesNoMore, PairLessAt, PairLess, PairStopFolds}
-use Rattle.inspect_replay.specs.Followed.{LessAt, StatusLess, fold_since}
+use Rattle.pair_replay.specs.PairAnswers.{PairFolds, PairLess, PairStopFolds}
+use Rattle.pair_world.specs.PairLinks.{sent_when_pair_is_full}
+use Rattle.replay_parts.specs.LinkFolds.{LessAt, IsWell}
+use Rattle.replay_parts.proofs.FoldLemmas as parts
+use Rattle.inspect_replay.specs.Followed.{StatusLess, fold_since}
 use Rattle.pipe_frames.proofs.WholeLemmas.{Appends-nil}
 
 -- the status that a stop is says of the fold what the stop says
 pub pair-status-folds : (stop : Stop) (status : Status) (passed : PairPassed) → status ≡ status_of stop
     → PairStopFolds {T = Unit {0}} (Err stop) passed → PairFolds status passed
-pair-status-folds stop status passed is folds = subst (λ s. PairFolds s passed) (sym is) folds.0
+pair-status-folds stop status passed is folds = parts.status-folds sent_when_pair_is_full stop status passed is folds
 
 pub pair-status-less : (stop : Stop) (status : Status) (passed : PairPassed) → status ≡ status_of stop
     → PairStopFolds {T = Unit {0}} (Err stop) passed → PairLess status passed
-pair-status-less stop status passed is folds = subst (λ s. PairLess s passed) (sym is) folds.1
+pair-status-less stop status passed is folds = parts.status-less sent_when_pair_is_full stop status passed is folds
 
 -- ---- an input that is not read
 
 pub pair-input-folds : (stop : Stop) (before after : ℕ) (passed : PairPassed) → IsInputStop before after (Err stop)
-    → IsOk passed.fold × PairGivesNoMore passed → PairStopFolds {T = Unit {0}} (Err stop) passed
-pair-input-folds stop before after passed is good = let s : Says = says (status_of stop) in at-input s.phase s.lie
-    (PartRose (source_counts before after) s.failed) is
-  where
-    at-input : (phase : Phase) (lie : Option Lie) (P : Type 0) → InReadOnly phase P
-        → PairFoldsAt phase lie passed × PairLessAt phase passed
-    at-input untouched lie P is = absurd is
-    at-input reading lie P is = good
-    at-input underway lie P is = absurd is
-    at-input ended lie P is = absurd is
-    at-input anywhen lie P is = (tt, tt)
+    → IsWell passed → PairStopFolds {T = Unit {0}} (Err stop) passed
+pair-input-folds stop before after passed is good = parts.input-folds sent_when_pair_is_full stop before after passed is good
 
 -- it leaves the sink alone
 pub pair-stop-took : (stop : Stop) (input : List ℕ) (taken : Option (List ℕ)) (report : List ℕ) → InputTells (Err stop) input
@@ -104,7 +97,7 @@ pair-run-honest Memory before after text took = tt
 pub pair-less : (status : Status) (up0 down0 up down : Pipe) → PairLess status (pair_since up0 down0 up down)
     → StatusLess status (fold_since up0 down0 up down)
 pair-less status up0 down0 up down less = by (says status).phase less where
-  by : (phase : Phase) → PairLessAt phase (pair_since up0 down0 up down) → LessAt phase (fold_since up0 down0 up down)
+  by : (phase : Phase) → LessAt phase (pair_since up0 down0 up down) → LessAt phase (fold_since up0 down0 up down)
   by untouched less = less
   by reading less = less
   by underway less = less

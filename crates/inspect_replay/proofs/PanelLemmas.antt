@@ -20,7 +20,7 @@ use Rattle.inspect_world.specs.Scripts.{panel_dropped, has_styles}
 use Rattle.inspect_world.proofs.Ends.{world-panels}
 use Rattle.inspect_world.proofs.LinkLemmas.{follows-panels}
 use Rattle.inspect_world.proofs.FetchesFit.{play-line}
-use Rattle.inspect_replay.specs.declared.ends.Ends.{Ends}
+use Rattle.inspect_replay.specs.declared.one_front.OneFront.{OneFront}
 use Rattle.replay_parts.specs.declared.stop.Stop.{Stop}
 use Rattle.replay_parts.specs.declared.stop.Stop.TheVariants.{Line}
 use Rattle.replay_script.specs.declared.faults.LineFault.TheVariants.{NoPanel}
@@ -28,7 +28,8 @@ use Rattle.replay_parts.specs.Says.{says_of}
 use Rattle.replay_parts.specs.Moments.{moment, scene}
 use Rattle.inspect_replay.specs.Runs.{InRun, InPlay, ends_of}
 use Rattle.replay_parts.specs.Answers.{RunTells, RunTook}
-use Rattle.inspect_replay.specs.Followed.{AllCame, Passed, IsWell, StopFolds, fold_since, FollowsRun, LinePasses, LineTells}
+use Rattle.replay_parts.specs.LinkFolds.{IsWell}
+use Rattle.inspect_replay.specs.Followed.{AllCame, Passed, StopFolds, fold_since, FollowsRun, LinePasses, LineTells}
 use Rattle.inspect_replay.specs.Prints.{CarriesLine, numbered_line, drops}
 use Rattle.inspect_replay.proofs.FollowLemmas.{run-fewer, run-good, run-came, stop-folds}
 use Rattle.replay_parts.proofs.StopLemmas.{at-end}
@@ -37,7 +38,7 @@ use Rattle.replay_parts.proofs.ClosedPanels.{dropped-tells}
 -- ---- a line that drops a panel
 
 module _ {P : Type 0} {g : Ghosts P} (result : Result (Unit {0}) Stop) (number place : ℕ) (honest : Type 0) (up down : Pipe)
-    (e e1 : Ends P g)
+    (e e1 : OneFront P g)
     (is : result ≡ drops number (stands_open place e.front.panels)) where
   -- over every link the run goes on without the panel, or the line is refused
   pub panel-passes : e1 ≡ record e { front = with_panels (dropped place e.front.panels) e.front }
@@ -48,11 +49,11 @@ module _ {P : Type 0} {g : Ghosts P} (result : Result (Unit {0}) Stop) (number p
       let left : FollowsRun (record state0 { panels = dropped place e.front.panels }) up0 down0 up down
       (record e { front = with_panels (dropped place e.front.panels) e.front }) =
       record {
-        so_far = follows-panels state0 up0 down0 up down e.splitter.whole (ends_of e) (dropped place e.front.panels) here.so_far;
+        so_far = follows-panels state0 up0 down0 up down e.ends.splitter.whole (ends_of e) (dropped place e.front.panels) here.so_far;
         none_whole = here.none_whole;
       } in
       let gone : FollowsRun (record state0 { panels = dropped place state0.panels }) up0 down0 up down e1 =
-      subst (λ (x : Ends P g). FollowsRun (record state0 { panels = dropped place state0.panels }) up0 down0 up down x) (sym dropped_is)
+      subst (λ (x : OneFront P g). FollowsRun (record state0 { panels = dropped place state0.panels }) up0 down0 up down x) (sym dropped_is)
       (subst (λ ps. FollowsRun (record state0 { panels = dropped place ps }) up0 down0 up down
       (record e { front = with_panels (dropped place e.front.panels) e.front })) panels left) in
       subst (λ (r : Result (Unit {0}) Stop).
@@ -93,13 +94,13 @@ module _ {P : Type 0} {g : Ghosts P} (result : Result (Unit {0}) Stop) (number p
       let panels : e.front.panels ≡ v.told.panels = ap (λ (s : FrontState). s.panels) world.front_is in
       let same : e.front.panels ≡ w.told.panels = panels ∙ ap (λ (n : Audience). n.panels) play.told_is in
       let gone : InRun honest up0 down0 up down (panel_dropped place v) e1 =
-      subst (λ (x : Ends P g). InRun honest up0 down0 up down (panel_dropped place v) x) (sym dropped_is)
+      subst (λ (x : OneFront P g). InRun honest up0 down0 up down (panel_dropped place v) x) (sym dropped_is)
       (subst (λ ps. InRun honest up0 down0 up down (record v { told = record v.told { panels = dropped place ps } })
       (record e { front = with_panels (dropped place e.front.panels) e.front })) panels
       (record {
         so_far = record {
           is_honest = play.in_run.so_far.is_honest;
-          in_world = world-panels up0 down0 up down v (e.splitter.whole ++ awaited v.up) (ends_of e)
+          in_world = world-panels up0 down0 up down v (e.ends.splitter.whole ++ awaited v.up) (ends_of e)
               (dropped place e.front.panels) world;
         };
         none_whole = play.in_run.none_whole;

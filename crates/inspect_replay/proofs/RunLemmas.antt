@@ -57,10 +57,11 @@ use Rattle.inspect_world.specs.ShownReplies.{reply_shown, told_lines, replies_in
 use Rattle.back_end.specs.Starts.{IsNewSeat}
 use Rattle.back_end.proofs.StartLemmas.{stands-first}
 use Rattle.inspect_replay.specs.Starts.{IsNew}
-use Rattle.inspect_replay.specs.declared.ends.Ends.{Ends}
+use Rattle.inspect_replay.specs.declared.one_front.OneFront.{OneFront}
 use Rattle.replay_parts.specs.declared.stop.Stop.{Stop}
 use Rattle.inspect_replay.specs.Runs.{InRun, InPlay, Spends, Steps, Refreshes, ends_of}
 use Rattle.replay_parts.specs.Says.{Phase, untouched, reading, underway, ended, anywhen, Lie, Counts, PartRose, Says, says, status_of}
+use Rattle.replay_parts.specs.LinkEnds.{LinkEnds}
 use Rattle.replay_parts.specs.Moments.{moment, passage, scene}
 use Rattle.replay_parts.specs.Stops.{AmidRun, two_counts, HasStopCause, GoesWell}
 use Rattle.replay_parts.specs.Answers.{Absent, InRunOnly, TookAt, RunTook, Prints}
@@ -111,7 +112,7 @@ left-none n k left = left-fewer n 0 k (omega arith) left
 
 -- a call that takes the run with fetches over a line takes both runs over it
 pub plays : {P : Type 0} {g : Ghosts P} {T : Type 0} (result : Result T Stop) (honest honest1 : Type 0) (up down up1 down1 : Pipe)
-    (e e1 : Ends P g)
+    (e e1 : OneFront P g)
     (f : World RunState → World RunState) (line : LineForm)
     → IsLater line → ((v : World RunState) → f v ≡ fresh_line front_fetcher line v)
     → ((v : World RunState) → (fresh_line front_fetcher line v).told ≡ v.told)
@@ -134,7 +135,7 @@ plays result honest honest1 up down up1 down1 e e1 f line later goes told told1 
 -- a line that sends a frame or makes a step prints nothing by itself
 pub spend-carries : {P : Type 0} {g : Ghosts P} (result : Result (Unit {0}) Stop) (honest honest1 : Type 0) (up down up1 down1 : Pipe)
     (taken : Option (List ℕ))
-    (e e1 : Ends P g)
+    (e e1 : OneFront P g)
     (f : World RunState → World RunState) (number : ℕ) (move form : LineForm) → IsLater move
     → ((v : World RunState) → f v ≡ fresh_line front_fetcher move v)
     → ((v : World RunState) → (fresh_line front_fetcher move v).told ≡ v.told)
@@ -155,7 +156,7 @@ spend-carries result honest honest1 up down up1 down1 taken e e1 f number move f
 -- nor does a line that delivers bytes
 pub move-carries : {P : Type 0} {g : Ghosts P} (result : Result (Unit {0}) Stop) (honest honest1 : Type 0) (up down up1 down1 : Pipe)
     (taken : Option (List ℕ))
-    (e e1 : Ends P g)
+    (e e1 : OneFront P g)
     (f : World RunState → World RunState) (number : ℕ) (move form : LineForm) → IsLater move
     → ((v : World RunState) → f v ≡ fresh_line front_fetcher move v)
     → ((v : World RunState) → (fresh_line front_fetcher move v).told ≡ v.told)
@@ -169,7 +170,7 @@ move-carries result honest honest1 up down up1 down1 taken e e1 f number move fo
 
 -- a settle with its fetches may be a line's
 pub settles-spend : {P : Type 0} {g : Ghosts P} {T : Type 0} (result : Result T Stop) (honest honest1 : Type 0)
-    (up down up1 down1 : Pipe) (e e1 : Ends P g)
+    (up down up1 down1 : Pipe) (e e1 : OneFront P g)
     → Refreshes (moment honest up down e) (moment honest1 up1 down1 e1) result
     → Spends least_line (passage (moment honest up down e) (moment honest1 up1 down1 e1)) result (refreshes front_fetcher)
 settles-spend result honest honest1 up down up1 down1 e e1 settles = λ up0 down0 w few run. settles up0 down0 w
@@ -177,7 +178,7 @@ settles-spend result honest honest1 up down up1 down1 e e1 settles = λ up0 down
 
 -- a text that is sent is the line's
 pub raw-spends : {P : Type 0} {g : Ghosts P} (result : Result (Unit {0}) Stop) (honest honest1 : Type 0) (up down up1 down1 : Pipe)
-    (e e1 : Ends P g)
+    (e e1 : OneFront P g)
     (text text1 : List ℕ)
     → text1 ≡ text
     → Spends least_line (passage (moment honest up down e) (moment honest1 up1 down1 e1)) result (λ w. raw text1 w)
@@ -188,7 +189,7 @@ raw-spends result honest honest1 up down up1 down1 e e1 text text1 is spends =
 -- the same of equal lines
 pub same-carries : {P : Type 0} {g : Ghosts P} (result : Result (Unit {0}) Stop) (honest honest1 : Type 0) (up down up1 down1 : Pipe)
     (taken taken1 : Option (List ℕ))
-    (e e1 : Ends P g) (number : ℕ) (line form : LineForm)
+    (e e1 : OneFront P g) (number : ℕ) (line form : LineForm)
     → form ≡ line → CarriesOut (scene (moment honest up down e) taken) (scene (moment honest1 up1 down1 e1) taken1)
     (numbered_line number line) result
     → CarriesOut (scene (moment honest up down e) taken) (scene (moment honest1 up1 down1 e1) taken1) (numbered_line number form) result
@@ -198,7 +199,7 @@ same-carries result honest honest1 up down up1 down1 taken taken1 e e1 number li
 
 -- after a settle the front end shows what the client sees of the page
 pub shown-settled : {P : Type 0} {g : Ghosts P} (honest1 : Type 0) (up0 down0 up1 down1 : Pipe) (lines : ℕ) (w v : World RunState)
-    (e1 : Ends P g)
+    (e1 : OneFront P g)
     → Together IsPlainFrame lines w v → InRun honest1 up0 down0 up1 down1 (refreshes front_fetcher v) e1 → ShownThen w e1.front.value
 shown-settled honest1 up0 down0 up1 down1 lines w v e1 both after =
     shown-then lines w v e1.front.value both (run-front honest1 up0 down0 up1 down1 (refreshes front_fetcher v) e1 after)
@@ -210,25 +211,25 @@ prints-same (Ok value) before after text text1 same ok err = subst (λ t. Append
 prints-same (Err stop) before after text text1 same ok err = subst (λ t. WrotePart before after t) same err
 
 -- what a settle that came through takes a run to
-abbrev pub SettlesTo : {P : Type 0} {g : Ghosts P} → Type 0 → Type 0 → Pipe → Pipe → Pipe → Pipe → Ends P g → Ends P g → Type 0
+abbrev pub SettlesTo : {P : Type 0} {g : Ghosts P} → Type 0 → Type 0 → Pipe → Pipe → Pipe → Pipe → OneFront P g → OneFront P g → Type 0
 SettlesTo honest honest1 up down up1 down1 e e1 =
     (up0 down0 : Pipe) (w : World RunState) → HasLeft w.spent 0 → InRun honest up0 down0 up down w e
     → InRun honest1 up0 down0 up1 down1 (refreshes front_fetcher w) e1
 
 -- a change of the page: what the page and its sheets say is refused is what the script's own state says
-page-is : {P : Type 0} {g : Ghosts P} (honest : Type 0) (up0 down0 up down : Pipe) (lines : ℕ) (w : World RunState) (e : Ends P g)
+page-is : {P : Type 0} {g : Ghosts P} (honest : Type 0) (up0 down0 up down : Pipe) (lines : ℕ) (w : World RunState) (e : OneFront P g)
     → InPlay honest up0 down0 up down lines w e → e.side.page ≡ w.state.back.side.page
 page-is honest up0 down0 up down lines w e play =
     play.in_run.so_far.in_world.stands.stands.page_is ∙ ap (λ (s : RunState). s.back.side.page) (sym play.both.runs.agrees.state)
 
-sheets-are : {P : Type 0} {g : Ghosts P} (honest : Type 0) (up0 down0 up down : Pipe) (lines : ℕ) (w : World RunState) (e : Ends P g)
+sheets-are : {P : Type 0} {g : Ghosts P} (honest : Type 0) (up0 down0 up down : Pipe) (lines : ℕ) (w : World RunState) (e : OneFront P g)
     → InPlay honest up0 down0 up down lines w e → e.side.sheets.entries ≡ book_in w.state.back
 sheets-are honest up0 down0 up down lines w e play =
     play.in_run.so_far.in_world.stands.stands.sheets_are ∙ ap (λ (s : RunState). book_in s.back) (sym play.both.runs.agrees.state)
 
 pub act-carries : {P : Type 0} {g : Ghosts P} (result : Result (Unit {0}) Stop) (fault : Option ActFault) (honest honest1 : Type 0)
     (up down up1 down1 : Pipe)
-    (taken taken1 : Option (List ℕ)) (e e1 : Ends P g)
+    (taken taken1 : Option (List ℕ)) (e e1 : OneFront P g)
     (number : ℕ) (a : Act)
     → Spends {T = Option ActFault} least_line (passage (moment honest up down e) (moment honest1 up1 down1 e1)) (Ok fault)
     (λ w. turned run_turn (acts a) w)
@@ -250,7 +251,7 @@ act-carries result fault honest honest1 up down up1 down1 taken taken1 e e1 numb
 
 -- or it was not made
 pub act-stops : {P : Type 0} {g : Ghosts P} (stop : Stop) (honest honest1 : Type 0) (up down up1 down1 : Pipe) (taken : Option (List ℕ))
-    (e e1 : Ends P g)
+    (e e1 : OneFront P g)
     (line : NumberedLine) (f : World RunState → World RunState)
     → Spends {T = Option ActFault} least_line (passage (moment honest up down e) (moment honest1 up1 down1 e1)) (Err stop) f
     → CarriesOut {T = Unit {0}} (scene (moment honest up down e) taken) (scene (moment honest1 up1 down1 e1) taken) line (Err stop)
@@ -271,7 +272,7 @@ act-stops stop honest honest1 up down up1 down1 taken e e1 line f spends = λ up
 -- the page itself is printed
 pub page-carries : {P : Type 0} {g : Ghosts P} (result : Result (Unit {0}) Stop) (honest : Type 0) (up down : Pipe)
     (taken taken1 : Option (List ℕ))
-    (e : Ends P g)
+    (e : OneFront P g)
     (number : ℕ) (page : PageValue)
     → page ≡ e.side.page → GoesWell result
     → OnOk result (Appends taken taken1 (codes "# page" ++ 10 ∷ outline_text page_line (alone page.tree)))
@@ -291,7 +292,7 @@ page-carries result honest up down taken taken1 e number page is never ok err = 
 -- a show that was printed
 pub show-carries : {P : Type 0} {g : Ghosts P} (result : Result (Unit {0}) Stop) (honest honest1 : Type 0) (up down up1 down1 : Pipe)
     (taken taken1 : Option (List ℕ))
-    (e e1 : Ends P g)
+    (e e1 : OneFront P g)
     (number : ℕ) (tree : Nodes Seen)
     → SettlesTo honest honest1 up down up1 down1 e e1 → tree ≡ e1.front.value.tree → GoesWell result
     → OnOk result (Appends taken taken1 (codes "# front" ++ 10 ∷ outline_text seen_line tree))
@@ -316,7 +317,7 @@ show-carries result honest honest1 up down up1 down1 taken taken1 e e1 number tr
 
 -- a show of the sheets that was printed
 pub sheets-carries : {P : Type 0} {g : Ghosts P} (result : Result (Unit {0}) Stop) (honest honest1 : Type 0) (up down up1 down1 : Pipe)
-    (taken taken1 : Option (List ℕ)) (e e1 : Ends P g)
+    (taken taken1 : Option (List ℕ)) (e e1 : OneFront P g)
     (number : ℕ) (sheets : List KnownSheet)
     → SettlesTo honest honest1 up down up1 down1 e e1 → sheets ≡ e1.front.value.sheets → GoesWell result
     → OnOk result (Appends taken taken1 (codes "# sheets" ++ 10 ∷ known_lines sheets))
@@ -342,7 +343,7 @@ sheets-carries result honest honest1 up down up1 down1 taken taken1 e e1 number 
 
 -- a show that did not settle
 pub show-stops : {P : Type 0} {g : Ghosts P} (stop : Stop) (honest honest1 : Type 0) (up down up1 down1 : Pipe) (taken : Option (List ℕ))
-    (e e1 : Ends P g)
+    (e e1 : OneFront P g)
     (line : NumberedLine)
     → ((up0 down0 : Pipe) (w : World RunState) → HasLeft w.spent 0 → InRun honest up0 down0 up down w e
     → GoesWell {T = Unit {0}} (Err stop))
@@ -384,7 +385,8 @@ untold-are f told told1 came kept all u same is =
 abbrev pub replies_text : List Kept → List ℕ
 replies_text kept = codes "# replies" ++ 10 ∷ told_lines (map reply_shown kept)
 
-replies-same : {P : Type 0} {g : Ghosts P} (number : ℕ) (w : World RunState) (e1 : Ends P g) (kept : List Kept) → ShownThen w e1.front.value
+replies-same : {P : Type 0} {g : Ghosts P} (number : ℕ) (w : World RunState) (e1 : OneFront P g) (kept : List Kept) → ShownThen w
+    e1.front.value
     → e1.told ≡ w.told.so_far.replies
     → Untold e1.told e1.front.value.replies kept
     → replies_text kept ≡ line_text number show_replies w
@@ -400,7 +402,7 @@ map-id : {A : Type 0} (xs : List A) → map (λ (x : A). x) xs ≡ xs
 map-id [] = refl
 map-id (x ∷ xs) = ap (λ ys. x ∷ ys) (map-id xs)
 
-pauses-same : {P : Type 0} {g : Ghosts P} (number : ℕ) (w : World RunState) (e1 : Ends P g) (kept : List SeenPause)
+pauses-same : {P : Type 0} {g : Ghosts P} (number : ℕ) (w : World RunState) (e1 : OneFront P g) (kept : List SeenPause)
     → ShownThen w e1.front.value
     → e1.told_pauses ≡ w.told.so_far.pauses
     → Untold e1.told_pauses e1.front.value.pauses kept → pauses_text kept ≡ line_text number show_pauses w
@@ -414,14 +416,14 @@ pauses-same number w e1 kept shown told u =
 
 -- a settle that came through, before something is told
 record BeforeTold {P : Type 0} {g : Ghosts P} (honest1 : Type 0) (up0 down0 up1 down1 : Pipe) (w v : World RunState)
-    (e1 : Ends P g) : Type 0 where
+    (e1 : OneFront P g) : Type 0 where
   after : InRun honest1 up0 down0 up1 down1 (refreshes front_fetcher v) e1
   shown : ShownThen w e1.front.value
   told : (ends_of e1).told ≡ w.told.so_far
   panels : (refreshes front_fetcher v).told.panels ≡ w.told.panels
 
 before-told : {P : Type 0} {g : Ghosts P} (honest honest1 : Type 0) (up0 down0 up down up1 down1 : Pipe) (more : ℕ) (w : World RunState)
-    (e e1 : Ends P g)
+    (e e1 : OneFront P g)
     → SettlesTo honest honest1 up down up1 down1 e e1 → (play : InPlay honest up0 down0 up down (more + least_line) w e)
     → BeforeTold honest1 up0 down0 up1 down1 w play.fresh e1
 before-told honest honest1 up0 down0 up down up1 down1 more w e e1 settles play =
@@ -441,18 +443,18 @@ told_to n v = record v { told = record v.told { so_far = n } }
 
 -- what was printed counts as told, in both runs alike
 told-play : {P : Type 0} {g : Ghosts P} (line : LineForm) (honest1 : Type 0) (up0 down0 up1 down1 : Pipe) (more : ℕ) (w v : World RunState)
-    (e1 e2 : Ends P g)
+    (e1 e2 : OneFront P g)
     (n : AlreadyTold)
     → IsLater line → fresh_line front_fetcher line v ≡ told_to (fresh_line front_fetcher line v).told.so_far (refreshes front_fetcher v)
     → Together IsPlainFrame (more + line_cost line) w v → InRun honest1 up0 down0 up1 down1 (refreshes front_fetcher v) e1
-    → ends_of e2 ≡ record (ends_of e1) { told = n } → e2.splitter ≡ e1.splitter
+    → ends_of e2 ≡ record (ends_of e1) { told = n } → e2.ends.splitter ≡ e1.ends.splitter
     → record (refreshes front_fetcher v).told { so_far = n } ≡ (after_line line w).told
     → InPlay honest1 up0 down0 up1 down1 more (after_line line w) e2
 told-play line honest1 up0 down0 up1 down1 more w v e1 e2 n later is both after told same counts =
     let v1 = refreshes front_fetcher v in
     let together : Together IsPlainFrame more (after_line line w) (told_to (fresh_line front_fetcher line v).told.so_far v1) =
     subst (Together IsPlainFrame more (after_line line w)) is (play-line line more w v later both) in
-    let whole : e1.splitter.whole ≡ e2.splitter.whole = ap (λ (f : Frames). f.whole) (sym same) in
+    let whole : e1.ends.splitter.whole ≡ e2.ends.splitter.whole = ap (λ (f : Frames). f.whole) (sym same) in
     record {
       fresh = told_to n v1;
       both = play-told more (after_line line w) (told_to (fresh_line front_fetcher line v).told.so_far v1)
@@ -461,8 +463,8 @@ told-play line honest1 up0 down0 up1 down1 more w v e1 e2 n later is both after 
         so_far = record {
           is_honest = after.so_far.is_honest;
           in_world = subst (λ frames. InWorld up0 down0 up1 down1 (told_to n v1) (frames ++ awaited v1.up) (ends_of e2)) whole
-              (subst (λ h. InWorld up0 down0 up1 down1 (told_to n v1) (e1.splitter.whole ++ awaited v1.up) h) (sym told)
-              (world-told up0 down0 up1 down1 v1 (e1.splitter.whole ++ awaited v1.up) (ends_of e1) n after.so_far.in_world));
+              (subst (λ h. InWorld up0 down0 up1 down1 (told_to n v1) (e1.ends.splitter.whole ++ awaited v1.up) h) (sym told)
+              (world-told up0 down0 up1 down1 v1 (e1.ends.splitter.whole ++ awaited v1.up) (ends_of e1) n after.so_far.in_world));
         };
         none_whole = sym whole ∙ after.none_whole;
       };
@@ -472,7 +474,7 @@ told-play line honest1 up0 down0 up1 down1 more w v e1 e2 n later is both after 
 -- the replies were printed, and count as told
 pub replies-carried : {P : Type 0} {g : Ghosts P} (number : ℕ) (honest honest1 : Type 0) (up down up1 down1 : Pipe)
     (taken taken1 : Option (List ℕ))
-    (e e1 e2 : Ends P g)
+    (e e1 e2 : OneFront P g)
     (kept : List Kept)
     → SettlesTo honest honest1 up down up1 down1 e e1 → Untold e1.told e1.front.value.replies kept
     → Appends taken taken1 (replies_text kept) → e2 ≡ record e1 { told = length e1.front.value.replies }
@@ -488,7 +490,7 @@ replies-carried number honest honest1 up down up1 down1 taken taken1 e e1 e2 kep
       tt,
       told-play show_replies honest1 up0 down0 up1 down1 more w v e1 e2
           (record { replies = count; pauses = e1.told_pauses }) tt refl play.both before.after
-          (ap ends_of told) (λ i. (told i).splitter)
+          (ap ends_of told) (λ i. (told i).ends.splitter)
           (λ i. record { so_far = record { replies = all i; pauses = (before.told i).pauses }; panels = before.panels i }),
       subst (λ t. Appends taken taken1 t)
           (replies-same number w e1 kept before.shown (ap (λ (n : AlreadyTold). n.replies) before.told) u) printed,
@@ -497,7 +499,7 @@ replies-carried number honest honest1 up down up1 down1 taken taken1 e e1 e2 kep
 -- or they were not
 pub replies-stop : {P : Type 0} {g : Ghosts P} (number : ℕ) (stop : Stop) (honest honest1 : Type 0) (up down up1 down1 : Pipe)
     (taken taken1 : Option (List ℕ))
-    (e e1 e2 : Ends P g) (kept : List Kept)
+    (e e1 e2 : OneFront P g) (kept : List Kept)
     → SettlesTo honest honest1 up down up1 down1 e e1 → Untold e1.told e1.front.value.replies kept
     → GoesWell {T = Unit {0}} (Err stop) → WrotePart taken taken1 (replies_text kept)
     → CarriesOut {T = Unit {0}} (scene (moment honest up down e) taken) (scene (moment honest1 up1 down1 e2) taken1)
@@ -514,7 +516,7 @@ replies-stop number stop honest honest1 up down up1 down1 taken taken1 e e1 e2 k
 -- the pauses were printed, and count as told
 pub pauses-carried : {P : Type 0} {g : Ghosts P} (number : ℕ) (honest honest1 : Type 0) (up down up1 down1 : Pipe)
     (taken taken1 : Option (List ℕ))
-    (e e1 e2 : Ends P g)
+    (e e1 e2 : OneFront P g)
     (kept : List SeenPause)
     → SettlesTo honest honest1 up down up1 down1 e e1 → Untold e1.told_pauses e1.front.value.pauses kept
     → Appends taken taken1 (pauses_text kept) → e2 ≡ record e1 { told_pauses = length e1.front.value.pauses }
@@ -530,7 +532,7 @@ pauses-carried number honest honest1 up down up1 down1 taken taken1 e e1 e2 kept
       tt,
       told-play show_pauses honest1 up0 down0 up1 down1 more w v e1 e2
           (record { replies = e1.told; pauses = count }) tt refl play.both before.after
-          (ap ends_of told) (λ i. (told i).splitter)
+          (ap ends_of told) (λ i. (told i).ends.splitter)
           (λ i. record { so_far = record { replies = (before.told i).replies; pauses = all i }; panels = before.panels i }),
       subst (λ t. Appends taken taken1 t)
           (pauses-same number w e1 kept before.shown (ap (λ (n : AlreadyTold). n.pauses) before.told) u) printed,
@@ -539,7 +541,7 @@ pauses-carried number honest honest1 up down up1 down1 taken taken1 e e1 e2 kept
 -- or they were not
 pub pauses-stop : {P : Type 0} {g : Ghosts P} (number : ℕ) (stop : Stop) (honest honest1 : Type 0) (up down up1 down1 : Pipe)
     (taken taken1 : Option (List ℕ))
-    (e e1 e2 : Ends P g) (kept : List SeenPause)
+    (e e1 e2 : OneFront P g) (kept : List SeenPause)
     → SettlesTo honest honest1 up down up1 down1 e e1 → Untold e1.told_pauses e1.front.value.pauses kept
     → GoesWell {T = Unit {0}} (Err stop) → WrotePart taken taken1 (pauses_text kept)
     → CarriesOut {T = Unit {0}} (scene (moment honest up down e) taken) (scene (moment honest1 up1 down1 e2) taken1)
@@ -561,7 +563,7 @@ panels_shown front = codes "# panels" ++ 10 ∷ panels_text front.panels front.v
 
 -- a show of the panels that was printed
 pub panels-carries : {P : Type 0} {g : Ghosts P} (result : Result (Unit {0}) Stop) (honest honest1 : Type 0) (up down up1 down1 : Pipe)
-    (taken taken1 : Option (List ℕ)) (e e1 : Ends P g) (number : ℕ) (front : FrontState)
+    (taken taken1 : Option (List ℕ)) (e e1 : OneFront P g) (number : ℕ) (front : FrontState)
     → SettlesTo honest honest1 up down up1 down1 e e1 → front ≡ e1.front → GoesWell result
     → (front.dead ≡ false → OnOk result (Appends taken taken1 (panels_shown front)))
     → (front.dead ≡ false → OnErr result (WrotePart taken taken1 (panels_shown front)))
@@ -591,7 +593,7 @@ panels-carries result honest honest1 up down up1 down1 taken taken1 e e1 number 
 -- the closing part that was printed
 pub closes-well : {P : Type 0} {g : Ghosts P} (result : Result (Unit {0}) Stop) (honest honest1 : Type 0) (up down up1 down1 : Pipe)
     (taken taken1 : Option (List ℕ))
-    (e e1 : Ends P g)
+    (e e1 : OneFront P g)
     (tree : Nodes Seen)
     → SettlesTo honest honest1 up down up1 down1 e e1 → tree ≡ e1.front.value.tree → GoesWell result
     → OnOk result (Appends taken taken1 (codes "# end" ++ 10 ∷ outline_text seen_line tree))
@@ -608,7 +610,7 @@ closes-well result honest honest1 up down up1 down1 taken taken1 e e1 tree settl
           (ap (λ t. codes "# end" ++ 10 ∷ outline_text seen_line t) shows) ok err,
     )
 
-pub closes-not : {P : Type 0} {g : Ghosts P} (stop : Stop) (honest : Type 0) (up down : Pipe) (taken : Option (List ℕ)) (e : Ends P g)
+pub closes-not : {P : Type 0} {g : Ghosts P} (stop : Stop) (honest : Type 0) (up down : Pipe) (taken : Option (List ℕ)) (e : OneFront P g)
     → ((up0 down0 : Pipe) (w : World RunState) → HasLeft w.spent 0 → InRun honest up0 down0 up down w e
     → GoesWell {T = Unit {0}} (Err stop))
     → Closes {T = Unit {0}} (scene (moment honest up down e) taken) taken (Err stop)
@@ -679,15 +681,15 @@ first_ends kinds seat side = record {
   told = nothing_told;
 }
 
-pub ends-first : {P : Type 0} {g : Ghosts P} (e : Ends P g) (kinds : List PanelKind) (page : LoadedPage) → IsNew e kinds page
+pub ends-first : {P : Type 0} {g : Ghosts P} (e : OneFront P g) (kinds : List PanelKind) (page : LoadedPage) → IsNew e kinds page
     → ends_of e ≡ first_ends kinds e.seat e.side
 ends-first e kinds page new = λ i. record {
   seat = e.seat;
   side = e.side;
-  back_rest = (new.splitter i).rest;
+  back_rest = (new.ends i).splitter.rest;
   front = new.front i;
-  up_there = new.up i;
-  down_there = new.down i;
+  up_there = (new.ends i).up_there;
+  down_there = (new.ends i).down_there;
   told = record { replies = new.told i; pauses = new.told_pauses i };
 }
 
@@ -700,20 +702,20 @@ nothing-awaited : (kinds : List PanelKind) (page : LoadedPage) → awaited (load
 unfolding frames_of
 nothing-awaited kinds page = refl
 
-pub begins : {P : Type 0} {g : Ghosts P} (honest : Type 0) (up down : Pipe) (kinds : List PanelKind) (page : LoadedPage) (e : Ends P g)
+pub begins : {P : Type 0} {g : Ghosts P} (honest : Type 0) (up down : Pipe) (kinds : List PanelKind) (page : LoadedPage) (e : OneFront P g)
     → honest
     → CanLoadPage page → PageHasTexts page → IsLevel up → IsLevel down → IsNew e kinds page
     → InRun honest up down up down (loaded_world kinds page) e
 begins honest up down kinds page e is_honest can texts up_level down_level new =
     let same : first_ends kinds e.seat e.side ≡ ends_of e = sym (ends-first e kinds page new) in
-    let none : e.splitter.whole ≡ [] = ap (λ (f : Frames). f.whole) new.splitter in
-    let frames : [] ≡ e.splitter.whole ++ awaited (loaded_world kinds page).up =
+    let none : e.ends.splitter.whole ≡ [] = ap (λ (x : LinkEnds). x.splitter.whole) new.ends in
+    let frames : [] ≡ e.ends.splitter.whole ++ awaited (loaded_world kinds page).up =
     sym (ap (λ whole. whole ++ awaited (loaded_world kinds page).up) none ∙ nothing-awaited kinds page) in
     record {
       so_far = record {
         is_honest = is_honest;
         in_world = subst
-            (λ h. InWorld up down up down (loaded_world kinds page) (e.splitter.whole ++ awaited (loaded_world kinds page).up) h) same
+            (λ h. InWorld up down up down (loaded_world kinds page) (e.ends.splitter.whole ++ awaited (loaded_world kinds page).up) h) same
             (subst (λ fs. InWorld up down up down (loaded_world kinds page) fs (first_ends kinds e.seat e.side)) frames
             (world-first up down kinds page e.seat e.side can texts up_level down_level
             (stands-first e.seat e.side page can texts new.side)));
@@ -723,7 +725,7 @@ begins honest up down kinds page e is_honest can texts up_level down_level new =
 
 -- so both runs begin, with room for lines of so many bytes
 pub play-begins : {P : Type 0} {g : Ghosts P} (honest : Type 0) (up down : Pipe) (kinds : List PanelKind) (page : LoadedPage) (lines : ℕ)
-    (e : Ends P g)
+    (e : OneFront P g)
     → CanLoadPage page → PageHasTexts page
     → lines ≤ most_bytes
     → InRun honest up down up down (loaded_world kinds page) e → InPlay honest up down up down lines (loaded_world kinds page) e

@@ -15,7 +15,7 @@ use Rattle.inspect_world.specs.FreshRuns.{front_fetcher, refreshes}
 use Rattle.inspect_world.specs.Scripts.{styles_at, styles_shown}
 use Rattle.inspect_world.specs.Links.{Started, came_styles}
 use Rattle.inspect_world.proofs.FetchesFit.{ShownThen, refreshed-told}
-use Rattle.inspect_replay.specs.declared.ends.Ends.{Ends}
+use Rattle.inspect_replay.specs.declared.one_front.OneFront.{OneFront}
 use Rattle.replay_parts.specs.declared.stop.Stop.{Stop}
 use Rattle.inspect_replay.specs.Runs.{InRun}
 use Rattle.replay_parts.specs.Says.{says_of}
@@ -28,14 +28,14 @@ use Rattle.inspect_replay.proofs.FollowLemmas.{run-came, run-kept}
 use Rattle.replay_parts.proofs.StopLemmas.{at-end, after-ok}
 use Rattle.replay_parts.proofs.StyleLineLemmas.{under-kept}
 
-shown-styles : {P : Type 0} {g : Ghosts P} (w : World RunState) (e1 : Ends P g) (ask : ℕ) → ShownThen w e1.front.value
+shown-styles : {P : Type 0} {g : Ghosts P} (w : World RunState) (e1 : OneFront P g) (ask : ℕ) → ShownThen w e1.front.value
     → matched_in ask e1.front.value.matched ≡ styles_at ask (settled run_step w)
 shown-styles w e1 ask shown = sym (under-kept ask e1.front.value.matched) ∙ ap (styles_under ask) shown.styles
 
 -- a show of matched styles: they were printed, or the line is refused
 pub styles-carry : {P : Type 0} {g : Ghosts P} (result : Result (Unit {0}) Stop) (number ask : ℕ) (found : Option Matched)
     (honest honest1 : Type 0)
-    (up down up1 down1 : Pipe) (taken taken1 : Option (List ℕ)) (e e1 : Ends P g)
+    (up down up1 down1 : Pipe) (taken taken1 : Option (List ℕ)) (e e1 : OneFront P g)
     → SettlesTo honest honest1 up down up1 down1 e e1 → found ≡ matched_in ask e1.front.value.matched
     → RunTook result taken taken1 (styles_shown ask found) → RunTells result (numbered_or number (styles_missing (is_some found)) None)
     → CarriesLine (scene (moment honest up down e) taken) (scene (moment honest1 up1 down1 e1) taken1)
@@ -57,7 +57,7 @@ styles-carry result number ask found honest honest1 up down up1 down1 taken take
 -- over every link they are those that the front end has kept
 pub styles-tell : {P : Type 0} {g : Ghosts P} (result : Result (Unit {0}) Stop) (number ask : ℕ) (found : Option Matched) (state0 : Started)
     (up0 down0 up down : Pipe)
-    (e : Ends P g)
+    (e : OneFront P g)
     → FollowsRun state0 up0 down0 up down e → found ≡ matched_in ask e.front.value.matched
     → RunTells result (numbered_or number (styles_missing (is_some found)) None)
     → RunTells result

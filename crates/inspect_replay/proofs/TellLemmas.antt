@@ -17,7 +17,7 @@ use Rattle.inspect_world.specs.FreshRuns.{front_fetcher, refreshes}
 use Rattle.inspect_world.specs.Links.{Started, Follows}
 use Rattle.inspect_world.proofs.FetchesFit.{ShownThen}
 use Rattle.inspect_world.proofs.LinkLemmas.{follows-fold, follows-replies}
-use Rattle.inspect_replay.specs.declared.ends.Ends.{Ends}
+use Rattle.inspect_replay.specs.declared.one_front.OneFront.{OneFront}
 use Rattle.replay_parts.specs.declared.stop.Stop.{Stop}
 use Rattle.replay_parts.specs.Moments.{moment, scene}
 use Rattle.inspect_replay.specs.Runs.{InRun, ends_of}
@@ -32,7 +32,7 @@ use Rattle.inspect_replay.proofs.TallyLemmas.{AreMarked, marked-all, tally-told}
 
 -- over an honest link the numbers that were printed are those of the run
 pub tells-well : {P : Type 0} {g : Ghosts P} (result : Result (Unit {0}) Stop) (honest honest1 : Type 0) (up down up1 down1 : Pipe)
-    (taken taken1 : Option (List ℕ)) (e e1 : Ends P g) (value : FrontValue)
+    (taken taken1 : Option (List ℕ)) (e e1 : OneFront P g) (value : FrontValue)
     → SettlesTo honest honest1 up down up1 down1 e e1 → value ≡ e1.front.value → GoesWell result
     → OnOk result (Appends taken taken1 (tally_text (tally_of value)))
     → OnErr result (WrotePart taken taken1 (tally_text (tally_of value)))
@@ -51,7 +51,7 @@ tells-well result honest honest1 up down up1 down1 taken taken1 e e1 value settl
     )
 
 -- or none were
-pub tells-not : {P : Type 0} {g : Ghosts P} (stop : Stop) (honest : Type 0) (up down : Pipe) (taken : Option (List ℕ)) (e : Ends P g)
+pub tells-not : {P : Type 0} {g : Ghosts P} (stop : Stop) (honest : Type 0) (up down : Pipe) (taken : Option (List ℕ)) (e : OneFront P g)
     → ((up0 down0 : Pipe) (w : World RunState) → HasLeft w.spent 0 → InRun honest up0 down0 up down w e
     → GoesWell {T = Unit {0}} (Err stop))
     → Tells {T = Unit {0}} (scene (moment honest up down e) taken) taken (Err stop)
@@ -62,7 +62,7 @@ tells-not stop honest up down taken e never = λ up0 down0 w play. (
 
 -- over every link they are those of the fold
 pub tells-shown : {P : Type 0} {g : Ghosts P} (result : Result (Unit {0}) Stop) (state0 : Started) (up0 down0 up down : Pipe)
-    (before after : Option (List ℕ)) (e : Ends P g) (value : FrontValue)
+    (before after : Option (List ℕ)) (e : OneFront P g) (value : FrontValue)
     → FollowsRun state0 up0 down0 up down e → value ≡ e.front.value → GoesWell result
     → OnOk result (Appends before after (tally_text (tally_of value)))
     → OnOk result (TalliesShown before after (fold_since up0 down0 up down) × AnswersInOrder up0 down0 up down)
@@ -71,7 +71,7 @@ tells-shown (Ok u) state0 up0 down0 up down before after e value run same never 
   (
     record {
       value = e.front.value;
-      is_fold = follows-fold state0 up0 down0 up down e.splitter.whole (ends_of e) run.so_far;
+      is_fold = follows-fold state0 up0 down0 up down e.ends.splitter.whole (ends_of e) run.so_far;
       printed = subst (λ x. Appends before after (tally_text (tally_of x))) same printed;
     },
     follows-replies state0 up0 down0 up down (ends_of e)

@@ -9,7 +9,7 @@ use Rattle.inspect_world.specs.RunStates.{RunState, run_step}
 use Rattle.inspect_world.specs.Costs.{lines_cost}
 use Rattle.inspect_world.specs.Scripts.{after_lines}
 use Rattle.inspect_world.specs.Links.{Started, run_started}
-use Rattle.inspect_replay.specs.declared.ends.Ends.{Ends}
+use Rattle.inspect_replay.specs.declared.one_front.OneFront.{OneFront}
 use Rattle.replay_parts.specs.declared.stop.Stop.{Stop}
 use Rattle.replay_parts.specs.declared.stop.Stop.TheVariants.{Line, TooLong, ReadFault, WriteFault, LinkFault, FrontRefused, NoRoom}
 use Rattle.replay_parts.specs.declared.stop.Stop.TheVariants.{Memory}
@@ -27,14 +27,16 @@ abbrev pub lines_more : ℕ → Started → Started
 lines_more n start = run_started start.state (start.lines + n) start.shown start.panels
 
 -- a call that carries out these lines, none of which drops a panel, goes on following or stops as the fold says
-abbrev pub FormsFollow : {P : Type 0} {g : Ghosts P} {T : Type 0} → List LineForm → Moment (Ends P g) → Moment (Ends P g) → Result T Stop
+abbrev pub FormsFollow : {P : Type 0} {g : Ghosts P} {T : Type 0} → List LineForm → Moment (OneFront P g) → Moment (OneFront P g)
+    → Result T Stop
     → Type 0
 FormsFollow forms old new result =
     (state0 : Started) (up0 down0 : Pipe) → FollowsRun (lines_more (length forms) state0) up0 down0 old.up old.down old.ends
     → OnOk result (FollowsRun state0 up0 down0 new.up new.down new.ends) × StopFolds result (fold_since up0 down0 new.up new.down)
 
 -- over an honest link it takes the run to where the lines take it
-abbrev pub RunsForms : {P : Type 0} {g : Ghosts P} {T : Type 0} → List LineForm → Moment (Ends P g) → Moment (Ends P g) → Result T Stop
+abbrev pub RunsForms : {P : Type 0} {g : Ghosts P} {T : Type 0} → List LineForm → Moment (OneFront P g) → Moment (OneFront P g)
+    → Result T Stop
     → Type 0
 RunsForms forms old new result =
     (up0 down0 : Pipe) (more : ℕ) (w : World RunState)
@@ -42,13 +44,13 @@ RunsForms forms old new result =
     → GoesWell result × OnOk result (InPlay new.honest up0 down0 new.up new.down more (after_lines forms w) new.ends)
 
 -- the numbers are printed after a settle
-abbrev pub Tells : {P : Type 0} {g : Ghosts P} {T : Type 0} → Scene (Ends P g) → Option (List ℕ) → Result T Stop → Type 0
+abbrev pub Tells : {P : Type 0} {g : Ghosts P} {T : Type 0} → Scene (OneFront P g) → Option (List ℕ) → Result T Stop → Type 0
 Tells old taken result =
     (up0 down0 : Pipe) (w : World RunState) → InPlay old.now.honest up0 down0 old.now.up old.now.down 0 w old.now.ends
     → GoesWell result × Prints result old.taken taken (tally_text (tally_in (settled run_step w)))
 
 -- over every link they are those of the fold
-abbrev pub TellsShown : {P : Type 0} {g : Ghosts P} {T : Type 0} → Scene (Ends P g) → Scene (Ends P g) → Result T Stop → Type 0
+abbrev pub TellsShown : {P : Type 0} {g : Ghosts P} {T : Type 0} → Scene (OneFront P g) → Scene (OneFront P g) → Result T Stop → Type 0
 TellsShown old new result =
     (state0 : Started) (up0 down0 : Pipe) → FollowsRun state0 up0 down0 old.now.up old.now.down old.now.ends
     → OnOk result (TalliesShown old.taken new.taken (fold_since up0 down0 new.now.up new.now.down)

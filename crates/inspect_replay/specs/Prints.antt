@@ -11,7 +11,7 @@ use Rattle.inspect_world.specs.World.{World}
 use Rattle.inspect_world.specs.RunStates.{RunState}
 use Rattle.inspect_world.specs.Costs.{line_cost, line_bytes}
 use Rattle.inspect_world.specs.Scripts.{after_line, after_lines, line_text, lines_text, closing_text, lacking, shown_lines, rest_refused}
-use Rattle.inspect_replay.specs.declared.ends.Ends.{Ends}
+use Rattle.inspect_replay.specs.declared.one_front.OneFront.{OneFront}
 use Rattle.replay_parts.specs.declared.stop.Stop.{Stop}
 use Rattle.replay_parts.specs.Moments.{Scene}
 use Rattle.inspect_replay.specs.Runs.{InPlay}
@@ -29,7 +29,8 @@ abbrev pub numbered_line : ℕ → LineForm → NumberedLine
 numbered_line number form = record { number = number; form = form }
 
 -- a line is carried out, and prints what it prints
-abbrev pub CarriesOut : {P : Type 0} {g : Ghosts P} {T : Type 0} → Scene (Ends P g) → Scene (Ends P g) → NumberedLine → Result T Stop
+abbrev pub CarriesOut : {P : Type 0} {g : Ghosts P} {T : Type 0} → Scene (OneFront P g) → Scene (OneFront P g) → NumberedLine
+    → Result T Stop
     → Type 0
 CarriesOut old new line result =
     (up0 down0 : Pipe) (more : ℕ) (w : World RunState)
@@ -40,7 +41,8 @@ CarriesOut old new line result =
 
 -- any line is carried out, and prints what it prints; one that drops a panel where none stands open, or shows what did not come, is
 -- refused, and nothing is printed of it
-abbrev pub CarriesLine : {P : Type 0} {g : Ghosts P} {T : Type 0} → Scene (Ends P g) → Scene (Ends P g) → NumberedLine → Result T Stop
+abbrev pub CarriesLine : {P : Type 0} {g : Ghosts P} {T : Type 0} → Scene (OneFront P g) → Scene (OneFront P g) → NumberedLine
+    → Result T Stop
     → Type 0
 CarriesLine old new line result =
     (up0 down0 : Pipe) (more : ℕ) (w : World RunState)
@@ -50,7 +52,8 @@ CarriesLine old new line result =
     × RunTells result (numbered_or line.number (lacking line.form w) None)
 
 -- the lines after the load are carried out, up to the first that is refused
-abbrev pub RunsLines : {P : Type 0} {g : Ghosts P} {T : Type 0} → Scene (Ends P g) → Scene (Ends P g) → List (List ℕ) → Result T Stop
+abbrev pub RunsLines : {P : Type 0} {g : Ghosts P} {T : Type 0} → Scene (OneFront P g) → Scene (OneFront P g) → List (List ℕ)
+    → Result T Stop
     → Type 0
 RunsLines old new lines result =
     (up0 down0 : Pipe) (w : World RunState) → InPlay old.now.honest up0 down0 old.now.up old.now.down (line_bytes lines) w old.now.ends
@@ -60,7 +63,7 @@ RunsLines old new lines result =
     × RunTells result (rest_refused (first_bad 2 lines) (good_lines 2 lines) w)
 
 -- the closing part is printed
-abbrev pub Closes : {P : Type 0} {g : Ghosts P} {T : Type 0} → Scene (Ends P g) → Option (List ℕ) → Result T Stop → Type 0
+abbrev pub Closes : {P : Type 0} {g : Ghosts P} {T : Type 0} → Scene (OneFront P g) → Option (List ℕ) → Result T Stop → Type 0
 Closes old taken result =
     (up0 down0 : Pipe) (w : World RunState) → InPlay old.now.honest up0 down0 old.now.up old.now.down 0 w old.now.ends
     → GoesWell result × Prints result old.taken taken (closing_text w)

@@ -15,7 +15,7 @@ ghost use Rattle.inspect_replay.specs.Tallies.{TalliesShown, drill_text, tallied
 ghost use Rattle.inspect_replay.specs.Drilled.{Tells, TellsShown, IsOfWriting, WritesAtEnd};
 
 use crate::counts::front_text;
-use crate::ends::Ends;
+use crate::one_front::OneFront;
 use crate::turns::run_turns;
 use back_end::PageForm;
 use drill_script::Drill;
@@ -47,7 +47,7 @@ fn print_numbers<P: Panel, K: Sink>(
 /// Settles, and writes the six numbers of what the front end shows.
 fn tell_numbers<P: Panel, K: Sink, L: Link>(
     alloc: Global,
-    ends: &mut Ends<P>,
+    ends: &mut OneFront<P>,
     out: &mut K,
     link: &mut L,
 ) -> Result<(), Stop>
@@ -88,7 +88,7 @@ fn run_page<P: Panel, K: Sink, L: Link>(
         (tallied drill (loaded_world (map P.kind_of panels.items) (loaded_page form))) }
     ensures nothing { WritesAtEnd result (K.taken out.old) (K.taken out.new) }
 {
-    let mut ends = Ends::new(alloc, panels, form)?;
+    let mut ends = OneFront::new(alloc, panels, form)?;
     match run_turns(alloc, drill, &mut ends, link) {
         Ok(()) => tell_numbers(alloc, &mut ends, out, link),
         Err(stop) => Err(stop),

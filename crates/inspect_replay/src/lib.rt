@@ -15,7 +15,7 @@
 mod clients;
 mod counts;
 mod drills;
-mod ends;
+mod one_front;
 mod program;
 mod run;
 mod serve;

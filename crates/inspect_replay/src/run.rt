@@ -30,7 +30,7 @@ ghost use Rattle.inspect_replay.specs.Followed.{LineTells, ClosesShown, StopFold
 ghost use Rattle.inspect_replay.specs.Followed.{fold_since, EndsShown, AnswersInOrder};
 ghost use Rattle.inspect_replay.specs.Prints.{Closes, IsRead, numbered_line, drops, load_of};
 
-use crate::ends::Ends;
+use crate::one_front::OneFront;
 use back_end::{Act, PageForm};
 use front_mirror::Panel;
 use node_tree::Text;
@@ -45,7 +45,7 @@ use std::alloc::Global;
 /// Settles, and prints what the front end shows.
 fn show_front<P: Panel, K: Sink, L: Link>(
     alloc: Global,
-    ends: &mut Ends<P>,
+    ends: &mut OneFront<P>,
     out: &mut K,
     link: &mut L,
 ) -> Result<(), Stop>
@@ -62,7 +62,7 @@ fn show_front<P: Panel, K: Sink, L: Link>(
 /// Settles, and prints the replies that came since the last time.
 fn show_replies<P: Panel, K: Sink, L: Link>(
     alloc: Global,
-    ends: &mut Ends<P>,
+    ends: &mut OneFront<P>,
     out: &mut K,
     link: &mut L,
 ) -> Result<(), Stop>
@@ -88,7 +88,7 @@ fn show_replies<P: Panel, K: Sink, L: Link>(
 /// Settles, and prints the sheets that the front end knows.
 fn show_sheets<P: Panel, K: Sink, L: Link>(
     alloc: Global,
-    ends: &mut Ends<P>,
+    ends: &mut OneFront<P>,
     out: &mut K,
     link: &mut L,
 ) -> Result<(), Stop>
@@ -105,7 +105,7 @@ fn show_sheets<P: Panel, K: Sink, L: Link>(
 /// Settles, and prints the pauses that came since the last time.
 fn show_pauses<P: Panel, K: Sink, L: Link>(
     alloc: Global,
-    ends: &mut Ends<P>,
+    ends: &mut OneFront<P>,
     out: &mut K,
     link: &mut L,
 ) -> Result<(), Stop>
@@ -131,7 +131,7 @@ fn show_pauses<P: Panel, K: Sink, L: Link>(
 /// Settles, and prints what the panels show that stand open.
 fn show_panels<P: Panel, K: Sink, L: Link>(
     alloc: Global,
-    ends: &mut Ends<P>,
+    ends: &mut OneFront<P>,
     out: &mut K,
     link: &mut L,
 ) -> Result<(), Stop>
@@ -150,7 +150,7 @@ fn show_styles<P: Panel, K: Sink, L: Link>(
     alloc: Global,
     number: u64,
     ask: u64,
-    ends: &mut Ends<P>,
+    ends: &mut OneFront<P>,
     out: &mut K,
     link: &mut L,
 ) -> Result<(), Stop>
@@ -171,7 +171,7 @@ fn carry_act<P: Panel, K: Sink, L: Link>(
     alloc: Global,
     number: u64,
     change: Act,
-    ends: &mut Ends<P>,
+    ends: &mut OneFront<P>,
     out: &mut K,
     link: &mut L,
 ) -> Result<(), Stop>
@@ -187,7 +187,7 @@ fn carry_act<P: Panel, K: Sink, L: Link>(
 }
 
 /// Sends an ask.
-fn carry_ask<P: Panel, L: Link>(ends: &mut Ends<P>, link: &mut L, sent: Ask) -> Result<(), Stop>
+fn carry_ask<P: Panel, L: Link>(ends: &mut OneFront<P>, link: &mut L, sent: Ask) -> Result<(), Stop>
     requires { CanSend (seen_ask sent) }
     ensures { Goes (spending (ask_cost (seen_ask sent)) (λ w. sends (seen_ask sent) w)) (⟦<L as Watched>⟧.at link.old ends.old)
         (⟦<L as Watched>⟧.at link.new ends.new) result }
@@ -196,7 +196,11 @@ fn carry_ask<P: Panel, L: Link>(ends: &mut Ends<P>, link: &mut L, sent: Ask) -> 
 }
 
 /// Sends a text as it is.
-fn carry_raw<P: Panel, L: Link>(ends: &mut Ends<P>, link: &mut L, text: Text) -> Result<(), Stop>
+fn carry_raw<P: Panel, L: Link>(
+    ends: &mut OneFront<P>,
+    link: &mut L,
+    text: Text,
+) -> Result<(), Stop>
     requires text { IsText text }
     requires bare { IsBare text }
     ensures { Goes (spending least_line (λ w. world.raw text w)) (⟦<L as Watched>⟧.at link.old ends.old)
@@ -210,7 +214,7 @@ pub(crate) fn carry_plain<P: Panel, K: Sink, L: Link>(
     alloc: Global,
     number: u64,
     line: Line,
-    ends: &mut Ends<P>,
+    ends: &mut OneFront<P>,
     out: &mut K,
     link: &mut L,
 ) -> Result<(), Stop>
@@ -246,7 +250,7 @@ fn carry_open<P: Panel, K: Sink, L: Link>(
     alloc: Global,
     number: u64,
     line: Line,
-    ends: &mut Ends<P>,
+    ends: &mut OneFront<P>,
     out: &mut K,
     link: &mut L,
 ) -> Result<(), Stop>
@@ -265,7 +269,7 @@ fn carry_open<P: Panel, K: Sink, L: Link>(
 }
 
 /// Drops the panel at that place. The line of that number is refused where none stands open there.
-fn drop_panel<P: Panel>(number: u64, place: u64, ends: &mut Ends<P>) -> Result<(), Stop>
+fn drop_panel<P: Panel>(number: u64, place: u64, ends: &mut OneFront<P>) -> Result<(), Stop>
     ensures refused { result ≡ drops number (stands_open place ends.old.front.panels) }
     ensures dropped { ends.new
         ≡ record ends.old { front = with_panels (dropped place ends.old.front.panels) ends.old.front } }
@@ -286,7 +290,7 @@ fn carry_out<P: Panel, K: Sink, L: Link>(
     alloc: Global,
     number: u64,
     line: Line,
-    ends: &mut Ends<P>,
+    ends: &mut OneFront<P>,
     out: &mut K,
     link: &mut L,
 ) -> Result<(), Stop>
@@ -307,7 +311,7 @@ fn carry_out<P: Panel, K: Sink, L: Link>(
 fn run_lines<P: Panel, K: Sink, L: Link>(
     alloc: Global,
     mut lines: Lines,
-    ends: &mut Ends<P>,
+    ends: &mut OneFront<P>,
     out: &mut K,
     link: &mut L,
 ) -> Result<(), Stop>
@@ -390,7 +394,7 @@ fn read_load(alloc: Global, text: &[u8]) -> Result<PageForm, Stop>
 }
 
 /// Prints the closing part: what the front end shows.
-fn print_end<P: Panel, K: Sink>(alloc: Global, ends: &Ends<P>, out: &mut K) -> Result<(), Stop>
+fn print_end<P: Panel, K: Sink>(alloc: Global, ends: &OneFront<P>, out: &mut K) -> Result<(), Stop>
     ensures ok { OnOk result (Appends (K.taken out.old) (K.taken out.new)
         (codes "# end" ++ 10 ∷ outline_text seen_line ends.now.front.value.tree)) }
     ensures err { OnErr result (WrotePart (K.taken out.old) (K.taken out.new)
@@ -404,7 +408,7 @@ fn print_end<P: Panel, K: Sink>(alloc: Global, ends: &Ends<P>, out: &mut K) -> R
 /// Settles, and prints the closing part.
 fn close<P: Panel, K: Sink, L: Link>(
     alloc: Global,
-    ends: &mut Ends<P>,
+    ends: &mut OneFront<P>,
     out: &mut K,
     link: &mut L,
 ) -> Result<(), Stop>
@@ -448,7 +452,7 @@ fn run_loaded<P: Panel, K: Sink, L: Link>(
         → RunTook result (K.taken out.old) (K.taken out.new)
         (rest_text (first_bad 2 lines.entry) (good_lines 2 lines.entry) (loaded_world (map P.kind_of panels.items) (loaded_page form))) }
 {
-    let mut ends = Ends::new(alloc, panels, form)?;
+    let mut ends = OneFront::new(alloc, panels, form)?;
     match run_lines(alloc, lines, &mut ends, out, link) {
         Ok(()) => close(alloc, &mut ends, out, link),
         Err(stop) => Err(stop),

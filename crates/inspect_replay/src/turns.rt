@@ -6,7 +6,7 @@ ghost use Rattle.drill_script.specs.LineKinds.{AreDrillLines};
 ghost use Rattle.replay_parts.specs.Stops.{StopRose, two_counts};
 ghost use Rattle.inspect_replay.specs.Drilled.{FormsFollow, RunsForms};
 
-use crate::ends::Ends;
+use crate::one_front::OneFront;
 use crate::run::carry_plain;
 use drill_script::Drill;
 use front_mirror::Panel;
@@ -41,7 +41,7 @@ fn next_line(alloc: Global, drill: &mut Drill) -> Result<Option<Line>, AllocErro
 pub(crate) fn run_turns<P: Panel, L: Link>(
     alloc: Global,
     mut drill: Drill,
-    ends: &mut Ends<P>,
+    ends: &mut OneFront<P>,
     link: &mut L,
 ) -> Result<(), Stop>
     requires { AreDrillLines drill }

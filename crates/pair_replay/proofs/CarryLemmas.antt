@@ -49,7 +49,7 @@ use Rattle.replay_parts.specs.declared.stop.Stop.TheVariants.{Line}
 use Rattle.replay_parts.specs.Moments.{Moment, scene}
 use Rattle.replay_parts.specs.Stops.{HasStopCause, GoesWell}
 use Rattle.replay_parts.specs.Answers.{RunTells}
-use Rattle.pair_replay.specs.declared.ends.PairEnds.{PairEnds}
+use Rattle.pair_replay.specs.declared.two_fronts.TwoFronts.{TwoFronts}
 use Rattle.pair_replay.specs.PairStarts.{may_ask_on}
 use Rattle.pair_replay.specs.PairAnswers.{PairRunTook, RoomTold}
 use Rattle.pair_replay.specs.Running.{InPairRun, InPairPlay, Aim, PairSteps, sends_up, sending_ask, turns_page, delivers_up, delivers_down}
@@ -80,7 +80,7 @@ pub record PassesAs (form : PairForm) (aim : Aim) : Type 0 where
   pub roomy : (told : PairAudience) (v : PairRun) → DeedsHaveRoom (deeds form v) v → aim.room (pair_telling told v)
 
 module _ {P : Type 0} {g : Ghosts P} (form : PairForm) (aim : Aim) (passes : PassesAs form aim) (bytes : ℕ) (few : bytes ≤ least_line)
-    (old new : Moment (PairEnds P g)) where
+    (old new : Moment (TwoFronts P g)) where
   -- where the call came through
   pub passes-play : {T : Type 0} (value : T) → PairSteps bytes old new (Ok value) aim
       → (up0 down0 : Pipe) (more : ℕ) (w v : PairRun) → pair_lacking form w ≡ None
@@ -282,7 +282,7 @@ settle-passes = record {
 -- ---- lines that print by the page
 
 -- the page and its sheets are those of the run
-module _ {P : Type 0} {g : Ghosts P} (honest : Type 0) (up0 down0 up down : Pipe) (bytes : ℕ) (w v : PairRun) (e : PairEnds P g)
+module _ {P : Type 0} {g : Ghosts P} (honest : Type 0) (up0 down0 up down : Pipe) (bytes : ℕ) (w v : PairRun) (e : TwoFronts P g)
     (play : InPairPlay honest up0 down0 up down bytes w v e) where
   pub page-is : e.side.page ≡ w.state.side.page
   page-is =
@@ -295,7 +295,7 @@ module _ {P : Type 0} {g : Ghosts P} (honest : Type 0) (up0 down0 up down : Pipe
       ∙ ap (λ (s : PageSessions). book_in (state_on false s)) (sym play.both.runs.agrees.state)
 
 -- a change of the page that was made
-pub act-carries : {P : Type 0} {g : Ghosts P} (result : Result (Unit {0}) Stop) (fault : Option ActFault) (old mid : Moment (PairEnds P g))
+pub act-carries : {P : Type 0} {g : Ghosts P} (result : Result (Unit {0}) Stop) (fault : Option ActFault) (old mid : Moment (TwoFronts P g))
     (taken taken1 : Option (List ℕ)) (number sink0 sink1 link0 link1 : ℕ) (a : Act)
     → PairSteps {T = Option ActFault} 0 old mid (Ok fault) (turns_page (acts a)) → IsTurn (acts a)
     → fault ≡ act_fault a old.ends.side.page old.ends.side.sheets.entries → HasStopCause sink0 sink1 link0 link1 result → GoesWell result
@@ -318,7 +318,7 @@ act-carries result fault old mid taken taken1 number sink0 sink1 link0 link1 a s
     )
 
 -- the page itself is printed
-pub page-carries : {P : Type 0} {g : Ghosts P} (result : Result (Unit {0}) Stop) (old : Moment (PairEnds P g))
+pub page-carries : {P : Type 0} {g : Ghosts P} (result : Result (Unit {0}) Stop) (old : Moment (TwoFronts P g))
     (taken taken1 : Option (List ℕ))
     (number sink0 sink1 link0 link1 : ℕ) (page : PageValue)
     → page ≡ old.ends.side.page → HasStopCause sink0 sink1 link0 link1 result → GoesWell result
@@ -342,7 +342,7 @@ page-carries result old taken taken1 number sink0 sink1 link0 link1 page is caus
 -- ---- a line that is refused at once
 
 -- an ask of a second front end that does not stand
-pub ask-refused : {P : Type 0} {g : Ghosts P} (stop : Stop) (old : Moment (PairEnds P g)) (taken : Option (List ℕ)) (number : ℕ)
+pub ask-refused : {P : Type 0} {g : Ghosts P} (stop : Stop) (old : Moment (TwoFronts P g)) (taken : Option (List ℕ)) (number : ℕ)
     (a : AskForm)
     → stop ≡ Line number BadSession → is_there true old.ends.fronts.pair ≡ false
     → PairCarries {T = Unit {0}} (numbered_pair number (of_second (forms.ask a))) (scene old taken) (scene old taken) (Err stop)
@@ -360,7 +360,7 @@ ask-refused stop old taken number a is none =
     ))
 
 -- an ask of a second front end that stands
-pub ask-carries : {P : Type 0} {g : Ghosts P} (result : Result (Unit {0}) Stop) (old new : Moment (PairEnds P g)) (taken : Option (List ℕ))
+pub ask-carries : {P : Type 0} {g : Ghosts P} (result : Result (Unit {0}) Stop) (old new : Moment (TwoFronts P g)) (taken : Option (List ℕ))
     (number sink0 sink1 link0 link1 : ℕ) (a : AskForm)
     → CanSend a → may_ask_on true a ≡ true → HasStopCause sink0 sink1 link0 link1 result
     → PairSteps least_line old new result (sending_ask true a) → is_there true old.ends.fronts.pair ≡ true
@@ -384,7 +384,7 @@ sound-bare text s = record {
 }
 
 -- the text that is sent is the line's
-pub raw-steps : {P : Type 0} {g : Ghosts P} (result : Result (Unit {0}) Stop) (old new : Moment (PairEnds P g)) (text text1 : List ℕ)
+pub raw-steps : {P : Type 0} {g : Ghosts P} (result : Result (Unit {0}) Stop) (old new : Moment (TwoFronts P g)) (text text1 : List ℕ)
     → text1 ≡ text
     → PairSteps least_line old new result (sends_up (λ w. text1) none_more)
     → PairSteps least_line old new result (sends_up (λ w. text) none_more)

@@ -21,7 +21,7 @@ use Rattle.pair_world.specs.PairHeld.{calm, IsSecondOf}
 use Rattle.replay_parts.specs.declared.stop.Stop.{Stop}
 use Rattle.replay_parts.specs.Moments.{Moment}
 use Rattle.replay_parts.specs.Stops.{HasStopCause}
-use Rattle.pair_replay.specs.declared.ends.PairEnds.{PairEnds}
+use Rattle.pair_replay.specs.declared.two_fronts.TwoFronts.{TwoFronts}
 use Rattle.pair_replay.specs.PairAnswers.{RoomTold}
 use Rattle.pair_replay.specs.Running.{InPairRun, PairGoes, PairFetches, delivers_all, sending_fetch, fetching_known, fetching, fetcher_on}
 use Rattle.pair_replay.specs.Running.{by_fetcher}
@@ -72,7 +72,7 @@ none-meant true p attached there known = by p.two attached there known where
 
 module _ {P : Type 0} {g : Ghosts P} (second : Bool) (number : ℕ) where
   -- a fetch was sent, and all is delivered
-  pub text-fetched : (result : Result (Unit {0}) Stop) (old mid new : Moment (PairEnds P g)) → is_there second old.ends.fronts.pair ≡ true
+  pub text-fetched : (result : Result (Unit {0}) Stop) (old mid new : Moment (TwoFronts P g)) → is_there second old.ends.fronts.pair ≡ true
       → PairFetches {T = Unit {0}} second 1 old mid (Ok tt) (sending_fetch second number) → PairGoes mid new result delivers_all
       → PairFetches second 1 old new result (fetching_known second number)
   text-fetched result old mid new there sends delivers = λ up0 down0 w ids few may run.
@@ -91,7 +91,7 @@ module _ {P : Type 0} {g : Ghosts P} (second : Bool) (number : ℕ) where
       )
 
   -- the fetch was not sent
-  pub text-unsent : (stop : Stop) (old new : Moment (PairEnds P g)) (link0 link1 : ℕ)
+  pub text-unsent : (stop : Stop) (old new : Moment (TwoFronts P g)) (link0 link1 : ℕ)
       → HasStopCause {T = Unit {0}} 0 0 link0 link1 (Err stop)
       → PairFetches {T = Unit {0}} second 1 old new (Err stop) (sending_fetch second number)
       → PairFetches {T = Unit {0}} second 1 old new (Err stop) (fetching_known second number)
@@ -99,7 +99,7 @@ module _ {P : Type 0} {g : Ghosts P} (second : Bool) (number : ℕ) where
       (room-stops stop 0 0 link0 link1 ⊤ (PairRoom w.state) cause (λ room. tt) (sends up0 down0 w ids few may run).0, tt)
 
   -- a sheet that the front end knows
-  pub known-fetched : (result : Result (Unit {0}) Stop) (old new : Moment (PairEnds P g)) → is_there second old.ends.fronts.pair ≡ true
+  pub known-fetched : (result : Result (Unit {0}) Stop) (old new : Moment (TwoFronts P g)) → is_there second old.ends.fronts.pair ≡ true
       → has_sheet number (front_meant second old.ends.fronts.pair).value.sheets ≡ true
       → PairFetches second 1 old new result (fetching_known second number) → PairFetches second 1 old new result (fetching second number)
   known-fetched result old new there known goes = λ up0 down0 w ids few may run.
@@ -124,7 +124,7 @@ module _ {P : Type 0} {g : Ghosts P} (second : Bool) (number : ℕ) where
       )
 
   -- a sheet that it does not know, or of a front end that does not stand
-  pub unknown-passed : (old : Moment (PairEnds P g)) (there : Bool)
+  pub unknown-passed : (old : Moment (TwoFronts P g)) (there : Bool)
       → is_there second old.ends.fronts.pair ≡ there
       → (there ≡ true → has_sheet number (front_meant second old.ends.fronts.pair).value.sheets ≡ false)
       → PairFetches {T = Unit {0}} second 1 old old (Ok tt) (fetching second number)

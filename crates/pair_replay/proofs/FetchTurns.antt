@@ -28,7 +28,7 @@ use Rattle.pair_world.proofs.PairKnown.{ids-fetched}
 use Rattle.replay_parts.specs.declared.stop.Stop.{Stop}
 use Rattle.replay_parts.specs.Moments.{Moment}
 use Rattle.replay_parts.specs.Stops.{HasStopCause}
-use Rattle.pair_replay.specs.declared.ends.PairEnds.{PairEnds}
+use Rattle.pair_replay.specs.declared.two_fronts.TwoFronts.{TwoFronts}
 use Rattle.pair_replay.specs.PairAnswers.{RoomTold}
 use Rattle.pair_replay.specs.Running.{InPairRun, PairFetches, PairHasIds, fetching, fetcher_on, by_fetcher, room_by, KnownHasRoom}
 use Rattle.pair_replay.specs.Running.{AllHaveRoom}
@@ -122,7 +122,7 @@ split : (numbers : List ℕ) (i : ℕ) → i < length numbers → drop i numbers
 split numbers i h = rw (add-one, drop-cons numbers i 0) refl
 
 module _ {P : Type 0} {g : Ghosts P} (second : Bool) where
-  module _ (f : Fetcher FrontValues PairSpent) (number : ℕ) (up0 down0 : Pipe) (v : PairRun) (new : Moment (PairEnds P g))
+  module _ (f : Fetcher FrontValues PairSpent) (number : ℕ) (up0 down0 : Pipe) (v : PairRun) (new : Moment (TwoFronts P g))
       (is : fetcher_on second v.state.attached ≡ Some f) (small : (k : ℕ) → v.state.attached ≡ Some k → IsSessionNumber k)
       (rests : IsAtRest v) (ids : PairHasIds v.spent) (few : fetches_on second v.spent + 1 ≤ most_fetches) (fits : number < 2 ^ 64) where
     -- the session after a fetch
@@ -162,7 +162,7 @@ module _ {P : Type 0} {g : Ghosts P} (second : Bool) where
   -- Some sheets are left to fetch: where the run is; it goes to where it would have gone, and room for all is room for
   -- these.
   pub record Fetching (o : Option (Fetcher FrontValues PairSpent)) (target : PairRun) (Room : Type 0) (up0 down0 : Pipe) (numbers : List ℕ)
-      (now : Moment (PairEnds P g)) : Type 0 where
+      (now : Moment (TwoFronts P g)) : Type 0 where
     pub world : PairRun
     pub in_run : InPairRun calm now.honest up0 down0 now.up now.down world now.ends
     pub is : fetcher_on second world.state.attached ≡ o
@@ -174,7 +174,7 @@ module _ {P : Type 0} {g : Ghosts P} (second : Bool) where
     pub need : Room → room_by o (λ fetcher v. AllHaveRoom fetcher numbers v) world
 
   -- the number of the session that is attached
-  number-of : (up0 down0 : Pipe) (w : PairRun) (now : Moment (PairEnds P g))
+  number-of : (up0 down0 : Pipe) (w : PairRun) (now : Moment (TwoFronts P g))
       → InPairRun calm now.honest up0 down0 now.up now.down w now.ends
       → (k : ℕ) → w.state.attached ≡ Some k → IsSessionNumber k
   number-of up0 down0 w now run k is =
@@ -183,7 +183,7 @@ module _ {P : Type 0} {g : Ghosts P} (second : Bool) where
   -- what one fetch came to
   one-goes : (o : Option (Fetcher FrontValues PairSpent)) (target : PairRun) (Room : Type 0) (up0 down0 : Pipe) (number : ℕ)
       (numbers : List ℕ)
-      (old new : Moment (PairEnds P g)) (result : Result (Unit {0}) Stop)
+      (old new : Moment (TwoFronts P g)) (result : Result (Unit {0}) Stop)
       → (going : Fetching o target Room up0 down0 (number ∷ numbers) old)
       → PairFetches second 1 old new result (fetching second number)
       → RoomTold result (room_by o (λ fetcher v. KnownHasRoom fetcher number (front_in pair_replay no_fronts v) v) going.world)
@@ -199,7 +199,7 @@ module _ {P : Type 0} {g : Ghosts P} (second : Bool) where
 
   -- the next of them was fetched, or passed over
   next-fetched : (o : Option (Fetcher FrontValues PairSpent)) (target : PairRun) (Room : Type 0) (up0 down0 : Pipe) (number : ℕ)
-      (numbers : List ℕ) (old new : Moment (PairEnds P g)) → number < 2 ^ 64
+      (numbers : List ℕ) (old new : Moment (TwoFronts P g)) → number < 2 ^ 64
       → Fetching o target Room up0 down0 (number ∷ numbers) old
       → PairFetches {T = Unit {0}} second 1 old new (Ok tt) (fetching second number)
       → Fetching o target Room up0 down0 numbers new
@@ -240,7 +240,7 @@ module _ {P : Type 0} {g : Ghosts P} (second : Bool) where
 
   -- or the run stopped there
   next-stops : (o : Option (Fetcher FrontValues PairSpent)) (target : PairRun) (Room : Type 0) (up0 down0 : Pipe) (number : ℕ)
-      (numbers : List ℕ) (old new : Moment (PairEnds P g)) (stop : Stop) (link0 link1 : ℕ)
+      (numbers : List ℕ) (old new : Moment (TwoFronts P g)) (stop : Stop) (link0 link1 : ℕ)
       → HasStopCause {T = Unit {0}} 0 0 link0 link1 (Err stop)
       → Fetching o target Room up0 down0 (number ∷ numbers) old
       → PairFetches {T = Unit {0}} second 1 old new (Err stop) (fetching second number)
@@ -255,7 +255,7 @@ module _ {P : Type 0} {g : Ghosts P} (second : Bool) where
   -- ---- in the list that is gone through
 
   pub fetch-turn : (o : Option (Fetcher FrontValues PairSpent)) (target : PairRun) (Room : Type 0) (up0 down0 : Pipe) (numbers : List ℕ)
-      (i : ℕ) (old new : Moment (PairEnds P g)) → i < length numbers → get_or numbers i 0 < 2 ^ 64
+      (i : ℕ) (old new : Moment (TwoFronts P g)) → i < length numbers → get_or numbers i 0 < 2 ^ 64
       → Fetching o target Room up0 down0 (drop i numbers) old
       → PairFetches {T = Unit {0}} second 1 old new (Ok tt) (fetching second (get_or numbers i 0))
       → Fetching o target Room up0 down0 (drop (i + 1) numbers) new
@@ -264,7 +264,7 @@ module _ {P : Type 0} {g : Ghosts P} (second : Bool) where
       (subst (λ ns. Fetching o target Room up0 down0 ns old) (split numbers i h) going) fetches
 
   pub fetch-stops : (o : Option (Fetcher FrontValues PairSpent)) (target : PairRun) (Room : Type 0) (up0 down0 : Pipe) (numbers : List ℕ)
-      (i : ℕ) (old new : Moment (PairEnds P g)) (stop : Stop) (link0 link1 : ℕ) → i < length numbers
+      (i : ℕ) (old new : Moment (TwoFronts P g)) (stop : Stop) (link0 link1 : ℕ) → i < length numbers
       → HasStopCause {T = Unit {0}} 0 0 link0 link1 (Err stop)
       → Fetching o target Room up0 down0 (drop i numbers) old
       → PairFetches {T = Unit {0}} second 1 old new (Err stop) (fetching second (get_or numbers i 0))
@@ -275,7 +275,7 @@ module _ {P : Type 0} {g : Ghosts P} (second : Bool) where
 
   -- no sheet is left
   none-left : (o : Option (Fetcher FrontValues PairSpent)) (target : PairRun) (Room : Type 0) (up0 down0 : Pipe)
-      (now : Moment (PairEnds P g))
+      (now : Moment (TwoFronts P g))
       → Fetching o target Room up0 down0 [] now
       → Room × InPairRun calm now.honest up0 down0 now.up now.down target now.ends
   none-left None target Room up0 down0 now going =
@@ -284,13 +284,13 @@ module _ {P : Type 0} {g : Ghosts P} (second : Bool) where
       (going.room tt, subst (λ w. InPairRun calm now.honest up0 down0 now.up now.down w now.ends) going.goes going.in_run)
 
   pub fetch-end : (o : Option (Fetcher FrontValues PairSpent)) (target : PairRun) (Room : Type 0) (up0 down0 : Pipe) (numbers : List ℕ)
-      (now : Moment (PairEnds P g)) → numbers ≡ [] → Fetching o target Room up0 down0 numbers now
+      (now : Moment (TwoFronts P g)) → numbers ≡ [] → Fetching o target Room up0 down0 numbers now
       → Room × InPairRun calm now.honest up0 down0 now.up now.down target now.ends
   fetch-end o target Room up0 down0 numbers now none going =
       none-left o target Room up0 down0 now (subst (λ ns. Fetching o target Room up0 down0 ns now) none going)
 
   -- all of them are left
-  pub fetch-start : (numbers : List ℕ) (up0 down0 : Pipe) (w : PairRun) (now : Moment (PairEnds P g)) → PairHasIds w.spent
+  pub fetch-start : (numbers : List ℕ) (up0 down0 : Pipe) (w : PairRun) (now : Moment (TwoFronts P g)) → PairHasIds w.spent
       → fetches_on second w.spent + length numbers ≤ most_fetches → IsAtRest w
       → InPairRun calm now.honest up0 down0 now.up now.down w now.ends
       → Fetching (fetcher_on second w.state.attached)

@@ -3,7 +3,7 @@ use Rattle.std.proofs.Common.{◌≡◌, ◌+◌, ◌≤◌, ℕ, ◌<◌, ◌^�
 use Rattle.std.proofs.Common.{false, refl, sym, ◌∙◌, ap, subst, arith, append_assoc, length-append, Result, Ok, Err}
 use Rattle.std.specs.Prelude.{IfSome}
 use Rattle.std.proofs.Math.Seq.{drop-append_seam}
-use Rattle.std.specs.Result.{OnOk, OnErr, IsOk}
+use Rattle.std.specs.Result.{OnOk, IsOk}
 use Rattle.std.specs.Option.{option_to_list}
 use Rattle.front_mirror.specs.declared.panels.Panel.{Ghosts}
 use Rattle.front_mirror.specs.declared.faults.FrontFault.{FrontFault}
@@ -30,14 +30,17 @@ use Rattle.pair_world.specs.PairHeld.{up_reads}
 use Rattle.pair_world.specs.PairLinks.{PairStarted, one_pair_line_more, SecondFew, FollowsPair}
 use Rattle.pair_world.proofs.SendLemmas.{bare-way}
 use Rattle.replay_parts.specs.declared.stop.Stop.{Stop}
-use Rattle.replay_parts.specs.declared.stop.Stop.TheVariants.{Line, TooLong, ReadFault, WriteFault, LinkFault, FrontRefused, NoRoom}
-use Rattle.replay_parts.specs.declared.stop.Stop.TheVariants.{Memory}
+use Rattle.replay_parts.specs.declared.stop.Stop.TheVariants.{NoRoom}
 use Rattle.replay_parts.specs.Stops.{GoesWell}
-use Rattle.replay_parts.specs.Moments.{moment}
-use Rattle.pair_replay.specs.declared.ends.PairEnds.{PairEnds}
-use Rattle.pair_replay.specs.Running.{pair_ends_of}
+use Rattle.replay_parts.specs.Moments.{Moment, moment}
+use Rattle.replay_parts.specs.LinkEnds.{LinkEnds, TookUp, EachAnswered}
+use Rattle.replay_parts.proofs.SendLemmas.{SentUp, sent-up, unsent-up, SentDown, sent-down, unsent-down}
+use Rattle.pair_replay.specs.declared.two_fronts.TwoFronts.{TwoFronts}
+use Rattle.pair_replay.specs.Running.{with_ends, pair_ends_of}
 use Rattle.pair_replay.specs.PairStarts.{may_ask_on}
-use Rattle.pair_replay.specs.PairAnswers.{PairPassed, pair_since, PairGivesNoMore, PairStopFolds}
+use Rattle.replay_parts.specs.LinkFolds.{GivesNoMore, IsWell}
+use Rattle.pair_replay.proofs.PairFollows.{stop-folds}
+use Rattle.pair_replay.specs.PairAnswers.{PairPassed, pair_since, PairStopFolds}
 use Rattle.pair_replay.specs.Following.{FollowsPairWith, FollowsPairRun, KeepsPairAnswer}
 use Rattle.pair_replay.proofs.AnySends.{IsFolded, asked-folds, fetched-folds, attach-folds, detach-folds, second-there}
 use Rattle.pair_replay.proofs.PairLinkLemmas.{few-more, few-one, follows-sent, follows-given_up, follows-answered}
@@ -46,26 +49,6 @@ use Rattle.pair_replay.proofs.PairLinkLemmas.{follows-delivered_down, follows-re
 
 -- ---- stops
 
--- the fold meets no fault, and no more was given than sent
-abbrev pub IsWell : PairPassed → Type 0
-IsWell passed = IsOk passed.fold × PairGivesNoMore passed
-
--- a stop that is not the front ends', where all went well
-pub stop-folds : (stop : Stop) (passed : PairPassed) → GoesWell {T = Unit {0}} (Err stop) → IsWell passed
-    → PairStopFolds {T = Unit {0}} (Err stop) passed
-stop-folds (Line number fault) passed never good = good
-stop-folds TooLong passed never good = good
-stop-folds ReadFault passed never good = good
-stop-folds WriteFault passed never good = good
-stop-folds LinkFault passed never good = good
-stop-folds (FrontRefused place kind) passed never good = absurd never
-stop-folds NoRoom passed never good = absurd never
-stop-folds Memory passed never good = (tt, tt)
-
-pub well-folds : {T : Type 0} (result : Result T Stop) (passed : PairPassed) → GoesWell result → IsWell passed → PairStopFolds result passed
-well-folds (Ok value) passed never good = good
-well-folds (Err stop) passed never good = stop-folds stop passed never good
-
 -- a run that follows goes well
 pub follows-good : (start : PairStarted) (up0 down0 up down : Pipe) (waiting : List (List ℕ)) (e : held.PairEnds)
     → FollowsPair start up0 down0 up down waiting e
@@ -73,30 +56,37 @@ pub follows-good : (start : PairStarted) (up0 down0 up down : Pipe) (waiting : L
 follows-good start up0 down0 up down waiting e f =
     (subst IsOk (sym (follows-fold start up0 down0 up down waiting e f)) refl, follows-less start up0 down0 up down waiting e f)
 
-pub run-good : {P : Type 0} {g : Ghosts P} (start : PairStarted) (up0 down0 up down : Pipe) (e : PairEnds P g)
+pub run-good : {P : Type 0} {g : Ghosts P} (start : PairStarted) (up0 down0 up down : Pipe) (e : TwoFronts P g)
     → FollowsPairRun start up0 down0 up down e
     → IsWell (pair_since up0 down0 up down)
-run-good start up0 down0 up down e run = follows-good start up0 down0 up down e.splitter.whole (pair_ends_of e) run.so_far
+run-good start up0 down0 up down e run = follows-good start up0 down0 up down e.ends.splitter.whole (pair_ends_of e) run.so_far
 
 -- ---- what a call keeps
 
+-- the ends, with so much of the link, follow it, and every whole frame is answered
+abbrev pub RunWith : PairStarted → (up0 down0 up down : Pipe) → LinkEnds → held.PairEnds → Type 0
+RunWith start up0 down0 up down s e = EachAnswered (λ waiting. FollowsPair start up0 down0 up down waiting (with_ends s e)) s.splitter.whole
+
+with-good : (start : PairStarted) (up0 down0 up down : Pipe) (s : LinkEnds) (e : held.PairEnds) → RunWith start up0 down0 up down s e
+    → IsWell (pair_since up0 down0 up down)
+with-good start up0 down0 up down s e run = follows-good start up0 down0 up down s.splitter.whole (with_ends s e) run.so_far
+
 -- it has come through, or not
-pub kept-run : {P : Type 0} {g : Ghosts P} {T : Type 0} (result : Result T Stop) (start : PairStarted) (up0 down0 up down : Pipe)
-    (e : PairEnds P g) → GoesWell result
-    → FollowsPairRun start up0 down0 up down e
-    → OnOk result (FollowsPairRun start up0 down0 up down e) × PairStopFolds result (pair_since up0 down0 up down)
-kept-run (Ok value) start up0 down0 up down e never run = (run, run-good start up0 down0 up down e run)
-kept-run (Err stop) start up0 down0 up down e never run =
-    (tt, stop-folds stop (pair_since up0 down0 up down) never (run-good start up0 down0 up down e run))
+pub kept-with : {T : Type 0} (result : Result T Stop) (start : PairStarted) (up0 down0 up down : Pipe) (s : LinkEnds) (e : held.PairEnds)
+    → GoesWell result → RunWith start up0 down0 up down s e
+    → OnOk result (RunWith start up0 down0 up down s e) × PairStopFolds result (pair_since up0 down0 up down)
+kept-with (Ok value) start up0 down0 up down s e never run = (run, with-good start up0 down0 up down s e run)
+kept-with (Err stop) start up0 down0 up down s e never run =
+    (tt, stop-folds stop (pair_since up0 down0 up down) never (with-good start up0 down0 up down s e run))
 
 -- where the front ends have no id left, the call stops
-pub front-stops : {P : Type 0} {g : Ghosts P} (start : PairStarted) (up0 down0 up down : Pipe) (e : PairEnds P g)
+pub front-stops : {P : Type 0} {g : Ghosts P} (start : PairStarted) (up0 down0 up down : Pipe) (e : TwoFronts P g)
     → FollowsPairRun start up0 down0 up down e
     → (HaveRoom e.fronts → false ≡ true)
     → PairStopFolds {T = Unit {0}} (Err NoRoom) (pair_since up0 down0 up down)
 front-stops start up0 down0 up down e run none =
     let well = run-good start up0 down0 up down e run in
-    ((well.0, front-full start up0 down0 up down e.splitter.whole (pair_ends_of e) run.so_far none), well.1)
+    ((well.0, front-full start up0 down0 up down e.ends.splitter.whole (pair_ends_of e) run.so_far none), well.1)
 
 -- or the back end
 pub seat-stops : (start : PairStarted) (up0 down0 up down : Pipe) (waiting : List (List ℕ)) (e : held.PairEnds)
@@ -108,34 +98,21 @@ seat-stops start up0 down0 up down waiting e f none =
 
 -- ---- a frame goes up
 
--- What `send` says of itself: the bytes go up, where so many are counted as those that wait; the link's other parts and the ends stay.
-pub record Sent {P : Type 0} {g : Ghosts P} (result : Result (Unit {0}) Stop) (up down up1 down1 : Pipe) (e e1 : PairEnds P g)
-    (bytes : List ℕ) : Type 0 where
-  pub up_is : OnOk result (up1.sent ≡ up.sent ++ bytes)
-  pub given : up1.given ≡ up.given
-  pub unsent : OnErr result (up1 ≡ up)
-  pub down_is : down1 ≡ down
-  pub count : e.up_there ≤ length (waiting up) → OnOk result (e1.up_there ≡ e.up_there + length bytes)
-  pub ends : e1 ≡ record e { up_there = e1.up_there }
-  pub never : GoesWell result
-
-pub sent-follows : {P : Type 0} {g : Ghosts P} (result : Result (Unit {0}) Stop) (start : PairStarted) (up0 down0 up down up1 down1 : Pipe)
-    (e e1 : PairEnds P g) (bytes : List ℕ) → Sent result up down up1 down1 e e1 bytes → e.splitter.whole ≡ []
-    → e.up_there ≤ length (waiting up) → IsWell (pair_since up0 down0 up down)
-    → ((there : ℕ) → up1.sent ≡ up.sent ++ bytes → up1.given ≡ up.given → there ≡ e.up_there + length bytes
-    → FollowsPair start up0 down0 up1 down e.splitter.whole (record (pair_ends_of e) { up_there = there }))
-    → OnOk result (FollowsPairRun start up0 down0 up1 down1 e1) × PairStopFolds result (pair_since up0 down0 up1 down1)
-sent-follows (Ok u) start up0 down0 up down up1 down1 e e1 bytes s none waits well goes =
-    let run : FollowsPairRun start up0 down0 up1 down1 e1 =
-    subst (λ pipe. FollowsPairRun start up0 down0 up1 pipe e1) (sym s.down_is)
-    (subst (λ x. FollowsPairRun start up0 down0 up1 down x) (sym s.ends)
-    (record { so_far = goes e1.up_there s.up_is s.given (s.count waits); none_whole = none })) in
-    (run, run-good start up0 down0 up1 down1 e1 run)
-sent-follows (Err stop) start up0 down0 up down up1 down1 e e1 bytes s none waits well goes = (
+pub sent-follows : (result : Result (Unit {0}) Stop) (start : PairStarted) (up0 down0 up down up1 down1 : Pipe) (s s1 : LinkEnds)
+    (e : held.PairEnds) (bytes : List ℕ) → SentUp result up down up1 down1 s s1 bytes → s.splitter.whole ≡ []
+    → s.up_there ≤ length (waiting up) → IsWell (pair_since up0 down0 up down)
+    → ((there : ℕ) → up1.sent ≡ up.sent ++ bytes → up1.given ≡ up.given → there ≡ s.up_there + length bytes
+    → FollowsPair start up0 down0 up1 down s.splitter.whole (record (with_ends s e) { up_there = there }))
+    → OnOk result (RunWith start up0 down0 up1 down1 s1 e) × PairStopFolds result (pair_since up0 down0 up1 down1)
+sent-follows (Ok u) start up0 down0 up down up1 down1 s s1 e bytes c none waits well goes =
+    let run : RunWith start up0 down0 up1 down1 s1 e =
+    sent-up (Ok u) up down up1 down1 s s1 bytes c (λ u1 d1 x. RunWith start up0 down0 u1 d1 x e) waits
+    (λ there sent given left. record { so_far = goes there sent given left; none_whole = none }) in
+    (run, with-good start up0 down0 up1 down1 s1 e run)
+sent-follows (Err stop) start up0 down0 up down up1 down1 s s1 e bytes c none waits well goes = (
   tt,
-  stop-folds stop (pair_since up0 down0 up1 down1) s.never
-      (subst (λ u. IsWell (pair_since up0 down0 u down1)) (sym s.unsent)
-      (subst (λ d. IsWell (pair_since up0 down0 up d)) (sym s.down_is) well)),
+  stop-folds stop (pair_since up0 down0 up1 down1) c.never
+      (unsent-up stop up down up1 down1 s s1 bytes c (λ u1 d1. IsWell (pair_since up0 down0 u1 d1)) well),
 )
 
 -- the front ends have sent what is folded with them
@@ -261,69 +238,59 @@ module _ (start : PairStarted) (up0 down0 up down up1 : Pipe) (waiting : List (L
 
 -- ---- bytes go down
 
--- What `answer_with` says of itself: the bytes go down, where so many are counted as those that wait; the link's other parts and the ends
--- stay.
-pub record Told {P : Type 0} {g : Ghosts P} (result : Result (Unit {0}) Stop) (up down up1 down1 : Pipe) (e : held.PairEnds) (s : Frames)
-    (e1 : PairEnds P g) (bytes : List ℕ) : Type 0 where
-  pub down_is : OnOk result (down1.sent ≡ down.sent ++ bytes)
-  pub given : down1.given ≡ down.given
-  pub unsent : OnErr result (down1 ≡ down)
-  pub up_is : up1 ≡ up
-  pub count : e.down_there ≤ length (waiting down) → OnOk result (e1.down_there ≡ e.down_there + length bytes)
-  pub ends : pair_ends_of e1 ≡ record e { down_there = e1.down_there }
-  pub same : e1.splitter ≡ s
-  pub never : GoesWell result
-
--- ends that are the same have the same splitter, and hold the same
-pub same-splitter : {P : Type 0} {g : Ghosts P} (a b : PairEnds P g) → a ≡ b → a.splitter ≡ b.splitter
-same-splitter {P} {g} a b same = ap (λ (x : PairEnds P g). x.splitter) same
-
-pub same-held : {P : Type 0} {g : Ghosts P} (a b : PairEnds P g) → a ≡ b → pair_ends_of a ≡ pair_ends_of b
-same-held a b same = ap pair_ends_of same
-
-pub told-follows : {P : Type 0} {g : Ghosts P} (result : Result (Unit {0}) Stop) (start : PairStarted) (up0 down0 up down up1 down1 : Pipe)
-    (e : held.PairEnds) (s : Frames) (e1 : PairEnds P g) (bytes : List ℕ) → Told result up down up1 down1 e s e1 bytes
-    → e.down_there ≤ length (waiting down) → IsWell (pair_since up0 down0 up down)
-    → ((there : ℕ) → down1.sent ≡ down.sent ++ bytes → there ≡ e.down_there + length bytes
-    → FollowsPair start up0 down0 up1 down1 s.whole (record e { down_there = there }))
-    → OnOk result (FollowsPairWith start up0 down0 up1 down1 e1) × PairStopFolds result (pair_since up0 down0 up1 down1)
-told-follows (Ok u) start up0 down0 up down up1 down1 e s e1 bytes t waits well goes =
-    let all : FollowsPair start up0 down0 up1 down1 e1.splitter.whole (pair_ends_of e1) =
-    subst (λ (x : Frames). FollowsPair start up0 down0 up1 down1 x.whole (pair_ends_of e1)) (sym t.same)
-    (subst (λ x. FollowsPair start up0 down0 up1 down1 s.whole x) (sym t.ends) (goes e1.down_there t.down_is (t.count waits))) in
-    (all, follows-good start up0 down0 up1 down1 e1.splitter.whole (pair_ends_of e1) all)
-told-follows (Err stop) start up0 down0 up down up1 down1 e s e1 bytes t waits well goes = (
+pub told-follows : (result : Result (Unit {0}) Stop) (start : PairStarted) (up0 down0 up down up1 down1 : Pipe) (s s1 : LinkEnds)
+    (e : held.PairEnds) (bytes : List ℕ) → SentDown result up down up1 down1 s s1 bytes
+    → s.down_there ≤ length (waiting down) → IsWell (pair_since up0 down0 up down)
+    → ((there : ℕ) → down1.sent ≡ down.sent ++ bytes → there ≡ s.down_there + length bytes
+    → FollowsPair start up0 down0 up1 down1 s.splitter.whole (record (with_ends s e) { down_there = there }))
+    → OnOk result (FollowsPair start up0 down0 up1 down1 s1.splitter.whole (with_ends s1 e))
+    × PairStopFolds result (pair_since up0 down0 up1 down1)
+told-follows (Ok u) start up0 down0 up down up1 down1 s s1 e bytes c waits well goes =
+    let all : FollowsPair start up0 down0 up1 down1 s1.splitter.whole (with_ends s1 e) =
+    sent-down (Ok u) up down up1 down1 s s1 bytes c
+    (λ u1 d1 x. FollowsPair start up0 down0 u1 d1 x.splitter.whole (with_ends x e)) waits (λ there sent given left. goes there sent left) in
+    (all, follows-good start up0 down0 up1 down1 s1.splitter.whole (with_ends s1 e) all)
+told-follows (Err stop) start up0 down0 up down up1 down1 s s1 e bytes c waits well goes = (
   tt,
-  stop-folds stop (pair_since up0 down0 up1 down1) t.never
-      (subst (λ u. IsWell (pair_since up0 down0 u down1)) (sym t.up_is)
-      (subst (λ d. IsWell (pair_since up0 down0 up d)) (sym t.unsent) well)),
+  stop-folds stop (pair_since up0 down0 up1 down1) c.never
+      (unsent-down stop up down up1 down1 s s1 bytes c (λ u1 d1. IsWell (pair_since up0 down0 u1 d1)) well),
 )
 
 -- with each frame answered
-pub whole-follows : {P : Type 0} {g : Ghosts P} (result : Result (Unit {0}) Stop) (start : PairStarted) (up0 down0 up down : Pipe)
-    (e : PairEnds P g) (passed : PairPassed) → e.splitter.whole ≡ []
-    → OnOk result (FollowsPairWith start up0 down0 up down e) × PairStopFolds result passed
-    → OnOk result (FollowsPairRun start up0 down0 up down e) × PairStopFolds result passed
-whole-follows (Ok u) start up0 down0 up down e passed none both = (record { so_far = both.0; none_whole = none }, both.1)
-whole-follows (Err stop) start up0 down0 up down e passed none both = (tt, both.1)
+pub whole-follows : (result : Result (Unit {0}) Stop) (start : PairStarted) (up0 down0 up down : Pipe) (s : LinkEnds) (e : held.PairEnds)
+    (passed : PairPassed) → s.splitter.whole ≡ []
+    → OnOk result (FollowsPair start up0 down0 up down s.splitter.whole (with_ends s e)) × PairStopFolds result passed
+    → OnOk result (RunWith start up0 down0 up down s e) × PairStopFolds result passed
+whole-follows (Ok u) start up0 down0 up down s e passed none both = (record { so_far = both.0; none_whole = none }, both.1)
+whole-follows (Err stop) start up0 down0 up down s e passed none both = (tt, both.1)
 
 -- ---- bytes come up
 
 -- they were cut into frames
-pub given-follows : (start : PairStarted) (up0 down0 up down up1 down1 : Pipe) (e : held.PairEnds) (s s1 : Frames) (piece bytes : List ℕ)
+given-follows : (start : PairStarted) (up0 down0 up down up1 down1 : Pipe) (e : held.PairEnds) (s s1 : Frames) (piece : List ℕ)
     (there : ℕ)
-    → FollowsPair start up0 down0 up down s.whole (record e { back_rest = s.rest }) → there + length bytes ≡ e.up_there
-    → (up1.sent ≡ up.sent) × (up1.given ≡ up.given ++ bytes) → down1 ≡ down
-    → piece ≡ bytes → s1 ≡ continued s piece
+    → FollowsPair start up0 down0 up down s.whole (record e { back_rest = s.rest }) → there + length piece ≡ e.up_there
+    → up1.sent ≡ up.sent → up1.given ≡ up.given ++ piece → down1 ≡ down → s1 ≡ continued s piece
     → FollowsPair start up0 down0 up1 down1 s1.whole (record e { back_rest = s1.rest; up_there = there })
-given-follows start up0 down0 up down up1 down1 e s s1 piece bytes there f left moved same_down same_bytes cut =
-    let all : FollowsPair start up0 down0 up1 down (continued s bytes).whole
-    (record e { back_rest = (continued s bytes).rest; up_there = there }) =
-    follows-given_up start up0 down0 up down up1 s.whole (record e { back_rest = s.rest }) bytes
-    (held_after s.rest bytes) there f left moved.0 moved.1 refl in
-    let now : continued s bytes ≡ s1 = sym (cut ∙ ap (continued s) same_bytes) in
+given-follows start up0 down0 up down up1 down1 e s s1 piece there f left sent given same_down cut =
+    let all : FollowsPair start up0 down0 up1 down (continued s piece).whole
+    (record e { back_rest = (continued s piece).rest; up_there = there }) =
+    follows-given_up start up0 down0 up down up1 s.whole (record e { back_rest = s.rest }) piece
+    (held_after s.rest piece) there f left sent given refl in
     subst (λ pipe. FollowsPair start up0 down0 up1 pipe s1.whole (record e { back_rest = s1.rest; up_there = there })) (sym same_down)
-    (subst (λ (x : Frames). FollowsPair start up0 down0 up1 down x.whole (record e { back_rest = x.rest; up_there = there })) now all)
+    (subst (λ (x : Frames). FollowsPair start up0 down0 up1 down x.whole (record e { back_rest = x.rest; up_there = there })) (sym cut) all)
+
+-- as `take_up` says
+pub took-follows : (start : PairStarted) (up0 down0 : Pipe) (n : ℕ) (old new : Moment LinkEnds) (e : held.PairEnds) → TookUp n old new
+    → new.down ≡ old.down → FollowsPair start up0 down0 old.up old.down old.ends.splitter.whole (with_ends old.ends e)
+    → FollowsPair start up0 down0 new.up new.down new.ends.splitter.whole (with_ends new.ends e)
+took-follows start up0 down0 n old new e took same_down f =
+    subst (λ there. FollowsPair start up0 down0 new.up new.down new.ends.splitter.whole (record (with_ends new.ends e) {
+      down_there = there;
+    }))
+    (sym took.down_there)
+    (given-follows start up0 down0 old.up old.down new.up new.down (with_ends old.ends e) old.ends.splitter new.ends.splitter took.piece
+    new.ends.up_there f took.count took.sent took.given same_down took.cut)
 
 -- ---- steps of the back end
 
@@ -382,11 +349,25 @@ delivered-follows start up0 down0 up down up1 down1 waiting e piece bytes there 
     subst (λ pipe. FollowsPair start up0 down0 pipe down1 waiting (record e { fronts = fronts; down_there = there })) (sym same_up)
     (subst (λ s. FollowsPair start up0 down0 up down1 waiting (record e { fronts = s; down_there = there })) (sym now) all)
 
+-- as `take_down` says
+pub got-follows : (start : PairStarted) (up0 down0 up down up1 down1 : Pipe) (s s1 : LinkEnds) (e : held.PairEnds)
+    (piece bytes : List ℕ) (fronts : FrontsState)
+    → RunWith start up0 down0 up down s e → s1 ≡ record s { down_there = s1.down_there } → s1.down_there + length bytes ≡ s.down_there
+    → (down1.sent ≡ down.sent) × (down1.given ≡ down.given ++ bytes) → up1 ≡ up
+    → piece ≡ bytes → fronts ≡ after_taken e.fronts piece → fronts.fault ≡ None
+    → RunWith start up0 down0 up1 down1 s1 (record e { fronts = fronts })
+got-follows start up0 down0 up down up1 down1 s s1 e piece bytes fronts run ends left moved same_up same_bytes fronts_is good =
+    subst (λ x. RunWith start up0 down0 up1 down1 x (record e { fronts = fronts })) (sym ends) (record {
+      so_far = delivered-follows start up0 down0 up down up1 down1 s.splitter.whole (with_ends s e) piece bytes s1.down_there fronts
+          run.so_far left moved same_up same_bytes fronts_is good;
+      none_whole = run.none_whole;
+    })
+
 -- as many bytes came down as were there at most
 less-down : (start : PairStarted) (up0 down0 up down down1 : Pipe) (waiting : List (List ℕ)) (e : held.PairEnds) (bytes : List ℕ)
     → FollowsPair start up0 down0 up down waiting e → length bytes ≤ e.down_there
     → down1.sent ≡ down.sent → down1.given ≡ down.given ++ bytes
-    → PairGivesNoMore (pair_since up0 down0 up down1)
+    → GivesNoMore (pair_since up0 down0 up down1)
 less-down start up0 down0 up down down1 waiting e bytes f most same given_is =
     let sent : length (sent_since down0 down1) ≡ length f.sent_down = ap (λ all. length (drop (length down0.sent) all))
     (same ∙ f.down_is.sent_is) ∙ ap length (drop-append_seam down0.sent f.sent_down) in
@@ -403,13 +384,13 @@ pub refused-folds : (start : PairStarted) (up0 down0 up down up1 down1 : Pipe) (
     → FollowsPair start up0 down0 up down waiting e → length bytes ≤ e.down_there
     → (down1.sent ≡ down.sent) × (down1.given ≡ down.given ++ bytes) → up1 ≡ up
     → piece ≡ bytes → fronts ≡ after_taken e.fronts piece → fronts.fault ≡ Some fault
-    → ((pair_since up0 down0 up1 down1).fold ≡ Err fault) × PairGivesNoMore (pair_since up0 down0 up1 down1)
+    → ((pair_since up0 down0 up1 down1).fold ≡ Err fault) × GivesNoMore (pair_since up0 down0 up1 down1)
 refused-folds start up0 down0 up down up1 down1 waiting e piece bytes fronts fault f most moved same_up same_bytes fronts_is bad =
     let now : fronts ≡ after_taken e.fronts bytes = fronts_is ∙ ap (after_taken e.fronts) same_bytes in (
       ap (λ pipe. (pair_since up0 down0 pipe down1).fold) same_up
           ∙ follows-refused start up0 down0 up down down1 waiting e bytes fault f moved.0 moved.1
           (sym (ap (λ (s : FrontsState). s.fault) now) ∙ bad),
-      subst (λ pipe. PairGivesNoMore (pair_since up0 down0 pipe down1)) (sym same_up)
+      subst (λ pipe. GivesNoMore (pair_since up0 down0 pipe down1)) (sym same_up)
           (less-down start up0 down0 up down down1 waiting e bytes f most moved.0 moved.1),
     )
 
@@ -417,28 +398,25 @@ refused-folds start up0 down0 up down up1 down1 waiting e piece bytes fronts fau
 
 -- the next frame is answered, before those that the splitter holds
 pub follow_turn : {P : Type 0} {g : Ghosts P} {T : Type 0} (result : Result T Stop) (start : PairStarted)
-    (up0 down0 up down up1 down1 : Pipe) (e e1 : PairEnds P g)
-    (s : Frames)
-    (frame : List ℕ)
-    → FollowsPairWith start up0 down0 up down e → e.splitter.whole ≡ frame ∷ s.whole → s.rest ≡ e.splitter.rest
-    → KeepsPairAnswer frame (moment (Unit {0}) up down (record e { splitter = s })) (moment (Unit {0}) up1 down1 e1) result
+    (up0 down0 up down up1 down1 : Pipe) (e e1 : TwoFronts P g) (s : LinkEnds) (frame : List ℕ)
+    → FollowsPairWith start up0 down0 up down e → e.ends.splitter.whole ≡ frame ∷ s.splitter.whole
+    → s.splitter.rest ≡ e.ends.splitter.rest → s ≡ record e.ends { splitter = s.splitter }
+    → KeepsPairAnswer frame (moment (Unit {0}) up down (record e { ends = s })) (moment (Unit {0}) up1 down1 e1) result
     → OnOk result (FollowsPairWith start up0 down0 up1 down1 e1) × PairStopFolds result (pair_since up0 down0 up1 down1)
-follow_turn result start up0 down0 up down up1 down1 e e1 s frame f whole rest answers =
+follow_turn result start up0 down0 up down up1 down1 e e1 s frame f whole rest ends answers =
     answers start up0 down0
-    (subst (λ r. FollowsPair start up0 down0 up down (frame ∷ s.whole) (record (pair_ends_of e) { back_rest = r })) (sym rest)
-    (subst (λ frames. FollowsPair start up0 down0 up down frames (pair_ends_of e)) whole f))
+    (subst (λ x. FollowsPair start up0 down0 up down (frame ∷ s.splitter.whole) (with_ends x (pair_ends_of e))) (sym ends)
+    (subst (λ r. FollowsPair start up0 down0 up down (frame ∷ s.splitter.whole) (record (pair_ends_of e) { back_rest = r })) (sym rest)
+    (subst (λ frames. FollowsPair start up0 down0 up down frames (pair_ends_of e)) whole f)))
 
 -- no frame is left
-pub follow_end : {P : Type 0} {g : Ghosts P} (start : PairStarted) (up0 down0 up down : Pipe) (e e1 : PairEnds P g)
-    → FollowsPairWith start up0 down0 up down e
-    → e1.splitter ≡ e.splitter → e1.splitter.whole ≡ []
-    → ((rest : List ℕ) → record (pair_ends_of e) { back_rest = rest } ≡ record (pair_ends_of e1) { back_rest = rest })
-    → FollowsPairRun start up0 down0 up down e1 × IsWell (pair_since up0 down0 up down)
-follow_end start up0 down0 up down e e1 f same none ends = (
+pub follow_end : {P : Type 0} {g : Ghosts P} (start : PairStarted) (up0 down0 up down : Pipe) (e : TwoFronts P g) (s : LinkEnds)
+    → FollowsPairWith start up0 down0 up down e → s ≡ e.ends → s.splitter.whole ≡ []
+    → FollowsPairRun start up0 down0 up down (record e { ends = s }) × IsWell (pair_since up0 down0 up down)
+follow_end start up0 down0 up down e s f same none = (
   record {
-    so_far = subst (FollowsPair start up0 down0 up down e1.splitter.whole) (ends e1.splitter.rest)
-        (subst (λ (x : Frames). FollowsPair start up0 down0 up down x.whole (record (pair_ends_of e) { back_rest = x.rest })) (sym same) f);
+    so_far = subst (λ x. FollowsPair start up0 down0 up down x.splitter.whole (with_ends x (pair_ends_of e))) (sym same) f;
     none_whole = none;
   },
-  follows-good start up0 down0 up down e.splitter.whole (pair_ends_of e) f,
+  follows-good start up0 down0 up down e.ends.splitter.whole (pair_ends_of e) f,
 )

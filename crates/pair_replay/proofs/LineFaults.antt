@@ -26,7 +26,7 @@ use Rattle.replay_parts.specs.Moments.{Moment}
 use Rattle.replay_parts.specs.Says.{says_of}
 use Rattle.replay_parts.specs.Stops.{HasStopCause}
 use Rattle.replay_parts.specs.Answers.{RunTells}
-use Rattle.pair_replay.specs.declared.ends.PairEnds.{PairEnds}
+use Rattle.pair_replay.specs.declared.two_fronts.TwoFronts.{TwoFronts}
 use Rattle.pair_replay.specs.PairStarts.{line_on}
 use Rattle.pair_replay.specs.PairAnswers.{pair_since, moment_of}
 use Rattle.pair_replay.specs.Judged.{fault_at}
@@ -90,7 +90,7 @@ came-by true fold panels ask = refl
 
 -- ---- a line that is judged at the last moment
 
-module _ {P : Type 0} {g : Ghosts P} (start : PairStarted) (up0 down0 up down : Pipe) (e : PairEnds P g)
+module _ {P : Type 0} {g : Ghosts P} (start : PairStarted) (up0 down0 up down : Pipe) (e : TwoFronts P g)
     (run : FollowsPairRun start up0 down0 up down e) where
   -- a show of a front end that shows no matched styles
   pub link-show : (second : Bool) (form : LineForm) (panels : List (Option PanelKind)) → panel_fault panels form ≡ None
@@ -140,7 +140,7 @@ module _ {P : Type 0} {g : Ghosts P} (start : PairStarted) (up0 down0 up down : 
 
 -- A call after which nothing more goes over the link: the line is judged by what came.
 pub judged-after : {P : Type 0} {g : Ghosts P} {T : Type 0} (result : Result T Stop) (number : ℕ) (form : PairForm)
-    (old mid : Moment (PairEnds P g))
+    (old mid : Moment (TwoFronts P g))
     → ((start : PairStarted) (up0 down0 : Pipe) → FollowsPairRun (one_pair_line_more start) up0 down0 old.up old.down old.ends
     → FollowsPairRun start up0 down0 mid.up mid.down mid.ends)
     → ((start : PairStarted) (up0 down0 : Pipe) → FollowsPairRun start up0 down0 mid.up mid.down mid.ends
@@ -163,7 +163,7 @@ judged-after result number form old mid keeps tells = λ start up0 down0 run.
 
 -- the same of a call that makes no step of the script
 pub tells-now : {P : Type 0} {g : Ghosts P} {T U : Type 0} (value : U) (result : Result T Stop) (number : ℕ) (form : PairForm)
-    (old mid : Moment (PairEnds P g))
+    (old mid : Moment (TwoFronts P g))
     → KeepsPair {T = U} old mid (Ok value)
     → ((start : PairStarted) (up0 down0 : Pipe) → FollowsPairRun start up0 down0 mid.up mid.down mid.ends
     → RunTells result (numbered_or number (fault_at (moment_of up0 down0 mid.up mid.down) start.panels form) None))
@@ -173,7 +173,7 @@ tells-now value result number form old mid keeps tells =
     (λ start up0 down0 run. (keeps start up0 down0 (run-fewer start up0 down0 old.up old.down old.ends run)).0) tells
 
 -- a line that was judged good at a moment amid it
-pub tells-amid : {P : Type 0} {g : Ghosts P} (number : ℕ) (form : PairForm) (old mid new : Moment (PairEnds P g))
+pub tells-amid : {P : Type 0} {g : Ghosts P} (number : ℕ) (form : PairForm) (old mid new : Moment (TwoFronts P g))
     → KeepsPair {T = Unit {0}} old mid (Ok tt) → KeepsPair {T = Unit {0}} mid new (Ok tt)
     → ((start : PairStarted) (up0 down0 : Pipe) → FollowsPairRun start up0 down0 mid.up mid.down mid.ends
     → fault_at (moment_of up0 down0 mid.up mid.down) start.panels form ≡ None)
@@ -197,7 +197,7 @@ tells-amid number form old mid new first then good = λ start up0 down0 run.
 
 -- a call that says nothing of lines, on one that lacks nothing
 pub call-tells : {P : Type 0} {g : Ghosts P} (result : Result (Unit {0}) Stop) (number : ℕ) (form : PairForm)
-    (old new : Moment (PairEnds P g))
+    (old new : Moment (TwoFronts P g))
     (sink0 sink1 link0 link1 : ℕ)
     → ((m : LinkMoment) (panels : List (Option PanelKind)) → fault_at m panels form ≡ None) → HasStopCause sink0 sink1 link0 link1 result
     → ((start : PairStarted) (up0 down0 : Pipe) → FollowsPairRun (one_pair_line_more start) up0 down0 old.up old.down old.ends
@@ -213,7 +213,7 @@ call-tells (Err stop) number form old new sink0 sink1 link0 link1 good cause kee
     cause
 
 -- a stop amid a run says nothing of lines
-pub tells-not : {P : Type 0} {g : Ghosts P} (stop : Stop) (number : ℕ) (form : PairForm) (old mid : Moment (PairEnds P g))
+pub tells-not : {P : Type 0} {g : Ghosts P} (stop : Stop) (number : ℕ) (form : PairForm) (old mid : Moment (TwoFronts P g))
     (sink0 sink1 link0 link1 : ℕ)
     → HasStopCause {T = Unit {0}} sink0 sink1 link0 link1 (Err stop)
     → PairLineTells {T = Unit {0}} (numbered_pair number form) old mid (Err stop)

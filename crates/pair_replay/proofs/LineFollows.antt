@@ -21,7 +21,7 @@ use Rattle.replay_parts.specs.declared.stop.Stop.TheVariants.{Line}
 use Rattle.replay_parts.specs.Moments.{Moment}
 use Rattle.replay_parts.specs.Stops.{HasStopCause, GoesWell}
 use Rattle.replay_parts.specs.Answers.{RunTells}
-use Rattle.pair_replay.specs.declared.ends.PairEnds.{PairEnds}
+use Rattle.pair_replay.specs.declared.two_fronts.TwoFronts.{TwoFronts}
 use Rattle.pair_replay.specs.PairStarts.{line_on}
 use Rattle.pair_replay.specs.PairAnswers.{moment_of}
 use Rattle.pair_replay.specs.Judged.{fault_at}
@@ -39,7 +39,7 @@ passing-on false form start keeps = ap (λ ps. record start { panels = ps }) (ke
 passing-on true form start keeps = refl
 
 -- it passes, where what it keeps leaves all panels
-pub keeps-passes : {P : Type 0} {g : Ghosts P} (result : Result (Unit {0}) Stop) (form : PairForm) (old new : Moment (PairEnds P g))
+pub keeps-passes : {P : Type 0} {g : Ghosts P} (result : Result (Unit {0}) Stop) (form : PairForm) (old new : Moment (TwoFronts P g))
     → ((start : PairStarted) → pair_passing form start ≡ start)
     → KeepsPair old new result → PairLinePasses form old new result
 keeps-passes result form old new still keeps = λ start up0 down0 run.
@@ -47,7 +47,7 @@ keeps-passes result form old new still keeps = λ start up0 down0 run.
     (subst (λ s. OnOk result (FollowsPairRun s up0 down0 new.up new.down new.ends)) (sym (still start)) all.0, all.1)
 
 -- a settle that came through, after which nothing went over the link
-pub settled-passes : {P : Type 0} {g : Ghosts P} (result : Result (Unit {0}) Stop) (form : PairForm) (old mid : Moment (PairEnds P g))
+pub settled-passes : {P : Type 0} {g : Ghosts P} (result : Result (Unit {0}) Stop) (form : PairForm) (old mid : Moment (TwoFronts P g))
     → ((start : PairStarted) → pair_passing form start ≡ start) → GoesWell result
     → KeepsPair {T = Unit {0}} old mid (Ok tt) → PairLinePasses form old mid result
 settled-passes result form old mid still well keeps =
@@ -55,7 +55,7 @@ settled-passes result form old mid still well keeps =
     (λ start up0 down0 run. kept-run start up0 down0 mid.up mid.down mid.ends (keeps start up0 down0 run).0 result well)
 
 -- the same where something was told then
-pub told-passes : {P : Type 0} {g : Ghosts P} (form : PairForm) (old mid new : Moment (PairEnds P g))
+pub told-passes : {P : Type 0} {g : Ghosts P} (form : PairForm) (old mid new : Moment (TwoFronts P g))
     → ((start : PairStarted) → pair_passing form start ≡ start)
     → ((start : PairStarted) (up0 down0 : Pipe) → FollowsPairRun start up0 down0 mid.up mid.down mid.ends
     → FollowsPairRun start up0 down0 new.up new.down new.ends)
@@ -69,7 +69,7 @@ told-passes form old mid new still told keeps =
 -- ---- how it is judged
 
 -- a show of a front end that does not stand
-pub none-tells : {P : Type 0} {g : Ghosts P} (second : Bool) (form : LineForm) (stop : Stop) (number : ℕ) (old mid : Moment (PairEnds P g))
+pub none-tells : {P : Type 0} {g : Ghosts P} (second : Bool) (form : LineForm) (stop : Stop) (number : ℕ) (old mid : Moment (TwoFronts P g))
     → ((panels : List (Option PanelKind)) → panel_fault panels form ≡ None) → stop ≡ Line number BadSession
     → is_there second mid.ends.fronts.pair ≡ false
     → KeepsPair {T = Unit {0}} old mid (Ok tt)
@@ -84,7 +84,7 @@ none-tells second form stop number old mid keeps is none follows =
 
 -- one that shows no matched styles, of a front end that stands
 pub show-tells : {P : Type 0} {g : Ghosts P} (second : Bool) (form : LineForm) (result : Result (Unit {0}) Stop) (number : ℕ)
-    (old mid : Moment (PairEnds P g)) (sink0 sink1 link0 link1 : ℕ)
+    (old mid : Moment (TwoFronts P g)) (sink0 sink1 link0 link1 : ℕ)
     → ((panels : List (Option PanelKind)) → panel_fault panels form ≡ None) → ((came : ℕ → Bool) → styles_fault came form ≡ None)
     → HasStopCause sink0 sink1 link0 link1 result → is_there second mid.ends.fronts.pair ≡ true
     → KeepsPair {T = Unit {0}} old mid (Ok tt) → PairLineTells (numbered_pair number (line_on second form)) old mid result
@@ -99,7 +99,7 @@ show-tells second form result number old mid sink0 sink1 link0 link1 keeps plain
 -- one that shows matched styles
 pub styles-tell : {P : Type 0} {g : Ghosts P} (second : Bool) (ask : ℕ) (found : Option Matched) (result : Result (Unit {0}) Stop)
     (number : ℕ)
-    (old mid : Moment (PairEnds P g))
+    (old mid : Moment (TwoFronts P g))
     → RunTells result (numbered_or number (styles_missing (is_some found)) None) → is_there second mid.ends.fronts.pair ≡ true
     → found ≡ matched_in ask (front_meant second mid.ends.fronts.pair).value.matched
     → KeepsPair {T = Unit {0}} old mid (Ok tt) → PairLineTells (numbered_pair number (line_on second (show_styles ask))) old mid result
@@ -113,18 +113,18 @@ styles-tell second ask found result number old mid tells there is follows =
 -- ---- calls, one after the other
 
 -- a call, and then another
-pub keeps-then : {P : Type 0} {g : Ghosts P} {T U : Type 0} (value : U) (result : Result T Stop) (old mid new : Moment (PairEnds P g))
+pub keeps-then : {P : Type 0} {g : Ghosts P} {T U : Type 0} (value : U) (result : Result T Stop) (old mid new : Moment (TwoFronts P g))
     → KeepsPair {T = U} old mid (Ok value) → KeepsPair mid new result → KeepsPair old new result
 keeps-then value result old mid new first then = λ start up0 down0 run. then start up0 down0 (first start up0 down0 run).0
 
 -- nothing was done
-pub keeps-still : {P : Type 0} {g : Ghosts P} (old : Moment (PairEnds P g)) → KeepsPair {T = Unit {0}} old old (Ok tt)
+pub keeps-still : {P : Type 0} {g : Ghosts P} (old : Moment (TwoFronts P g)) → KeepsPair {T = Unit {0}} old old (Ok tt)
 keeps-still old = λ start up0 down0 run. (run, run-well start up0 down0 old.up old.down old.ends run)
 
 -- ---- attaches and detaches
 
 -- which session stands, over every link
-attach-fault : {P : Type 0} {g : Ghosts P} (start : PairStarted) (up0 down0 up down : Pipe) (e : PairEnds P g)
+attach-fault : {P : Type 0} {g : Ghosts P} (start : PairStarted) (up0 down0 up down : Pipe) (e : TwoFronts P g)
     (panels : List (Option PanelKind))
     → FollowsPairRun start up0 down0 up down e
     → fault_at (moment_of up0 down0 up down) panels attach_session
@@ -132,7 +132,7 @@ attach-fault : {P : Type 0} {g : Ghosts P} (start : PairStarted) (up0 down0 up d
 attach-fault start up0 down0 up down e panels run =
     ap (λ b. first_of (cond b (Some BadSession) None) None) (link-session start up0 down0 up down e run panels)
 
-detach-fault : {P : Type 0} {g : Ghosts P} (start : PairStarted) (up0 down0 up down : Pipe) (e : PairEnds P g)
+detach-fault : {P : Type 0} {g : Ghosts P} (start : PairStarted) (up0 down0 up down : Pipe) (e : TwoFronts P g)
     (panels : List (Option PanelKind))
     → FollowsPairRun start up0 down0 up down e
     → fault_at (moment_of up0 down0 up down) panels detach_session
@@ -140,7 +140,7 @@ detach-fault : {P : Type 0} {g : Ghosts P} (start : PairStarted) (up0 down0 up d
 detach-fault start up0 down0 up down e panels run =
     ap (λ b. first_of (cond b None (Some BadSession)) None) (link-session start up0 down0 up down e run panels)
 
-second-ask-fault : {P : Type 0} {g : Ghosts P} (start : PairStarted) (up0 down0 up down : Pipe) (e : PairEnds P g) (a : AskForm)
+second-ask-fault : {P : Type 0} {g : Ghosts P} (start : PairStarted) (up0 down0 up down : Pipe) (e : TwoFronts P g) (a : AskForm)
     (panels : List (Option PanelKind))
     → FollowsPairRun start up0 down0 up down e
     → fault_at (moment_of up0 down0 up down) panels (of_second (forms.ask a))
@@ -149,7 +149,7 @@ second-ask-fault start up0 down0 up down e a panels run =
     ap (λ b. first_of (cond b None (Some BadSession)) None) (link-session start up0 down0 up down e run panels)
 
 -- a line that is refused for its session, at the last moment
-module _ {P : Type 0} {g : Ghosts P} (stop : Stop) (number : ℕ) (old mid : Moment (PairEnds P g)) (is : stop ≡ Line number BadSession)
+module _ {P : Type 0} {g : Ghosts P} (stop : Stop) (number : ℕ) (old mid : Moment (TwoFronts P g)) (is : stop ≡ Line number BadSession)
     (follows : KeepsPair {T = Unit {0}} old mid (Ok tt)) where
   refused-tells : (form : PairForm)
       → ((start : PairStarted) (up0 down0 : Pipe) → FollowsPairRun start up0 down0 mid.up mid.down mid.ends
@@ -187,7 +187,7 @@ module _ {P : Type 0} {g : Ghosts P} (stop : Stop) (number : ℕ) (old mid : Mom
       ∙ ap (λ b. first_of (cond b None (Some BadSession)) None) there)
 
 -- one that is carried out
-module _ {P : Type 0} {g : Ghosts P} (number : ℕ) (old mid new : Moment (PairEnds P g)) (first : KeepsPair {T = Unit {0}} old mid (Ok tt))
+module _ {P : Type 0} {g : Ghosts P} (number : ℕ) (old mid new : Moment (TwoFronts P g)) (first : KeepsPair {T = Unit {0}} old mid (Ok tt))
     (then : KeepsPair {T = Unit {0}} mid new (Ok tt)) where
   pub attach-tells : is_there true mid.ends.fronts.pair ≡ false
       → PairLineTells {T = Unit {0}} (numbered_pair number attach_session) old new (Ok tt)
@@ -214,7 +214,7 @@ module _ {P : Type 0} {g : Ghosts P} (number : ℕ) (old mid new : Moment (PairE
       ∙ ap (λ b. first_of (cond b None (Some BadSession)) None) there)
 
 -- an ask of a second front end that stands, however it came through
-pub ask-judged : {P : Type 0} {g : Ghosts P} (result : Result (Unit {0}) Stop) (number : ℕ) (old new : Moment (PairEnds P g))
+pub ask-judged : {P : Type 0} {g : Ghosts P} (result : Result (Unit {0}) Stop) (number : ℕ) (old new : Moment (TwoFronts P g))
     (sink0 sink1 link0 link1 : ℕ) (a : AskForm) → HasStopCause sink0 sink1 link0 link1 result → KeepsPair old new result
     → is_there true old.ends.fronts.pair ≡ true → PairLineTells (numbered_pair number (of_second (forms.ask a))) old new result
 ask-judged (Ok value) number old new sink0 sink1 link0 link1 a cause keeps there =
@@ -223,7 +223,7 @@ ask-judged (Err stop) number old new sink0 sink1 link0 link1 a cause keeps there
     tells-not stop number (of_second (forms.ask a)) old new sink0 sink1 link0 link1 cause
 
 -- a detach that was sent, however the settle after it came through
-pub detach-judged : {P : Type 0} {g : Ghosts P} (result : Result (Unit {0}) Stop) (number : ℕ) (old mid mid2 new : Moment (PairEnds P g))
+pub detach-judged : {P : Type 0} {g : Ghosts P} (result : Result (Unit {0}) Stop) (number : ℕ) (old mid mid2 new : Moment (TwoFronts P g))
     (sink0 sink1 link0 link1 : ℕ) → HasStopCause sink0 sink1 link0 link1 result → KeepsPair {T = Unit {0}} old mid (Ok tt)
     → KeepsPair {T = Unit {0}} mid mid2 (Ok tt) → KeepsPair mid2 new result
     → is_there true mid.ends.fronts.pair ≡ true → PairLineTells (numbered_pair number detach_session) old new result

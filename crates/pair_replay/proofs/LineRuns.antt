@@ -42,7 +42,7 @@ use Rattle.replay_parts.specs.declared.stop.Stop.TheVariants.{Line}
 use Rattle.replay_parts.specs.Moments.{Moment, scene}
 use Rattle.replay_parts.specs.Stops.{HasStopCause, GoesWell}
 use Rattle.replay_parts.specs.Answers.{RunTells}
-use Rattle.pair_replay.specs.declared.ends.PairEnds.{PairEnds}
+use Rattle.pair_replay.specs.declared.two_fronts.TwoFronts.{TwoFronts}
 use Rattle.pair_replay.specs.Tellings.{told_seen}
 use Rattle.pair_replay.specs.PairStarts.{told_held, line_on}
 use Rattle.pair_replay.specs.PairAnswers.{PairRunTook, RoomTold}
@@ -91,18 +91,19 @@ world-told mode up0 down0 up down w frames e told panels world =
       second_told = refl;
     }
 
-pub run-told-so : {P : Type 0} {g : Ghosts P} (mode : Mode) (honest : Type 0) (up0 down0 up down : Pipe) (w : PairRun) (e e1 : PairEnds P g)
+pub run-told-so : {P : Type 0} {g : Ghosts P} (mode : Mode) (honest : Type 0) (up0 down0 up down : Pipe) (w : PairRun)
+    (e e1 : TwoFronts P g)
     (told : PairAudience)
     → told.panels ≡ w.told.panels → pair_ends_of e1 ≡ record (pair_ends_of e) { first_told = told.first; second_told = told.second }
-    → e1.splitter ≡ e.splitter → InPairRun mode honest up0 down0 up down w e
+    → e1.ends.splitter ≡ e.ends.splitter → InPairRun mode honest up0 down0 up down w e
     → InPairRun mode honest up0 down0 up down (pair_telling told w) e1
 run-told-so mode honest up0 down0 up down w e e1 told panels is same run = record {
   so_far = record {
     is_honest = run.so_far.is_honest;
     in_world = subst (λ (s : Frames). InPairWorld mode up0 down0 up down (pair_telling told w) (s.whole ++ awaited w.up) (pair_ends_of e1))
         (sym same)
-        (subst (λ h. InPairWorld mode up0 down0 up down (pair_telling told w) (e.splitter.whole ++ awaited w.up) h) (sym is)
-        (world-told mode up0 down0 up down w (e.splitter.whole ++ awaited w.up) (pair_ends_of e) told panels run.so_far.in_world));
+        (subst (λ h. InPairWorld mode up0 down0 up down (pair_telling told w) (e.ends.splitter.whole ++ awaited w.up) h) (sym is)
+        (world-told mode up0 down0 up down w (e.ends.splitter.whole ++ awaited w.up) (pair_ends_of e) told panels run.so_far.in_world));
   };
   none_whole = ap (λ (s : Frames). s.whole) same ∙ run.none_whole;
 }
@@ -110,7 +111,7 @@ run-told-so mode honest up0 down0 up down w e e1 told panels is same run = recor
 -- ---- a settle that came through
 
 -- the front ends are what the run's streams fold into
-pub run-front : {P : Type 0} {g : Ghosts P} (mode : Mode) (honest : Type 0) (up0 down0 up down : Pipe) (w : PairRun) (e : PairEnds P g)
+pub run-front : {P : Type 0} {g : Ghosts P} (mode : Mode) (honest : Type 0) (up0 down0 up down : Pipe) (w : PairRun) (e : TwoFronts P g)
     → (run : InPairRun mode honest up0 down0 up down w e)
     → front_in pair_replay no_fronts w ≡ Ok (pair_value run.so_far.in_world.fronts_are.asked e.fronts.pair)
 run-front mode honest up0 down0 up down w e run =
@@ -138,14 +139,14 @@ one-of w asked p true shown there = by p.two w.state.attached there shown.two wh
   by (Some v) (Some k) there two = two
 
 -- between two lines the second front end stands where a session is attached
-pub play-stands : {P : Type 0} {g : Ghosts P} (honest : Type 0) (up0 down0 up down : Pipe) (bytes : ℕ) (w v : PairRun) (e : PairEnds P g)
+pub play-stands : {P : Type 0} {g : Ghosts P} (honest : Type 0) (up0 down0 up down : Pipe) (bytes : ℕ) (w v : PairRun) (e : TwoFronts P g)
     → InPairPlay honest up0 down0 up down bytes w v e → is_there true e.fronts.pair ≡ is_some w.state.attached
 play-stands honest up0 down0 up down bytes w v e play =
     second-of e.fronts.pair.two v.state.attached play.in_run.so_far.in_world.session.1
     ∙ ap (λ (s : PageSessions). is_some s.attached) (sym play.both.runs.agrees.state)
 
 -- Both runs after a settle that came through; both front ends show what their clients see then.
-pub record Settled {P : Type 0} {g : Ghosts P} (honest : Type 0) (up0 down0 up down : Pipe) (bytes : ℕ) (w v : PairRun) (e : PairEnds P g)
+pub record Settled {P : Type 0} {g : Ghosts P} (honest : Type 0) (up0 down0 up down : Pipe) (bytes : ℕ) (w v : PairRun) (e : TwoFronts P g)
     : Type 0 where
   pub in_run : InPairRun calm honest up0 down0 up down (pair_telling w.told (pair_refreshes v)) e
   pub both : PairTogether IsPlainOfPair bytes (pair_settled w) (pair_refreshes v)
@@ -157,7 +158,7 @@ pub record Settled {P : Type 0} {g : Ghosts P} (honest : Type 0) (up0 down0 up d
   pub room : RefreshHasRoom v
 
 -- what holds then, whatever is left
-pub record SettledThen {P : Type 0} {g : Ghosts P} (honest : Type 0) (up0 down0 up down : Pipe) (w v : PairRun) (e : PairEnds P g)
+pub record SettledThen {P : Type 0} {g : Ghosts P} (honest : Type 0) (up0 down0 up down : Pipe) (w v : PairRun) (e : TwoFronts P g)
     : Type 0 where
   pub in_run : InPairRun calm honest up0 down0 up down (pair_telling w.told (pair_refreshes v)) e
   pub kept : (pair_settled w).state.attached ≡ w.state.attached
@@ -165,7 +166,7 @@ pub record SettledThen {P : Type 0} {g : Ghosts P} (honest : Type 0) (up0 down0 
   pub shown : (second : Bool) → is_there second e.fronts.pair ≡ true
       → OneShown second (pair_settled w) (front_meant second e.fronts.pair).value
 
-settle-then : {P : Type 0} {g : Ghosts P} (honest : Type 0) (up0 down0 up down : Pipe) (w v : PairRun) (e : PairEnds P g)
+settle-then : {P : Type 0} {g : Ghosts P} (honest : Type 0) (up0 down0 up down : Pipe) (w v : PairRun) (e : TwoFronts P g)
     → PairFits w → SettledRuns w v → InPairRun calm honest up0 down0 up down (pair_telling w.told (pair_refreshes v)) e
     → SettledThen honest up0 down0 up down w v e
 settle-then honest up0 down0 up down w v e fits made run =
@@ -183,7 +184,7 @@ settle-then honest up0 down0 up down w v e fits made run =
           (run-front calm honest up0 down0 up down (pair_telling w.told (pair_refreshes v)) e run)) there;
     }
 
-pub settle-made : {P : Type 0} {g : Ghosts P} (old new : Moment (PairEnds P g)) → PairSteps {T = Unit {0}} 0 old new (Ok tt) refreshing
+pub settle-made : {P : Type 0} {g : Ghosts P} (old new : Moment (TwoFronts P g)) → PairSteps {T = Unit {0}} 0 old new (Ok tt) refreshing
     → (up0 down0 : Pipe) (bytes : ℕ) (w v : PairRun) → InPairPlay old.honest up0 down0 old.up old.down (bytes + 1) w v old.ends
     → Settled new.honest up0 down0 new.up new.down bytes w v new.ends
 settle-made old new steps up0 down0 bytes w v play =
@@ -209,7 +210,7 @@ settle-made old new steps up0 down0 bytes w v play =
     }
 
 -- the last settle, after which no line comes
-pub settle-last : {P : Type 0} {g : Ghosts P} (old new : Moment (PairEnds P g)) → PairSteps {T = Unit {0}} 0 old new (Ok tt) refreshing
+pub settle-last : {P : Type 0} {g : Ghosts P} (old new : Moment (TwoFronts P g)) → PairSteps {T = Unit {0}} 0 old new (Ok tt) refreshing
     → (up0 down0 : Pipe) (w v : PairRun) → InPairPlay old.honest up0 down0 old.up old.down 0 w v old.ends
     → SettledThen new.honest up0 down0 new.up new.down w v new.ends × RefreshHasRoom v
 settle-last old new steps up0 down0 w v play =
@@ -222,7 +223,7 @@ settle-last old new steps up0 down0 w v play =
       room,
     )
 
-module _ {P : Type 0} {g : Ghosts P} (honest : Type 0) (up0 down0 up down : Pipe) (bytes : ℕ) (w v : PairRun) (e : PairEnds P g)
+module _ {P : Type 0} {g : Ghosts P} (honest : Type 0) (up0 down0 up down : Pipe) (bytes : ℕ) (w v : PairRun) (e : TwoFronts P g)
     (s : Settled honest up0 down0 up down bytes w v e) where
   -- as much was told of each front end as in the run
   pub settled-told : (second : Bool) → told_seen (told_held second e) ≡ told_on second w.told
@@ -247,8 +248,9 @@ module _ {P : Type 0} {g : Ghosts P} (honest : Type 0) (up0 down0 up down : Pipe
   }
 
   -- with something told
-  pub settled-telling : (more : ℕ) (told told1 : PairAudience) (e1 : PairEnds P g) → more ≤ bytes → told.panels ≡ w.told.panels
-      → pair_ends_of e1 ≡ record (pair_ends_of e) { first_told = told.first; second_told = told.second } → e1.splitter ≡ e.splitter
+  pub settled-telling : (more : ℕ) (told told1 : PairAudience) (e1 : TwoFronts P g) → more ≤ bytes → told.panels ≡ w.told.panels
+      → pair_ends_of e1 ≡ record (pair_ends_of e) { first_told = told.first; second_told = told.second } → e1.ends.splitter
+      ≡ e.ends.splitter
       → InPairPlay honest up0 down0 up down more (pair_telling told (pair_settled w)) (pair_telling told1 (pair_refreshes v)) e1
   settled-telling more told told1 e1 less panels is same = record {
     both = together-told more (pair_settled w) (pair_refreshes v) told told1 (settled-play more less).both;
@@ -377,7 +379,7 @@ show-settles second form show = record {
 }
 
 -- such a line, where the settle stops
-pub settle-stops : {P : Type 0} {g : Ghosts P} (stop : Stop) (old new : Moment (PairEnds P g)) (taken : Option (List ℕ)) (number : ℕ)
+pub settle-stops : {P : Type 0} {g : Ghosts P} (stop : Stop) (old new : Moment (TwoFronts P g)) (taken : Option (List ℕ)) (number : ℕ)
     (form : PairForm) (sink0 sink1 link0 link1 : ℕ) → SettlesFirst form
     → HasStopCause {T = Unit {0}} sink0 sink1 link0 link1 (Err stop) → PairSteps {T = Unit {0}} 0 old new (Err stop) refreshing
     → PairCarries {T = Unit {0}} (numbered_pair number form) (scene old taken) (scene new taken) (Err stop)
@@ -399,7 +401,8 @@ pub line-counts : (more : ℕ) → more + least_line ≡ more + 3 + 1
 line-counts more = omega arith
 
 -- a line that is refused prints nothing, once all has come
-pub line-refused : {P : Type 0} {g : Ghosts P} (fault : LineFault) (stop : Stop) (old mid : Moment (PairEnds P g)) (taken : Option (List ℕ))
+pub line-refused : {P : Type 0} {g : Ghosts P} (fault : LineFault) (stop : Stop) (old mid : Moment (TwoFronts P g))
+    (taken : Option (List ℕ))
     (number : ℕ) (form : PairForm)
     → stop ≡ Line number fault → pair_settles_first form ≡ true → PairSteps {T = Unit {0}} 0 old mid (Ok tt) refreshing
     → ((up0 down0 : Pipe) (bytes : ℕ) (w v : PairRun) → Settled mid.honest up0 down0 mid.up mid.down bytes w v mid.ends
@@ -419,7 +422,7 @@ line-refused fault stop old mid taken number form is first steps lacks =
     ))
 
 -- a show of a front end that does not stand
-pub show-refused : {P : Type 0} {g : Ghosts P} (second : Bool) (form : LineForm) (stop : Stop) (old mid : Moment (PairEnds P g))
+pub show-refused : {P : Type 0} {g : Ghosts P} (second : Bool) (form : LineForm) (stop : Stop) (old mid : Moment (TwoFronts P g))
     (taken : Option (List ℕ)) (number : ℕ)
     → IsShow form → stop ≡ Line number BadSession → is_there second mid.ends.fronts.pair ≡ false
     → PairSteps {T = Unit {0}} 0 old mid (Ok tt) refreshing
@@ -433,7 +436,7 @@ show-refused second form stop old mid taken number show is none steps =
 
 -- Where the front end stands, and its client sees what is printed: the line says so.
 pub record ShowSays {P : Type 0} {g : Ghosts P} (second : Bool) (form : LineForm) (result : Result (Unit {0}) Stop)
-    (mid new : Moment (PairEnds P g))
+    (mid new : Moment (TwoFronts P g))
     (taken taken1 : Option (List ℕ)) (number : ℕ) (up0 down0 : Pipe) (more : ℕ) (w v : PairRun) : Type 0 where
   pub play : OnOk result (InPairPlay new.honest up0 down0 new.up new.down more
       (pair_telling (told_by second form (pair_settled w)) (pair_settled w))
@@ -443,7 +446,7 @@ pub record ShowSays {P : Type 0} {g : Ghosts P} (second : Bool) (form : LineForm
   pub tells : RunTells result (numbered_or number (styles_fault (came_to second (met_in w)) form) None)
 
 pub show-carries : {P : Type 0} {g : Ghosts P} (second : Bool) (form : LineForm) (result : Result (Unit {0}) Stop)
-    (old mid new : Moment (PairEnds P g))
+    (old mid new : Moment (TwoFronts P g))
     (taken taken1 : Option (List ℕ)) (number : ℕ)
     → IsShow form → is_there second mid.ends.fronts.pair ≡ true → PairSteps {T = Unit {0}} 0 old mid (Ok tt) refreshing → GoesWell result
     → ((up0 down0 : Pipe) (more : ℕ) (w v : PairRun) → Settled mid.honest up0 down0 mid.up mid.down (more + 3) w v mid.ends

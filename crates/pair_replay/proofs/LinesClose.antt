@@ -32,7 +32,7 @@ use Rattle.replay_parts.specs.Moments.{Moment, scene}
 use Rattle.replay_parts.specs.Stops.{HasStopCause, GoesWell}
 use Rattle.replay_parts.specs.Answers.{RunTells}
 use Rattle.replay_parts.specs.Printed.{PrintedSome}
-use Rattle.pair_replay.specs.declared.ends.PairEnds.{PairEnds}
+use Rattle.pair_replay.specs.declared.two_fronts.TwoFronts.{TwoFronts}
 use Rattle.pair_replay.specs.PairStarts.{second_end_text, ends_text}
 use Rattle.pair_replay.specs.PairAnswers.{PairRunTook, RoomTold, PairPassed, second_shown, PairEndsShown}
 use Rattle.pair_replay.specs.PairAnswers.{pair_since}
@@ -60,7 +60,7 @@ second-ends w (Some x) (Some k) same shows =
     ∙ ap (λ t. heading_on true (codes "# end") ++ t) (shows x refl)
 
 -- the closing part is what both clients see
-closing-is : {P : Type 0} {g : Ghosts P} (honest : Type 0) (up0 down0 up down : Pipe) (w v : PairRun) (e : PairEnds P g)
+closing-is : {P : Type 0} {g : Ghosts P} (honest : Type 0) (up0 down0 up down : Pipe) (w v : PairRun) (e : TwoFronts P g)
     → SettledThen honest up0 down0 up down w v e → ends_text e.fronts.pair ≡ pair_closing w
 closing-is honest up0 down0 up down w v e s =
     let w1 = pair_settled w in
@@ -80,7 +80,7 @@ closing-is honest up0 down0 up down w v e s =
     tree-of (Some y) x is = let same : y ≡ x = cc in ap (λ (z : Second FrontState (List ℕ)). z.value.value.tree) (sym same)
 
 -- over an honest link
-pub closes-well : {P : Type 0} {g : Ghosts P} (result : Result (Unit {0}) Stop) (old mid : Moment (PairEnds P g))
+pub closes-well : {P : Type 0} {g : Ghosts P} (result : Result (Unit {0}) Stop) (old mid : Moment (TwoFronts P g))
     (taken taken1 : Option (List ℕ))
     (sink0 sink1 link0 link1 : ℕ) → HasStopCause sink0 sink1 link0 link1 result → GoesWell result
     → PairSteps {T = Unit {0}} 0 old mid (Ok tt) refreshing
@@ -94,7 +94,7 @@ closes-well result old mid taken taken1 sink0 sink1 link0 link1 cause well steps
       room-there result (RefreshHasRoom v) well last.1,
     )
 
-pub closes-not : {P : Type 0} {g : Ghosts P} (stop : Stop) (old mid : Moment (PairEnds P g)) (taken : Option (List ℕ))
+pub closes-not : {P : Type 0} {g : Ghosts P} (stop : Stop) (old mid : Moment (TwoFronts P g)) (taken : Option (List ℕ))
     (sink0 sink1 link0 link1 : ℕ) → HasStopCause {T = Unit {0}} sink0 sink1 link0 link1 (Err stop)
     → PairSteps {T = Unit {0}} 0 old mid (Err stop) refreshing
     → PairCloses {T = Unit {0}} (scene old taken) taken (Err stop)
@@ -114,7 +114,7 @@ second-shows None = refl
 second-shows (Some w) = refl
 
 -- the closing part, where it was printed
-pub closes-shown : {P : Type 0} {g : Ghosts P} (result : Result (Unit {0}) Stop) (old mid : Moment (PairEnds P g))
+pub closes-shown : {P : Type 0} {g : Ghosts P} (result : Result (Unit {0}) Stop) (old mid : Moment (TwoFronts P g))
     (taken taken1 : Option (List ℕ))
     (old_faults new_faults : ℕ)
     → KeepsPair {T = Unit {0}} old mid (Ok tt) → GoesWell result → OnOk result (Appends taken taken1 (ends_text mid.ends.fronts.pair))

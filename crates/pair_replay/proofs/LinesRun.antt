@@ -31,7 +31,7 @@ use Rattle.replay_parts.specs.declared.stop.Stop.TheVariants.{Memory}
 use Rattle.replay_parts.specs.Moments.{scene, Moment}
 use Rattle.replay_parts.specs.Answers.{RunTells}
 use Rattle.replay_parts.specs.Reads.{IsRead}
-use Rattle.pair_replay.specs.declared.ends.PairEnds.{PairEnds}
+use Rattle.pair_replay.specs.declared.two_fronts.TwoFronts.{TwoFronts}
 use Rattle.pair_replay.specs.PairAnswers.{PairRunTook, RoomTold}
 use Rattle.pair_replay.specs.Running.{InPairPlay}
 use Rattle.pair_replay.specs.Playing.{PairCarries, numbered_pair, text_unless}
@@ -100,7 +100,7 @@ pub record Whole : Type 1 where
 
 -- where a run of lines is: both runs, what was printed so far, and that the lines left do the rest
 pub record RunningOn {P : Type 0} {g : Ghosts P} (honest : Type 0) (up0 down0 up down : Pipe) (taken0 taken : Option (List ℕ)) (all : Whole)
-    (nth : ℕ) (lines : List (List ℕ)) (e : PairEnds P g) : Type 0 where
+    (nth : ℕ) (lines : List (List ℕ)) (e : TwoFronts P g) : Type 0 where
   pub world : PairRun
   pub fresh : PairRun
   pub in_play : InPairPlay honest up0 down0 up down (line_bytes lines) world fresh e
@@ -125,7 +125,7 @@ whole_of lines w v = record {
 
 pub running-first : {P : Type 0} {g : Ghosts P} (honest : Type 0) (up0 down0 up down : Pipe) (taken : Option (List ℕ))
     (lines : List (List ℕ))
-    (w v : PairRun) (e : PairEnds P g)
+    (w v : PairRun) (e : TwoFronts P g)
     → Appends taken taken [] → InPairPlay honest up0 down0 up down (line_bytes lines) w v e
     → RunningOn honest up0 down0 up down taken taken (whole_of lines w v) 2 lines e
 running-first honest up0 down0 up down taken lines w v e none play = record {
@@ -144,7 +144,7 @@ running-first honest up0 down0 up down taken lines w v e none play = record {
 
 -- the same of lines that are equal
 pub with-lines : {P : Type 0} {g : Ghosts P} (honest : Type 0) (up0 down0 up down : Pipe) (taken0 taken : Option (List ℕ)) (all : Whole)
-    (nth : ℕ) (lines lines1 : List (List ℕ)) (e : PairEnds P g) → lines ≡ lines1
+    (nth : ℕ) (lines lines1 : List (List ℕ)) (e : TwoFronts P g) → lines ≡ lines1
     → RunningOn honest up0 down0 up down taken0 taken all nth lines e → RunningOn honest up0 down0 up down taken0 taken all nth lines1 e
 with-lines honest up0 down0 up down taken0 taken all nth lines lines1 e same running =
     subst (λ ls. RunningOn honest up0 down0 up down taken0 taken all nth ls e) same running
@@ -152,7 +152,7 @@ with-lines honest up0 down0 up down taken0 taken all nth lines lines1 e same run
 -- the line that comes next has the bytes of the least line
 pub run-later : {P : Type 0} {g : Ghosts P} (honest : Type 0) (up0 down0 up down : Pipe) (line : List ℕ) (more : List (List ℕ))
     (form : PairForm)
-    (w v : PairRun) (e : PairEnds P g) → pair_line_form line ≡ Some form
+    (w v : PairRun) (e : TwoFronts P g) → pair_line_form line ≡ Some form
     → InPairPlay honest up0 down0 up down (line_bytes (line ∷ more)) w v e
     → InPairPlay honest up0 down0 up down (line_bytes more + least_line) w v e
 run-later honest up0 down0 up down line more form w v e is play =
@@ -175,7 +175,7 @@ record ThisLine (all : Whole) (nth : ℕ) (form : PairForm) (later : List PairFo
   needed : all.room → line_or (pair_lacking form w) form v (LinesHaveRoom (λ x. ⊤) later (after_pair_line form w) (fresh_pair_line form v))
 
 at-line : {P : Type 0} {g : Ghosts P} (honest : Type 0) (up0 down0 up down : Pipe) (taken0 taken : Option (List ℕ)) (all : Whole)
-    (nth : ℕ) (line : List ℕ) (more : List (List ℕ)) (form : PairForm) (e : PairEnds P g)
+    (nth : ℕ) (line : List ℕ) (more : List (List ℕ)) (form : PairForm) (e : TwoFronts P g)
     → (running : RunningOn honest up0 down0 up down taken0 taken all nth (line ∷ more) e) → pair_line_fault nth line ≡ None
     → pair_line_form line ≡ Some form
     → ThisLine all nth form (pair_good_lines (nth + 1) more) (pair_first_bad (nth + 1) more) running.world running.fresh running.so_far
@@ -194,7 +194,7 @@ at-line honest up0 down0 up down taken0 taken all nth line more form e running g
     }
 
 -- a line that lacks nothing was carried out
-pub run-on : {P : Type 0} {g : Ghosts P} (up0 down0 : Pipe) (taken0 : Option (List ℕ)) (old new : Moment (PairEnds P g))
+pub run-on : {P : Type 0} {g : Ghosts P} (up0 down0 : Pipe) (taken0 : Option (List ℕ)) (old new : Moment (TwoFronts P g))
     (taken taken1 : Option (List ℕ)) (all : Whole) (nth : ℕ) (line : List ℕ) (more : List (List ℕ)) (form : PairForm)
     → RunningOn old.honest up0 down0 old.up old.down taken0 taken all nth (line ∷ more) old.ends → pair_line_fault nth line ≡ None
     → pair_line_form line ≡ Some form
@@ -255,7 +255,7 @@ StopsSo stop taken0 taken1 all =
 
 -- a line stopped the run
 module _ {P : Type 0} {g : Ghosts P} (honest : Type 0) (up0 down0 up down : Pipe) (taken0 taken taken1 : Option (List ℕ))
-    (all : Whole) (nth : ℕ) (line : List ℕ) (more : List (List ℕ)) (form : PairForm) (e : PairEnds P g)
+    (all : Whole) (nth : ℕ) (line : List ℕ) (more : List (List ℕ)) (form : PairForm) (e : TwoFronts P g)
     (running : RunningOn honest up0 down0 up down taken0 taken all nth (line ∷ more) e) (good : pair_line_fault nth line ≡ None)
     (is : pair_line_form line ≡ Some form) where
   part-all : WrotePart taken taken1 (text_unless (pair_lacking form running.world) (pair_line_text nth form running.world))
@@ -321,7 +321,7 @@ nothing-left so_far nth w forms e = ap (λ fs. so_far ++ pair_lines_text nth (pa
 
 -- a line is not read
 pub read-stops : {P : Type 0} {g : Ghosts P} (stop : Stop) (honest : Type 0) (up0 down0 up down : Pipe) (taken0 taken : Option (List ℕ))
-    (all : Whole) (nth : ℕ) (line : List ℕ) (more : List (List ℕ)) (e : PairEnds P g)
+    (all : Whole) (nth : ℕ) (line : List ℕ) (more : List (List ℕ)) (e : TwoFronts P g)
     → RunningOn honest up0 down0 up down taken0 taken all nth (line ∷ more) e
     → IsRead {T = Unit {0}} (Err stop) nth (pair_line_fault nth line)
     → StopsSo stop taken0 taken all
@@ -350,7 +350,7 @@ read-stops Memory honest up0 down0 up down taken0 taken all nth line more e runn
 
 -- no line is left
 pub lines-done : {P : Type 0} {g : Ghosts P} (honest : Type 0) (up0 down0 up down : Pipe) (taken0 taken : Option (List ℕ)) (all : Whole)
-    (nth : ℕ) (lines : List (List ℕ)) (e : PairEnds P g)
+    (nth : ℕ) (lines : List (List ℕ)) (e : TwoFronts P g)
     → RunningOn honest up0 down0 up down taken0 taken all nth lines e → lines ≡ []
     → InPairPlay honest up0 down0 up down 0 all.world all.fresh e × Appends taken0 taken all.text × (all.refused ≡ None) × all.room
 lines-done honest up0 down0 up down taken0 taken all nth lines e running none =

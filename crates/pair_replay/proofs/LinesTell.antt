@@ -15,11 +15,14 @@ use Rattle.replay_parts.specs.Says.{says, says_of, status_of}
 use Rattle.replay_parts.specs.Moments.{Moment}
 use Rattle.replay_parts.specs.Answers.{AtEnd}
 use Rattle.replay_parts.specs.Reads.{IsRead}
-use Rattle.pair_replay.specs.declared.ends.PairEnds.{PairEnds}
+use Rattle.pair_replay.specs.declared.two_fronts.TwoFronts.{TwoFronts}
 use Rattle.pair_replay.specs.PairAnswers.{PairPassed, PairStopFolds, moment_of}
 use Rattle.pair_replay.specs.Judged.{pair_panels_after, fault_at, LastOr, IsBadForm, judged_form, JudgedLine, AreJudged}
 use Rattle.pair_replay.specs.Following.{FollowsPairRun, pair_passing, LineJudged, PairLinesJudged, PairLinesCarried}
-use Rattle.pair_replay.proofs.PairFollows.{IsPairWell, later-still, order-later, order-push}
+use Rattle.replay_parts.specs.LinkFolds.{IsWell}
+use Rattle.replay_parts.proofs.FoldLemmas as parts
+use Rattle.pair_world.specs.PairLinks.{sent_when_pair_is_full}
+use Rattle.pair_replay.proofs.PairFollows.{later-still, order-later, order-push}
 use Rattle.replay_parts.specs.Stops.{HasStopCause}
 use Rattle.pair_replay.proofs.LinesRun.{no-number, some-number}
 use Rattle.replay_parts.proofs.StopLemmas.{part-not-ended}
@@ -27,7 +30,7 @@ use Rattle.replay_parts.proofs.StopLemmas.{part-not-ended}
 -- The run so far: the panels that stand open, and the moments at which the lines before were judged; what is said of the lines left is
 -- said of all.
 pub record CarriedOn {P : Type 0} {g : Ghosts P} (start : PairStarted) (up0 down0 up down : Pipe) (initial : List (List ℕ)) (nth : ℕ)
-    (lines : List (List ℕ)) (e : PairEnds P g) : Type 0 where
+    (lines : List (List ℕ)) (e : TwoFronts P g) : Type 0 where
   pub panels : List (Option PanelKind)
   pub run : FollowsPairRun (pair_started start.pair (length lines) panels start.from) up0 down0 up down e
   pub moments : List LinkMoment
@@ -35,14 +38,14 @@ pub record CarriedOn {P : Type 0} {g : Ghosts P} (start : PairStarted) (up0 down
   pub goes : (last : LinkMoment) (ms : List LinkMoment) (bad : Option (ℕ × LineFault)) → AreJudged last nth panels lines ms bad
       → AreJudged last 2 start.panels initial (moments ++ ms) bad
 
-pub carried-first : {P : Type 0} {g : Ghosts P} (start : PairStarted) (up0 down0 up down : Pipe) (lines : List (List ℕ)) (e : PairEnds P g)
+pub carried-first : {P : Type 0} {g : Ghosts P} (start : PairStarted) (up0 down0 up down : Pipe) (lines : List (List ℕ)) (e : TwoFronts P g)
     → FollowsPairRun (pair_started start.pair (length lines) start.panels start.from) up0 down0 up down e
     → CarriedOn start up0 down0 up down lines 2 lines e
 carried-first start up0 down0 up down lines e run =
     record { panels = start.panels; run = run; moments = []; in_order = tt; goes = λ last ms bad judged. judged }
 
 pub carried-lines : {P : Type 0} {g : Ghosts P} (start : PairStarted) (up0 down0 up down : Pipe) (initial : List (List ℕ)) (nth : ℕ)
-    (lines lines1 : List (List ℕ)) (e : PairEnds P g) → lines ≡ lines1
+    (lines lines1 : List (List ℕ)) (e : TwoFronts P g) → lines ≡ lines1
     → CarriedOn start up0 down0 up down initial nth lines e → CarriedOn start up0 down0 up down initial nth lines1 e
 carried-lines start up0 down0 up down initial nth lines lines1 e same carried =
     subst (λ ls. CarriedOn start up0 down0 up down initial nth ls e) same carried
@@ -75,7 +78,7 @@ line-refused last nth panels line more form fault bad good is met bad_is =
     (refl, refl, bad_is)))
 
 -- a line was carried out
-pub carried-on : {P : Type 0} {g : Ghosts P} (start : PairStarted) (up0 down0 : Pipe) (old new : Moment (PairEnds P g))
+pub carried-on : {P : Type 0} {g : Ghosts P} (start : PairStarted) (up0 down0 : Pipe) (old new : Moment (TwoFronts P g))
     (initial : List (List ℕ))
     (nth : ℕ) (line : List ℕ) (more : List (List ℕ)) (form : PairForm)
     → (c : CarriedOn start up0 down0 old.up old.down initial nth (line ∷ more) old.ends) → pair_line_fault nth line ≡ None
@@ -99,7 +102,7 @@ carried-on start up0 down0 old new initial nth line more form c good is run judg
     }
 
 -- or it stopped the run
-pub line-stops : {P : Type 0} {g : Ghosts P} (stop : Stop) (start : PairStarted) (up0 down0 : Pipe) (old new : Moment (PairEnds P g))
+pub line-stops : {P : Type 0} {g : Ghosts P} (stop : Stop) (start : PairStarted) (up0 down0 : Pipe) (old new : Moment (TwoFronts P g))
     (initial : List (List ℕ)) (nth : ℕ) (line : List ℕ) (more : List (List ℕ)) (form : PairForm)
     → (c : CarriedOn start up0 down0 old.up old.down initial nth (line ∷ more) old.ends) → pair_line_fault nth line ≡ None
     → pair_line_form line ≡ Some form
@@ -134,7 +137,7 @@ line-stops Memory start up0 down0 old new initial nth line more form c good is j
 -- a line is not read
 pub read-tells : {P : Type 0} {g : Ghosts P} (stop : Stop) (start : PairStarted) (up0 down0 up down : Pipe) (initial : List (List ℕ))
     (nth : ℕ)
-    (line : List ℕ) (more : List (List ℕ)) (e : PairEnds P g)
+    (line : List ℕ) (more : List (List ℕ)) (e : TwoFronts P g)
     → CarriedOn start up0 down0 up down initial nth (line ∷ more) e → IsRead {T = Unit {0}} (Err stop) nth (pair_line_fault nth line)
     → AtEnd (says (status_of stop)).phase (PairLinesJudged (moment_of up0 down0 up down) start.panels initial {T = Unit {0}} (Err stop))
 read-tells (Line n fault) start up0 down0 up down initial nth line more e c read = record {
@@ -155,18 +158,11 @@ read-tells Memory start up0 down0 up down initial nth line more e c read = tt
 
 -- a line that is not read leaves all well
 pub read-folds : (stop : Stop) (nth : ℕ) (bad : Option LineFault) (passed : PairPassed) → IsRead {T = Unit {0}} (Err stop) nth bad
-    → IsPairWell passed → PairStopFolds {T = Unit {0}} (Err stop) passed
-read-folds (Line n fault) nth bad passed read good = good
-read-folds TooLong nth bad passed read good = absurd read
-read-folds ReadFault nth bad passed read good = absurd read
-read-folds WriteFault nth bad passed read good = absurd read
-read-folds LinkFault nth bad passed read good = absurd read
-read-folds (FrontRefused place kind) nth bad passed read good = absurd read
-read-folds NoRoom nth bad passed read good = absurd read
-read-folds Memory nth bad passed read good = (tt, tt)
+    → IsWell passed → PairStopFolds {T = Unit {0}} (Err stop) passed
+read-folds stop nth bad passed read good = parts.read-folds sent_when_pair_is_full stop nth bad passed read good
 
 -- no line is left
-pub carried-all : {P : Type 0} {g : Ghosts P} (start : PairStarted) (up0 down0 : Pipe) (new : Moment (PairEnds P g))
+pub carried-all : {P : Type 0} {g : Ghosts P} (start : PairStarted) (up0 down0 : Pipe) (new : Moment (TwoFronts P g))
     (initial : List (List ℕ))
     (nth : ℕ) (lines : List (List ℕ)) → lines ≡ []
     → CarriedOn start up0 down0 new.up new.down initial nth lines new.ends

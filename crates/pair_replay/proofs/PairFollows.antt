@@ -18,14 +18,14 @@ use Rattle.pair_world.specs.PairHeld.{up_reads}
 use Rattle.pair_world.specs.PairHeld as held
 use Rattle.pair_world.specs.PairLinks.{LinkMoment, IsLater, AreInOrderTo, PairStarted, pair_started, one_pair_line_more, SecondFew}
 use Rattle.pair_world.specs.PairLinks.{FollowsPair}
-use Rattle.pair_world.specs.PairLinks.{pair_fold_of, pair_replies_in}
+use Rattle.pair_world.specs.PairLinks.{pair_fold_of, pair_replies_in, sent_when_pair_is_full}
 use Rattle.replay_parts.specs.declared.stop.Stop.{Stop}
-use Rattle.replay_parts.specs.declared.stop.Stop.TheVariants.{Line, TooLong, ReadFault, WriteFault, LinkFault, FrontRefused, NoRoom}
-use Rattle.replay_parts.specs.declared.stop.Stop.TheVariants.{Memory}
 use Rattle.replay_parts.specs.Stops.{GoesWell}
-use Rattle.pair_replay.specs.declared.ends.PairEnds.{PairEnds}
+use Rattle.pair_replay.specs.declared.two_fronts.TwoFronts.{TwoFronts}
 use Rattle.pair_replay.specs.Running.{pair_ends_of}
-use Rattle.pair_replay.specs.PairAnswers.{PairPassed, PairGivesNoMore, PairStopFolds, PairAnswersInOrder, pair_since, moment_of}
+use Rattle.replay_parts.specs.LinkFolds.{GivesNoMore, IsWell}
+use Rattle.replay_parts.proofs.FoldLemmas as parts
+use Rattle.pair_replay.specs.PairAnswers.{PairPassed, PairStopFolds, PairAnswersInOrder, pair_since, moment_of}
 use Rattle.pair_replay.specs.Following.{FollowsPairRun}
 
 -- ---- moments
@@ -60,21 +60,10 @@ order-push (k ∷ n ∷ ms) now m last order before later = (order.0, order-push
 
 -- ---- what went over the link
 
--- no message was refused, and no more was given than sent
-abbrev pub IsPairWell : PairPassed → Type 0
-IsPairWell passed = IsOk passed.fold × PairGivesNoMore passed
-
 -- a stop that is none of a front end, where all went well
-pub stop-folds : (stop : Stop) (passed : PairPassed) → GoesWell {T = Unit {0}} (Err stop) → IsPairWell passed
+pub stop-folds : (stop : Stop) (passed : PairPassed) → GoesWell {T = Unit {0}} (Err stop) → IsWell passed
     → PairStopFolds {T = Unit {0}} (Err stop) passed
-stop-folds (Line number fault) passed never good = good
-stop-folds TooLong passed never good = good
-stop-folds ReadFault passed never good = good
-stop-folds WriteFault passed never good = good
-stop-folds LinkFault passed never good = good
-stop-folds (FrontRefused place kind) passed never good = absurd never
-stop-folds NoRoom passed never good = absurd never
-stop-folds Memory passed never good = (tt, tt)
+stop-folds stop passed never good = parts.stop-folds sent_when_pair_is_full stop passed never good
 
 module _ (start : PairStarted) (up0 down0 up down : Pipe) (waiting : List (List ℕ)) (e : held.PairEnds)
     (f : FollowsPair start up0 down0 up down waiting e) where
@@ -91,7 +80,7 @@ module _ (start : PairStarted) (up0 down0 up down : Pipe) (waiting : List (List 
       ∙ ap (λ bytes. pair_fold_of f.sent_up bytes) down-since
       ∙ f.fronts_are.value
 
-  pub pair-less : PairGivesNoMore (pair_since up0 down0 up down)
+  pub pair-less : GivesNoMore (pair_since up0 down0 up down)
   pair-less =
       let up_sent : length (sent_since up0 up) ≡ length f.sent_up = ap length up-since in
       let up_given : length (given_since up0 up) ≡ length f.given_up = ap length (given_since-is up0 up f.sent_up f.given_up f.up_is) in
@@ -102,7 +91,7 @@ module _ (start : PairStarted) (up0 down0 up down : Pipe) (waiting : List (List 
       let down_left : e.down_there + length f.given_down ≡ length f.sent_down = f.down_left in
       (omega (arith, up_sent, up_given, up_left), omega (arith, down_sent, down_given, down_left))
 
-  pub pair-well : IsPairWell (pair_since up0 down0 up down)
+  pub pair-well : IsWell (pair_since up0 down0 up down)
   pair-well = (subst IsOk (sym pair-fold) refl, pair-less)
 
   -- what went over the link by now, as the ends have it
@@ -178,10 +167,10 @@ pair-replies start up0 down0 up down e f =
 
 -- ---- the ends of the program
 
-module _ {P : Type 0} {g : Ghosts P} (start : PairStarted) (up0 down0 up down : Pipe) (e : PairEnds P g)
+module _ {P : Type 0} {g : Ghosts P} (start : PairStarted) (up0 down0 up down : Pipe) (e : TwoFronts P g)
     (run : FollowsPairRun start up0 down0 up down e) where
-  pub run-well : IsPairWell (pair_since up0 down0 up down)
-  run-well = pair-well start up0 down0 up down e.splitter.whole (pair_ends_of e) run.so_far
+  pub run-well : IsWell (pair_since up0 down0 up down)
+  run-well = pair-well start up0 down0 up down e.ends.splitter.whole (pair_ends_of e) run.so_far
 
   -- a call that did nothing to the link has come through, or not
   pub kept-run : {T : Type 0} (result : Result T Stop) → GoesWell result
@@ -190,19 +179,19 @@ module _ {P : Type 0} {g : Ghosts P} (start : PairStarted) (up0 down0 up down : 
   kept-run (Err stop) never = (tt, stop-folds stop (pair_since up0 down0 up down) never run-well)
 
   pub run-fold : (pair_since up0 down0 up down).fold ≡ Ok (pair_value run.so_far.fronts_are.asked e.fronts.pair)
-  run-fold = pair-fold start up0 down0 up down e.splitter.whole (pair_ends_of e) run.so_far
+  run-fold = pair-fold start up0 down0 up down e.ends.splitter.whole (pair_ends_of e) run.so_far
 
   -- nothing was taken back since the moment of the start
   pub run-later : IsLater start.from (moment_of up0 down0 up down)
-  run-later = later-than start up0 down0 up down e.splitter.whole (pair_ends_of e) run.so_far
+  run-later = later-than start up0 down0 up down e.ends.splitter.whole (pair_ends_of e) run.so_far
 
   -- so many lines may be left, and any moment that is no later may be looked back on
   pub run-from : (lines : ℕ) (from : LinkMoment) → lines ≤ start.lines → IsLater from (moment_of up0 down0 up down)
       → FollowsPairRun (pair_started start.pair lines start.panels from) up0 down0 up down e
   run-from lines from fewer later = record {
-    so_far = follows-still start up0 down0 up down e.splitter.whole (pair_ends_of e) run.so_far lines from (pair_ends_of e).first_told
+    so_far = follows-still start up0 down0 up down e.ends.splitter.whole (pair_ends_of e) run.so_far lines from (pair_ends_of e).first_told
         (pair_ends_of e).second_told fewer
-        (subst (IsLater from) (moment-is start up0 down0 up down e.splitter.whole (pair_ends_of e) run.so_far) later);
+        (subst (IsLater from) (moment-is start up0 down0 up down e.ends.splitter.whole (pair_ends_of e) run.so_far) later);
     none_whole = run.none_whole;
   }
 
@@ -216,7 +205,7 @@ module _ {P : Type 0} {g : Ghosts P} (start : PairStarted) (up0 down0 up down : 
       (subst (λ frames. FollowsPair start up0 down0 up down frames (pair_ends_of e)) run.none_whole run.so_far)
 
 -- a line that makes no step of the script
-pub run-fewer : {P : Type 0} {g : Ghosts P} (start : PairStarted) (up0 down0 up down : Pipe) (e : PairEnds P g)
+pub run-fewer : {P : Type 0} {g : Ghosts P} (start : PairStarted) (up0 down0 up down : Pipe) (e : TwoFronts P g)
     → FollowsPairRun (one_pair_line_more start) up0 down0 up down e → FollowsPairRun start up0 down0 up down e
 run-fewer start up0 down0 up down e run =
     run-from (one_pair_line_more start) up0 down0 up down e run start.lines start.from (omega arith)
@@ -224,7 +213,7 @@ run-fewer start up0 down0 up down e run =
 
 -- the line that comes next is one of those that are left
 pub run-line : {P : Type 0} {g : Ghosts P} (start : PairStarted) (panels : List (Option PanelKind)) (up0 down0 up down : Pipe)
-    (e : PairEnds P g) (lines : List (List ℕ)) (line : List ℕ) (more : List (List ℕ)) → lines ≡ line ∷ more
+    (e : TwoFronts P g) (lines : List (List ℕ)) (line : List ℕ) (more : List (List ℕ)) → lines ≡ line ∷ more
     → FollowsPairRun (pair_started start.pair (length lines) panels start.from) up0 down0 up down e
     → FollowsPairRun (one_pair_line_more (pair_started start.pair (length more) panels start.from)) up0 down0 up down e
 run-line start panels up0 down0 up down e lines line more is run =
@@ -233,30 +222,30 @@ run-line start panels up0 down0 up down e lines line more is run =
     subst (λ n. FollowsPairRun (pair_started start.pair n panels start.from) up0 down0 up down e) plus run
 
 -- what was told of a front end says nothing of the link
-pub run-told : {P : Type 0} {g : Ghosts P} (start : PairStarted) (up0 down0 up down : Pipe) (e e1 : PairEnds P g)
+pub run-told : {P : Type 0} {g : Ghosts P} (start : PairStarted) (up0 down0 up down : Pipe) (e e1 : TwoFronts P g)
     → pair_ends_of e1 ≡ record (pair_ends_of e) {
       first_told = (pair_ends_of e1).first_told;
       second_told = (pair_ends_of e1).second_told;
     }
-    → e1.splitter ≡ e.splitter → FollowsPairRun start up0 down0 up down e → FollowsPairRun start up0 down0 up down e1
+    → e1.ends.splitter ≡ e.ends.splitter → FollowsPairRun start up0 down0 up down e → FollowsPairRun start up0 down0 up down e1
 run-told start up0 down0 up down e e1 is same run = record {
   so_far = subst (λ (s : Frames). FollowsPair start up0 down0 up down s.whole (pair_ends_of e1)) (sym same)
-      (subst (λ h. FollowsPair start up0 down0 up down e.splitter.whole h) (sym is)
-      (follows-still start up0 down0 up down e.splitter.whole (pair_ends_of e) run.so_far start.lines start.from
+      (subst (λ h. FollowsPair start up0 down0 up down e.ends.splitter.whole h) (sym is)
+      (follows-still start up0 down0 up down e.ends.splitter.whole (pair_ends_of e) run.so_far start.lines start.from
       (pair_ends_of e1).first_told
       (pair_ends_of e1).second_told (omega arith) run.so_far.later));
   none_whole = ap (λ (s : Frames). s.whole) same ∙ run.none_whole;
 }
 
 -- a panel of the first front end was dropped
-pub run-closed : {P : Type 0} {g : Ghosts P} (start : PairStarted) (up0 down0 up down : Pipe) (e : PairEnds P g) (place : ℕ)
+pub run-closed : {P : Type 0} {g : Ghosts P} (start : PairStarted) (up0 down0 up down : Pipe) (e : TwoFronts P g) (place : ℕ)
     → FollowsPairRun start up0 down0 up down e
     → FollowsPairRun (pair_started start.pair start.lines (closed_at place start.panels) start.from) up0 down0 up down
     (record e { fronts = after_close e.fronts place })
 run-closed start up0 down0 up down e place run =
     let f = run.so_far in
     record {
-      so_far = follows-anew start up0 down0 up down e.splitter.whole (pair_ends_of e) f start.lines
+      so_far = follows-anew start up0 down0 up down e.ends.splitter.whole (pair_ends_of e) f start.lines
           (closed_at place start.panels) start.from
           (after_close e.fronts place) (pair_ends_of e).first_told (pair_ends_of e).second_told (omega arith) f.later
           (record {

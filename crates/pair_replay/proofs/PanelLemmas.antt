@@ -28,13 +28,14 @@ use Rattle.replay_parts.specs.declared.stop.Stop.TheVariants.{Line}
 use Rattle.replay_parts.specs.Moments.{moment, scene}
 use Rattle.replay_parts.specs.Answers.{RunTells}
 use Rattle.replay_parts.specs.Reads.{drops}
-use Rattle.pair_replay.specs.declared.ends.PairEnds.{PairEnds}
+use Rattle.pair_replay.specs.declared.two_fronts.TwoFronts.{TwoFronts}
 use Rattle.pair_replay.specs.PairAnswers.{PairPassed, PairRunTook, PairStopFolds, RoomTold, pair_since}
 use Rattle.pair_replay.specs.Running.{pair_ends_of, InPairRun, InPairPlay}
 use Rattle.pair_replay.specs.Following.{FollowsPairRun, pair_passing, PairLinePasses, PairLineTells}
 use Rattle.pair_replay.specs.Playing.{PairCarries, numbered_pair, text_unless}
 use Rattle.pair_replay.proofs.PairTheory.{together-fewer, together-told}
-use Rattle.pair_replay.proofs.PairFollows.{IsPairWell, stop-folds, run-well, run-fewer, run-closed}
+use Rattle.replay_parts.specs.LinkFolds.{IsWell}
+use Rattle.pair_replay.proofs.PairFollows.{stop-folds, run-well, run-fewer, run-closed}
 use Rattle.pair_replay.proofs.LineFaults.{tells-now}
 use Rattle.pair_replay.proofs.LineFollows.{keeps-still}
 use Rattle.replay_parts.proofs.StopLemmas.{after-ok}
@@ -43,7 +44,7 @@ use Rattle.replay_parts.proofs.ClosedPanels.{dropped-is, dropped-tells}
 -- ---- a line that drops a panel
 
 module _ {P : Type 0} {g : Ghosts P} (result : Result (Unit {0}) Stop) (number place : ℕ) (honest : Type 0) (up down : Pipe)
-    (e e1 : PairEnds P g)
+    (e e1 : TwoFronts P g)
     (is : result ≡ drops number (stands_open place e.fronts.pair.one.panels))
     (left : e1 ≡ record e { fronts = after_close e.fronts place }) where
   -- over every link the run goes on without the panel, or the line is refused
@@ -51,7 +52,7 @@ module _ {P : Type 0} {g : Ghosts P} (result : Result (Unit {0}) Stop) (number p
   panel-passes = λ start up0 down0 run.
       let here = run-fewer start up0 down0 up down e run in
       let gone : FollowsPairRun (pair_passing (of_first (close place)) start) up0 down0 up down e1 =
-      subst (λ (x : PairEnds P g). FollowsPairRun (pair_passing (of_first (close place)) start) up0 down0 up down x) (sym left)
+      subst (λ (x : TwoFronts P g). FollowsPairRun (pair_passing (of_first (close place)) start) up0 down0 up down x) (sym left)
       (subst (λ ps. FollowsPairRun (pair_started start.pair start.lines ps start.from) up0 down0 up down
       (record e { fronts = after_close e.fronts place })) (dropped-is place start.panels)
       (run-closed start up0 down0 up down e place here)) in
@@ -61,7 +62,7 @@ module _ {P : Type 0} {g : Ghosts P} (result : Result (Unit {0}) Stop) (number p
       (at (stands_open place e.fronts.pair.one.panels) (FollowsPairRun (pair_passing (of_first (close place)) start) up0 down0 up down e1)
       (pair_since up0 down0 up down) gone (run-well start up0 down0 up down e here))
     where
-      at : (there : Bool) (Q : Type 0) (passed : PairPassed) → Q → IsPairWell passed
+      at : (there : Bool) (Q : Type 0) (passed : PairPassed) → Q → IsWell passed
           → OnOk (drops number there) Q × PairStopFolds (drops number there) passed
       at true Q passed q good = (q, good)
       at false Q passed q good = (tt, stop-folds (Line number NoPanel) passed tt good)
@@ -92,13 +93,13 @@ module _ {P : Type 0} {g : Ghosts P} (result : Result (Unit {0}) Stop) (number p
       let world = run.so_far.in_world in
       let told : PairAudience = record w.told { panels = dropped place w.told.panels } in
       let closed : held.PairEnds = record (pair_ends_of e) { fronts = after_close e.fronts place } in
-      let gone : InPairWorld calm up0 down0 up down (pair_telling told v) (e.splitter.whole ++ awaited v.up) closed =
-      panel-dropped up0 down0 up down v w.told (e.splitter.whole ++ awaited v.up) (pair_ends_of e) world in
+      let gone : InPairWorld calm up0 down0 up down (pair_telling told v) (e.ends.splitter.whole ++ awaited v.up) closed =
+      panel-dropped up0 down0 up down v w.told (e.ends.splitter.whole ++ awaited v.up) (pair_ends_of e) world in
       let after : InPairPlay honest up0 down0 up down more (after_pair_line (of_first (close place)) w)
       (fresh_pair_line (of_first (close place)) v) e1 = record {
         both = together-told more w v told (record v.told { panels = dropped place v.told.panels })
             (together-fewer more (more + least_line) w v (omega arith) play.both);
-        in_run = subst (λ (x : PairEnds P g). InPairRun calm honest up0 down0 up down (pair_telling told v) x) (sym left)
+        in_run = subst (λ (x : TwoFronts P g). InPairRun calm honest up0 down0 up down (pair_telling told v) x) (sym left)
             (record { so_far = record { is_honest = run.so_far.is_honest; in_world = gone }; none_whole = run.none_whole });
       } in
       let same : e.fronts.pair.one.panels ≡ w.told.panels = world.panels in

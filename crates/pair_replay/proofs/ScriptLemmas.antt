@@ -30,7 +30,7 @@ use Rattle.replay_parts.specs.Reads.{IsRead}
 use Rattle.pair_replay.specs.PairAnswers.{PairRunTook, RoomTold, PairStopFolds, pair_since}
 use Rattle.pair_replay.specs.Judged.{AreJudged, FirstOr, LinesJudged, IsJudged}
 use Rattle.pair_replay.specs.Following.{PairLinesJudged}
-use Rattle.pair_replay.proofs.PairFollows.{IsPairWell}
+use Rattle.replay_parts.specs.LinkFolds.{IsWell}
 use Rattle.replay_parts.specs.Stops.{HasRunCause}
 use Rattle.replay_script.proofs.FaultLemmas.{first_none}
 use Rattle.pair_world.specs.PairRuns.{PairRun}
@@ -176,7 +176,7 @@ module _ (kinds : List PanelKind) (input : List ℕ) (none : lines_of input ≡ 
 
 -- ---- nothing went over the link
 
-pub start-well : (up down : Pipe) → IsPairWell (pair_since up down up down)
+pub start-well : (up down : Pipe) → IsWell (pair_since up down up down)
 unfolding frames_of
 start-well up down =
     let none : (bytes : List ℕ) → drop (length bytes) bytes ≡ [] = λ bytes. drop_all (length bytes) bytes (omega arith) in

@@ -28,7 +28,7 @@ use Rattle.pair_world.proofs.PairKnown.{ids-left}
 use Rattle.replay_parts.specs.declared.stop.Stop.{Stop}
 use Rattle.replay_parts.specs.Moments.{Moment}
 use Rattle.replay_parts.specs.Stops.{HasStopCause}
-use Rattle.pair_replay.specs.declared.ends.PairEnds.{PairEnds}
+use Rattle.pair_replay.specs.declared.two_fronts.TwoFronts.{TwoFronts}
 use Rattle.pair_replay.specs.PairAnswers.{RoomTold}
 use Rattle.pair_replay.specs.Running.{InPairRun, PairSteps, PairGoes, PairFetches, PairHasIds, delivers_all, refreshing, fetching_all}
 use Rattle.pair_replay.specs.Running.{fetcher_on, by_fetcher, room_by, stale_meant, KnownHasRoom, AllHaveRoom}
@@ -205,7 +205,7 @@ StaleFetched o w =
 abbrev StaleHasRoom : Option (Fetcher FrontValues PairSpent) → PairRun → Type 0
 StaleHasRoom o w = room_by o (λ fetcher v. FetchesHaveRoom fetcher v) w
 
-module _ {P : Type 0} {g : Ghosts P} (old : Moment (PairEnds P g)) (up0 down0 : Pipe) (w : PairRun) (rests : IsAtRest w)
+module _ {P : Type 0} {g : Ghosts P} (old : Moment (TwoFronts P g)) (up0 down0 : Pipe) (w : PairRun) (rests : IsAtRest w)
     (run : InPairRun calm old.honest up0 down0 old.up old.down w old.ends) where
   -- what both front ends have come to
   abbrev values : FrontValues
@@ -285,7 +285,7 @@ module _ {P : Type 0} {g : Ghosts P} (old : Moment (PairEnds P g)) (up0 down0 : 
         second = same.1;
       })
 
-  module _ (second : Bool) (new : Moment (PairEnds P g)) (result : Result (Unit {0}) Stop) (ids : PairHasIds w.spent)
+  module _ (second : Bool) (new : Moment (TwoFronts P g)) (result : Result (Unit {0}) Stop) (ids : PairHasIds w.spent)
       (left : fetches_on second w.spent + most_sheets ≤ most_fetches) where
     -- where these sheets are fetched
     abbrev Fetched : List ℕ → Type 0
@@ -358,13 +358,13 @@ second-room None w room = room
 second-room (Some k) w room = room
 
 -- all that was on its way is delivered
-record IsDelivered {P : Type 0} {g : Ghosts P} (up0 down0 : Pipe) (w : PairRun) (now : Moment (PairEnds P g)) : Type 0 where
+record IsDelivered {P : Type 0} {g : Ghosts P} (up0 down0 : Pipe) (w : PairRun) (now : Moment (TwoFronts P g)) : Type 0 where
   room : SettleHasRoom w
   run : InPairRun calm now.honest up0 down0 now.up now.down (pair_settled w) now.ends
   rests : IsAtRest (pair_settled w)
   ids : PairHasIds w.spent
 
-delivered : {P : Type 0} {g : Ghosts P} (old now : Moment (PairEnds P g)) → PairGoes {T = Unit {0}} old now (Ok tt) delivers_all
+delivered : {P : Type 0} {g : Ghosts P} (old now : Moment (TwoFronts P g)) → PairGoes {T = Unit {0}} old now (Ok tt) delivers_all
     → (mode : Mode) (up0 down0 : Pipe) (w : PairRun) → PairHasLeft w.spent 0
     → InPairRun mode old.honest up0 down0 old.up old.down w old.ends → IsDelivered up0 down0 w now
 delivered old now delivers mode up0 down0 w left run =
@@ -376,15 +376,15 @@ delivered old now delivers mode up0 down0 w left run =
       ids = ids-left w.spent 0 left;
     }
 
-module _ {P : Type 0} {g : Ghosts P} (old mid : Moment (PairEnds P g)) where
+module _ {P : Type 0} {g : Ghosts P} (old mid : Moment (TwoFronts P g)) where
   -- the first front end fetches these
-  abbrev FirstFetches : Moment (PairEnds P g) → Result (Unit {0}) Stop → Type 0
+  abbrev FirstFetches : Moment (TwoFronts P g) → Result (Unit {0}) Stop → Type 0
   FirstFetches late result =
       PairFetches false (length (stale_meant false mid.ends.fronts.pair)) mid late result
       (fetching_all false (stale_meant false mid.ends.fronts.pair))
 
   -- all was delivered, and both fetched
-  pub settle-goes : (result : Result (Unit {0}) Stop) (late new : Moment (PairEnds P g))
+  pub settle-goes : (result : Result (Unit {0}) Stop) (late new : Moment (TwoFronts P g))
       → PairGoes {T = Unit {0}} old mid (Ok tt) delivers_all
       → FirstFetches late (Ok tt)
       → PairFetches true (length (stale_meant true late.ends.fronts.pair)) late new result
@@ -408,7 +408,7 @@ module _ {P : Type 0} {g : Ghosts P} (old mid : Moment (PairEnds P g)) where
       )
 
   -- the first did not fetch all
-  pub settle-amid : (stop : Stop) (late : Moment (PairEnds P g)) (link0 link1 : ℕ)
+  pub settle-amid : (stop : Stop) (late : Moment (TwoFronts P g)) (link0 link1 : ℕ)
       → HasStopCause {T = Unit {0}} 0 0 link0 link1 (Err stop) → PairGoes {T = Unit {0}} old mid (Ok tt) delivers_all
       → FirstFetches late (Err stop)
       → PairSteps {T = Unit {0}} 0 old late (Err stop) refreshing

@@ -26,7 +26,7 @@ use Rattle.pair_world.specs.PairHeld.{Mode, calm, targeted, IsSecondOf}
 use Rattle.pair_world.proofs.FetchBoth.{calm-alone}
 use Rattle.replay_parts.specs.declared.stop.Stop.{Stop}
 use Rattle.replay_parts.specs.Moments.{Moment}
-use Rattle.pair_replay.specs.declared.ends.PairEnds.{PairEnds}
+use Rattle.pair_replay.specs.declared.two_fronts.TwoFronts.{TwoFronts}
 use Rattle.pair_replay.specs.PairAnswers.{RoomTold}
 use Rattle.pair_replay.specs.Running.{InPairRun, Aim, PairSteps, PairGoes, delivers_up, delivers_down, delivers_all}
 use Rattle.pair_replay.proofs.StopLemmas.{room-iff}
@@ -38,7 +38,7 @@ on-ok (Ok value) f p = f p
 on-ok (Err stop) f p = tt
 
 -- a call that goes whatever was spent goes where so much is left
-pub any-spent : {P : Type 0} {g : Ghosts P} {T : Type 0} (result : Result T Stop) (old new : Moment (PairEnds P g)) (bytes : ℕ) (aim : Aim)
+pub any-spent : {P : Type 0} {g : Ghosts P} {T : Type 0} (result : Result T Stop) (old new : Moment (TwoFronts P g)) (bytes : ℕ) (aim : Aim)
     → PairGoes old new result aim → PairSteps bytes old new result aim
 any-spent result old new bytes aim goes = λ mode up0 down0 w left may run. goes mode up0 down0 w may run
 
@@ -63,7 +63,7 @@ second-known None (Some k) is = absurd is
 second-known (Some w) None is = absurd is
 second-known (Some w) (Some k) is = is
 
-module _ {P : Type 0} {g : Ghosts P} (honest : Type 0) (up0 down0 up down : Pipe) (w : PairRun) (e : PairEnds P g) where
+module _ {P : Type 0} {g : Ghosts P} (honest : Type 0) (up0 down0 up down : Pipe) (w : PairRun) (e : TwoFronts P g) where
   -- after a settle both pipes are still
   pub settled-still : (mode : Mode) → InPairRun mode honest up0 down0 up down (pair_settled w) e → IsAtRest (pair_settled w)
   settled-still calm run =
@@ -85,7 +85,7 @@ module _ {P : Type 0} {g : Ghosts P} (honest : Type 0) (up0 down0 up down : Pipe
       let link = world.on_link in
       let rests : IsAtRest w1 = settled-still targeted run in
       let still : awaited w1.up ≡ [] = awaited-none w1.up rests.up.flying rests.up.held in
-      let none : e.splitter.whole ++ awaited w1.up ≡ [] = ap (λ ws. ws ++ awaited w1.up) run.none_whole ∙ still in
+      let none : e.ends.splitter.whole ++ awaited w1.up ≡ [] = ap (λ ws. ws ++ awaited w1.up) run.none_whole ∙ still in
       let fits : Fits pair_replay.take pair_replay.join PairIsFit no_fronts w1 =
       subst (λ ws. FitsWith pair_replay.take pair_replay.join PairIsFit no_fronts w1 (ws ++ awaited w1.up)) run.none_whole link.fits in
       let p : FrontValues = pair_value world.fronts_are.asked e.fronts.pair in
@@ -138,17 +138,17 @@ abbrev UpHasRoom : PairRun → ℕ → Type 0
 UpHasRoom w n = RoomThroughout (pair_step pair_reads client_steps) PairRoom w.state (arriving n w.up)
 
 -- the up pipe was delivered, and then the down pipe
-pub deliver-goes : {P : Type 0} {g : Ghosts P} (result : Result (Unit {0}) Stop) (old mid new : Moment (PairEnds P g))
-    → PairGoes {T = Unit {0}} old mid (Ok tt) (delivers_up old.ends.up_there)
-    → PairGoes mid new result (delivers_down mid.ends.down_there)
+pub deliver-goes : {P : Type 0} {g : Ghosts P} (result : Result (Unit {0}) Stop) (old mid new : Moment (TwoFronts P g))
+    → PairGoes {T = Unit {0}} old mid (Ok tt) (delivers_up old.ends.ends.up_there)
+    → PairGoes mid new result (delivers_down mid.ends.ends.down_there)
     → PairGoes old new result delivers_all
 deliver-goes result old mid new up down = λ mode up0 down0 w may run.
     let first = up mode up0 down0 w tt run in
     let after : ℕ → PairRun = λ n. delivered_up (pair_step pair_reads client_steps) n w in
-    let all : old.ends.up_there ≡ length w.up.flying = run.so_far.in_world.on_link.up_left in
-    let then = down mode up0 down0 (after old.ends.up_there) tt first.1 in
-    let same : delivered_down mid.ends.down_there (after old.ends.up_there) ≡ pair_settled w =
-    ap (λ m. delivered_down m (after old.ends.up_there)) first.1.so_far.in_world.on_link.down_left
+    let all : old.ends.ends.up_there ≡ length w.up.flying = run.so_far.in_world.on_link.up_left in
+    let then = down mode up0 down0 (after old.ends.ends.up_there) tt first.1 in
+    let same : delivered_down mid.ends.ends.down_there (after old.ends.ends.up_there) ≡ pair_settled w =
+    ap (λ m. delivered_down m (after old.ends.ends.up_there)) first.1.so_far.in_world.on_link.down_left
     ∙ ap (λ m. delivered_down (length (after m).down.flying) (after m)) all in (
       room-iff result ⊤ (SettleHasRoom w) (λ room. tt) (λ t. subst (UpHasRoom w) all first.0) then.0,
       on-ok result
@@ -157,9 +157,9 @@ deliver-goes result old mid new up down = λ mode up0 down0 w may run.
     )
 
 -- or the up pipe was not
-pub deliver-stops : {P : Type 0} {g : Ghosts P} (stop : Stop) (old new : Moment (PairEnds P g))
-    → PairGoes {T = Unit {0}} old new (Err stop) (delivers_up old.ends.up_there)
+pub deliver-stops : {P : Type 0} {g : Ghosts P} (stop : Stop) (old new : Moment (TwoFronts P g))
+    → PairGoes {T = Unit {0}} old new (Err stop) (delivers_up old.ends.ends.up_there)
     → PairGoes {T = Unit {0}} old new (Err stop) delivers_all
 deliver-stops stop old new up = λ mode up0 down0 w may run.
-    let all : old.ends.up_there ≡ length w.up.flying = run.so_far.in_world.on_link.up_left in
+    let all : old.ends.ends.up_there ≡ length w.up.flying = run.so_far.in_world.on_link.up_left in
     (subst (λ n. RoomTold {T = Unit {0}} (Err stop) (UpHasRoom w n)) all (up mode up0 down0 w tt run).0, tt)

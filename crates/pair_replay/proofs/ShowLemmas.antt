@@ -38,8 +38,8 @@ use Rattle.replay_parts.specs.declared.stop.Stop.{Stop}
 use Rattle.replay_parts.specs.Moments.{Moment, moment, scene}
 use Rattle.replay_parts.specs.Stops.{HasStopCause, GoesWell}
 use Rattle.replay_parts.specs.Answers.{RunTells, RunTook}
-use Rattle.pair_replay.specs.declared.ends.PairEnds.{PairEnds}
-use Rattle.pair_replay.specs.declared.ends.Told.{Told}
+use Rattle.pair_replay.specs.declared.two_fronts.TwoFronts.{TwoFronts}
+use Rattle.pair_replay.specs.declared.two_fronts.Told.{Told}
 use Rattle.pair_replay.specs.Tellings.{told_seen}
 use Rattle.pair_replay.specs.PairStarts.{told_held, with_told_held, second_end_text}
 use Rattle.pair_replay.specs.PairAnswers.{PairRunTook}
@@ -65,7 +65,7 @@ same-took result sink0 sink1 link0 link1 before after text text1 cause well same
 
 -- ---- the outline and the sheets
 
-module _ {P : Type 0} {g : Ghosts P} (second : Bool) (result : Result (Unit {0}) Stop) (mid : Moment (PairEnds P g))
+module _ {P : Type 0} {g : Ghosts P} (second : Bool) (result : Result (Unit {0}) Stop) (mid : Moment (TwoFronts P g))
     (taken taken1 : Option (List ℕ))
     (number sink0 sink1 link0 link1 : ℕ) (cause : HasStopCause sink0 sink1 link0 link1 result) (well : GoesWell result)
     (there : is_there second mid.ends.fronts.pair ≡ true) (heading : List ℕ) where
@@ -113,7 +113,7 @@ module _ {P : Type 0} {g : Ghosts P} (second : Bool) (result : Result (Unit {0})
 -- ---- what is told
 
 -- as many came as were told of the front end that is meant
-ends-told : {P : Type 0} {g : Ghosts P} (second : Bool) (e e1 : PairEnds P g) (t : Told) (told : PairAudience) (n : AlreadyTold)
+ends-told : {P : Type 0} {g : Ghosts P} (second : Bool) (e e1 : TwoFronts P g) (t : Told) (told : PairAudience) (n : AlreadyTold)
     → e1 ≡ with_told_held second t e → told_seen t ≡ n → ((b : Bool) → told_seen (told_held b e) ≡ told_on b told)
     → pair_ends_of e1
     ≡ record (pair_ends_of e) { first_told = (with_told second n told).first; second_told = (with_told second n told).second }
@@ -122,8 +122,8 @@ ends-told false e e1 t told n is same others =
 ends-told true e e1 t told n is same others =
     ap pair_ends_of is ∙ (λ i. record (pair_ends_of e) { first_told = others false i; second_told = same i })
 
-splitter-told : {P : Type 0} {g : Ghosts P} (second : Bool) (t : Told) (e : PairEnds P g)
-    → (with_told_held second t e).splitter ≡ e.splitter
+splitter-told : {P : Type 0} {g : Ghosts P} (second : Bool) (t : Told) (e : TwoFronts P g)
+    → (with_told_held second t e).ends.splitter ≡ e.ends.splitter
 splitter-told false t e = refl
 splitter-told true t e = refl
 
@@ -132,7 +132,8 @@ panels-told false n told = refl
 panels-told true n told = refl
 
 -- what was told of the front end that is meant says nothing of the link
-pub told-run : {P : Type 0} {g : Ghosts P} (second : Bool) (start : PairStarted) (up0 down0 up down : Pipe) (e e1 : PairEnds P g) (t : Told)
+pub told-run : {P : Type 0} {g : Ghosts P} (second : Bool) (start : PairStarted) (up0 down0 up down : Pipe) (e e1 : TwoFronts P g)
+    (t : Told)
     → e1 ≡ with_told_held second t e → FollowsPairRun start up0 down0 up down e → FollowsPairRun start up0 down0 up down e1
 told-run false start up0 down0 up down e e1 t is run =
     subst (λ x. FollowsPairRun start up0 down0 up down x) (sym is)
@@ -142,7 +143,7 @@ told-run true start up0 down0 up down e e1 t is run =
     (run-told start up0 down0 up down e (with_told_held true t e) refl refl run)
 
 -- nor does a call after which so much was told
-pub keeps-told : {P : Type 0} {g : Ghosts P} (second : Bool) (old mid : Moment (PairEnds P g)) (e : PairEnds P g) (t : Told)
+pub keeps-told : {P : Type 0} {g : Ghosts P} (second : Bool) (old mid : Moment (TwoFronts P g)) (e : TwoFronts P g) (t : Told)
     → e ≡ with_told_held second t mid.ends → KeepsPair {T = Unit {0}} old mid (Ok tt)
     → KeepsPair {T = Unit {0}} old (record mid { ends = e }) (Ok tt)
 keeps-told second old mid e t is keeps = λ start up0 down0 run.
@@ -151,7 +152,7 @@ keeps-told second old mid e t is keeps = λ start up0 down0 run.
 
 -- both runs go on, with so much told
 pub told-play : {P : Type 0} {g : Ghosts P} (second : Bool) (honest : Type 0) (up0 down0 up down : Pipe) (more : ℕ) (w v : PairRun)
-    (e e1 : PairEnds P g) (t : Told) (n : AlreadyTold) (told1 : PairAudience)
+    (e e1 : TwoFronts P g) (t : Told) (n : AlreadyTold) (told1 : PairAudience)
     → Settled honest up0 down0 up down (more + 3) w v e → e1 ≡ with_told_held second t e → told_seen t ≡ n
     → InPairPlay honest up0 down0 up down more (pair_telling (with_told second n w.told) (pair_settled w))
     (pair_telling told1 (pair_refreshes v)) e1
@@ -159,11 +160,11 @@ told-play second honest up0 down0 up down more w v e e1 t n told1 s is same =
     settled-telling honest up0 down0 up down (more + 3) w v e s more (with_told second n w.told) told1 e1 (omega arith)
     (panels-told second n w.told)
     (ends-told second e e1 t w.told n is same (settled-told honest up0 down0 up down (more + 3) w v e s))
-    (ap (λ (x : PairEnds _ _). x.splitter) is ∙ splitter-told second t e)
+    (ap (λ (x : TwoFronts _ _). x.ends.splitter) is ∙ splitter-told second t e)
 
 -- ---- the replies
 
-module _ {P : Type 0} {g : Ghosts P} (second : Bool) (mid : Moment (PairEnds P g)) (taken taken1 : Option (List ℕ))
+module _ {P : Type 0} {g : Ghosts P} (second : Bool) (mid : Moment (TwoFronts P g)) (taken taken1 : Option (List ℕ))
     (number sink0 sink1 link0 link1 : ℕ) (there : is_there second mid.ends.fronts.pair ≡ true) (heading : List ℕ) (told : Told)
     (told_is : told ≡ told_held second mid.ends) where
   -- those that are printed are new
@@ -186,7 +187,8 @@ module _ {P : Type 0} {g : Ghosts P} (second : Bool) (mid : Moment (PairEnds P g
       ∙ ap (λ ts. heading_on second (codes "# replies") ++ told_lines ts) kept
 
   -- they were printed, and count as told
-  pub replies-said : (replies : List Kept) (e1 : PairEnds P g) (count : ℕ) → heading ≡ cond second (codes "# replies 2") (codes "# replies")
+  pub replies-said : (replies : List Kept) (e1 : TwoFronts P g) (count : ℕ) → heading ≡ cond second (codes "# replies 2")
+      (codes "# replies")
       → replies ≡ (front_meant second mid.ends.fronts.pair).value.replies → count ≡ length replies
       → e1 ≡ with_told_held second (record { replies = count; pauses = told.pauses }) mid.ends
       → Appends taken taken1 (heading ++ 10 ∷ told_lines (map reply_shown (drop told.replies replies)))
@@ -229,7 +231,7 @@ module _ {P : Type 0} {g : Ghosts P} (second : Bool) (mid : Moment (PairEnds P g
 
 -- ---- the pauses
 
-module _ {P : Type 0} {g : Ghosts P} (second : Bool) (mid : Moment (PairEnds P g)) (taken taken1 : Option (List ℕ))
+module _ {P : Type 0} {g : Ghosts P} (second : Bool) (mid : Moment (TwoFronts P g)) (taken taken1 : Option (List ℕ))
     (number sink0 sink1 link0 link1 : ℕ) (there : is_there second mid.ends.fronts.pair ≡ true) (heading : List ℕ) (told : Told)
     (told_is : told ≡ told_held second mid.ends) where
   -- those that are printed are new
@@ -253,7 +255,7 @@ module _ {P : Type 0} {g : Ghosts P} (second : Bool) (mid : Moment (PairEnds P g
       ∙ ap (λ t. heading_on second (codes "# pauses") ++ t) lines
 
   -- they were printed, and count as told
-  pub pauses-said : (pauses : List SeenPause) (e1 : PairEnds P g) (count : ℕ)
+  pub pauses-said : (pauses : List SeenPause) (e1 : TwoFronts P g) (count : ℕ)
       → heading ≡ cond second (codes "# pauses 2") (codes "# pauses")
       → pauses ≡ (front_meant second mid.ends.fronts.pair).value.pauses → count ≡ length pauses
       → e1 ≡ with_told_held second (record { replies = told.replies; pauses = count }) mid.ends
@@ -306,7 +308,7 @@ marked : (second : Bool) → cond second (codes " 2") [] ≡ mark_on second
 marked false = refl
 marked true = refl
 
-pub styles-say : {P : Type 0} {g : Ghosts P} (second : Bool) (result : Result (Unit {0}) Stop) (mid : Moment (PairEnds P g))
+pub styles-say : {P : Type 0} {g : Ghosts P} (second : Bool) (result : Result (Unit {0}) Stop) (mid : Moment (TwoFronts P g))
     (taken taken1 : Option (List ℕ)) (number ask : ℕ) (behind : List ℕ) (found : Option Matched)
     → is_there second mid.ends.fronts.pair ≡ true → behind ≡ cond second (codes " 2") []
     → found ≡ matched_in ask (front_meant second mid.ends.fronts.pair).value.matched
@@ -341,7 +343,7 @@ pub panels-first : SettlesFirst (of_first show_panels)
 panels-first = record { good = λ w v same lacks room. room.0; bad = refl }
 
 -- what the panels show that stand open: they are told of the first front end
-pub panels-carry : {P : Type 0} {g : Ghosts P} (result : Result (Unit {0}) Stop) (old mid : Moment (PairEnds P g))
+pub panels-carry : {P : Type 0} {g : Ghosts P} (result : Result (Unit {0}) Stop) (old mid : Moment (TwoFronts P g))
     (taken taken1 : Option (List ℕ))
     (number sink0 sink1 link0 link1 : ℕ) (front : FrontState)
     → HasStopCause sink0 sink1 link0 link1 result → GoesWell result → PairSteps {T = Unit {0}} 0 old mid (Ok tt) refreshing

@@ -5,7 +5,7 @@ use Rattle.std.proofs.lemmas.List.Elements.{All-nil}
 use Rattle.front_mirror.specs.declared.panels.Panel.{Ghosts}
 use Rattle.front_mirror.specs.declared.panels.PanelKind.{PanelKind}
 use Rattle.pipe_frames.specs.Pipe.{Pipe, IsLevel}
-use Rattle.pipe_frames.specs.Frames.{Frames, frames_of}
+use Rattle.pipe_frames.specs.Frames.{frames_of}
 use Rattle.page_tree.specs.Forms.{max_nodes}
 use Rattle.page_forms.specs.Pages.{LoadedPage, CanLoadPage}
 use Rattle.page_forms.specs.Sheets.{max_sheets}
@@ -27,7 +27,8 @@ use Rattle.pair_world.specs.PairHeld.{CountsNone, calm, up_reads, InPairWorld}
 use Rattle.pair_world.specs.PairLinks.{LinkMoment, PairStarted, pair_started, DrewOne, FollowsPair}
 use Rattle.pair_world.proofs.PairLemmas.{pairs-fit}
 use Rattle.pair_world.proofs.SameSteps.{starts-are-same}
-use Rattle.pair_replay.specs.declared.ends.PairEnds.{PairEnds}
+use Rattle.replay_parts.specs.LinkEnds.{LinkEnds}
+use Rattle.pair_replay.specs.declared.two_fronts.TwoFronts.{TwoFronts}
 use Rattle.pair_replay.specs.PairStarts.{AreNewEnds}
 use Rattle.pair_replay.specs.Running.{pair_ends_of, InPairRun, InPairPlay}
 use Rattle.pair_replay.specs.Following.{FollowsPairRun}
@@ -48,15 +49,15 @@ first_held kinds h = record {
   second_told = nothing_told;
 }
 
-ends-first : {P : Type 0} {g : Ghosts P} (e : PairEnds P g) (kinds : List PanelKind) (page : LoadedPage) → AreNewEnds e kinds page
+ends-first : {P : Type 0} {g : Ghosts P} (e : TwoFronts P g) (kinds : List PanelKind) (page : LoadedPage) → AreNewEnds e kinds page
     → pair_ends_of e ≡ first_held kinds (pair_ends_of e)
 ends-first e kinds page new = λ i. record {
   mux = e.mux;
   side = e.side;
-  back_rest = (new.splitter i).rest;
+  back_rest = (new.ends i).splitter.rest;
   fronts = new.fronts i;
-  up_there = new.up i;
-  down_there = new.down i;
+  up_there = (new.ends i).up_there;
+  down_there = (new.ends i).down_there;
   first_told = new.first_told i;
   second_told = new.second_told i;
 }
@@ -98,11 +99,11 @@ world-first up down kinds page h can texts up_level down_level stands = record {
   second_told = refl;
 }
 
-module _ {P : Type 0} {g : Ghosts P} (honest : Type 0) (up down : Pipe) (kinds : List PanelKind) (page : LoadedPage) (e : PairEnds P g)
+module _ {P : Type 0} {g : Ghosts P} (honest : Type 0) (up down : Pipe) (kinds : List PanelKind) (page : LoadedPage) (e : TwoFronts P g)
     (is_honest : honest) (can : CanLoadPage page) (texts : PageHasTexts page) (up_level : IsLevel up) (down_level : IsLevel down)
     (new : AreNewEnds e kinds page) where
-  none : e.splitter.whole ≡ []
-  none = ap (λ (f : Frames). f.whole) new.splitter
+  none : e.ends.splitter.whole ≡ []
+  none = ap (λ (x : LinkEnds). x.splitter.whole) new.ends
 
   pub begins : InPairRun calm honest up down up down (pair_loaded_run kinds page) e
   begins = record {
@@ -175,15 +176,15 @@ follows-first up down kinds page lines h up_within down_within can texts few sta
       few_sessions = omega arith;
     }
 
-pub run-first : {P : Type 0} {g : Ghosts P} (up down : Pipe) (kinds : List PanelKind) (page : LoadedPage) (lines : ℕ) (e : PairEnds P g)
+pub run-first : {P : Type 0} {g : Ghosts P} (up down : Pipe) (kinds : List PanelKind) (page : LoadedPage) (lines : ℕ) (e : TwoFronts P g)
     → length up.given ≤ length up.sent → length down.given ≤ length down.sent → CanLoadPage page → PageHasTexts page → lines ≤ 2 ^ 26
     → AreNewEnds e kinds page
     → FollowsPairRun (pair_started (loaded_pair page) lines (map Some kinds) no_moment) up down up down e
 run-first up down kinds page lines e up_within down_within can texts few new =
     let start : PairStarted = pair_started (loaded_pair page) lines (map Some kinds) no_moment in
-    let none : e.splitter.whole ≡ [] = ap (λ (f : Frames). f.whole) new.splitter in
+    let none : e.ends.splitter.whole ≡ [] = ap (λ (x : LinkEnds). x.splitter.whole) new.ends in
     record {
-      so_far = subst (λ h. FollowsPair start up down up down e.splitter.whole h) (sym (ends-first e kinds page new))
+      so_far = subst (λ h. FollowsPair start up down up down e.ends.splitter.whole h) (sym (ends-first e kinds page new))
           (subst (λ frames. FollowsPair start up down up down frames (first_held kinds (pair_ends_of e))) (sym none)
           (follows-first up down kinds page lines (pair_ends_of e) up_within down_within can texts few
           (new-pairs-stand e.mux e.side page can texts new.mux)));

@@ -34,8 +34,8 @@ use Rattle.replay_parts.specs.declared.stop.Stop.TheVariants.{Line}
 use Rattle.replay_parts.specs.Moments.{Moment, scene}
 use Rattle.replay_parts.specs.Stops.{HasStopCause}
 use Rattle.replay_parts.specs.Answers.{RunTells}
-use Rattle.pair_replay.specs.declared.ends.PairEnds.{PairEnds}
-use Rattle.pair_replay.specs.declared.ends.Told.{Told}
+use Rattle.pair_replay.specs.declared.two_fronts.TwoFronts.{TwoFronts}
+use Rattle.pair_replay.specs.declared.two_fronts.Told.{Told}
 use Rattle.pair_replay.specs.Tellings.{told_seen}
 use Rattle.pair_replay.specs.PairStarts.{with_told_held}
 use Rattle.pair_replay.specs.PairAnswers.{PairRunTook, RoomTold}
@@ -68,7 +68,7 @@ pub record Targets (form : PairForm) (Right : Option ℕ → Type 0) (mk : ℕ �
 
 module _ {P : Type 0} {g : Ghosts P} (form : PairForm) (Right : Option ℕ → Type 0) (mk : ℕ → List ℕ) (text : PairRun → List ℕ)
     (count : PairSpent → PairSpent) (retold : PairAudience → PairAudience) (targets : Targets form Right mk text count retold)
-    (honest1 : Type 0) (up0 down0 up1 down1 : Pipe) (more : ℕ) (w v : PairRun) (e1 : PairEnds P g)
+    (honest1 : Type 0) (up0 down0 up1 down1 : Pipe) (more : ℕ) (w v : PairRun) (e1 : TwoFronts P g)
     (both : PairTogether IsPlainOfPair (more + least_line) w v) (s : Settled honest1 up0 down0 up1 down1 (more + 3) w v e1)
     (right : Right w.state.attached) where
   -- the run with fetches, after the first settle
@@ -151,11 +151,11 @@ module _ {P : Type 0} {g : Ghosts P} (form : PairForm) (Right : Option ℕ → T
       told-still = refreshes-told sent_first ∙ refreshes-told v
 
   -- the second settle came through
-  pub target-play : (honest3 : Type 0) (up3 down3 : Pipe) (e3 e4 : PairEnds P g)
+  pub target-play : (honest3 : Type 0) (up3 down3 : Pipe) (e3 e4 : TwoFronts P g)
       → InPairRun calm honest3 up0 down0 up3 down3 (pair_refreshes (pair_telling w.told sent_first)) e3
       → RefreshHasRoom (pair_telling w.told sent_first)
       → pair_ends_of e4 ≡ record (pair_ends_of e3) { first_told = (retold w.told).first; second_told = (retold w.told).second }
-      → e4.splitter ≡ e3.splitter
+      → e4.ends.splitter ≡ e3.ends.splitter
       → InPairPlay honest3 up0 down0 up3 down3 more (after_pair_line form w) (fresh_pair_line form v) e4
       × line_or (pair_lacking form w) form v ⊤
   target-play honest3 up3 down3 e3 e4 run room is same =
@@ -180,9 +180,9 @@ module _ {P : Type 0} {g : Ghosts P} (form : PairForm) (Right : Option ℕ → T
 
 -- ---- the whole line
 
-module _ {P : Type 0} {g : Ghosts P} (form : PairForm) (number : ℕ) (taken : Option (List ℕ)) (old mid : Moment (PairEnds P g)) where
+module _ {P : Type 0} {g : Ghosts P} (form : PairForm) (number : ℕ) (taken : Option (List ℕ)) (old mid : Moment (TwoFronts P g)) where
   -- what such a line says, where the session is as it has to be
-  abbrev pub Says : Result (Unit {0}) Stop → Moment (PairEnds P g) → (up0 down0 : Pipe) → ℕ → PairRun → PairRun → Type 0
+  abbrev pub Says : Result (Unit {0}) Stop → Moment (TwoFronts P g) → (up0 down0 : Pipe) → ℕ → PairRun → PairRun → Type 0
   Says result new up0 down0 more w v =
       OnOk result (InPairPlay new.honest up0 down0 new.up new.down more (after_pair_line form w) (fresh_pair_line form v) new.ends)
       × PairRunTook result taken taken (text_unless (pair_lacking form w) (pair_line_text number form w))
@@ -190,7 +190,7 @@ module _ {P : Type 0} {g : Ghosts P} (form : PairForm) (number : ℕ) (taken : O
       × RoomTold result (line_or (pair_lacking form w) form v ⊤)
 
   -- it says so of any run, once the first settle came through
-  pub by-settle : (result : Result (Unit {0}) Stop) (new : Moment (PairEnds P g)) → PairSteps {T = Unit {0}} 0 old mid (Ok tt) refreshing
+  pub by-settle : (result : Result (Unit {0}) Stop) (new : Moment (TwoFronts P g)) → PairSteps {T = Unit {0}} 0 old mid (Ok tt) refreshing
       → ((up0 down0 : Pipe) (more : ℕ) (w v : PairRun) → PairTogether IsPlainOfPair (more + least_line) w v
       → Settled mid.honest up0 down0 mid.up mid.down (more + 3) w v mid.ends → Says result new up0 down0 more w v)
       → PairCarries (numbered_pair number form) (scene old taken) (scene new taken) result
@@ -202,7 +202,7 @@ module _ {P : Type 0} {g : Ghosts P} (form : PairForm) (number : ℕ) (taken : O
   module _ (Right : Option ℕ → Type 0) (mk : ℕ → List ℕ) (text : PairRun → List ℕ) (count : PairSpent → PairSpent)
       (retold : PairAudience → PairAudience) (targets : Targets form Right mk text count retold) where
     -- the command was not sent
-    pub target-unsent : (stop : Stop) (new : Moment (PairEnds P g)) (sink0 sink1 link0 link1 : ℕ)
+    pub target-unsent : (stop : Stop) (new : Moment (TwoFronts P g)) (sink0 sink1 link0 link1 : ℕ)
         → HasStopCause {T = Unit {0}} sink0 sink1 link0 link1 (Err stop)
         → PairSteps {T = Unit {0}} 0 mid new (Err stop) (targets_up text count)
         → (up0 down0 : Pipe) (more : ℕ) (w v : PairRun) → PairTogether IsPlainOfPair (more + least_line) w v
@@ -220,7 +220,7 @@ module _ {P : Type 0} {g : Ghosts P} (form : PairForm) (number : ℕ) (taken : O
         )
 
     -- the second settle stopped
-    pub target-stops : (stop : Stop) (mid2 new : Moment (PairEnds P g)) (sink0 sink1 link0 link1 : ℕ)
+    pub target-stops : (stop : Stop) (mid2 new : Moment (TwoFronts P g)) (sink0 sink1 link0 link1 : ℕ)
         → HasStopCause {T = Unit {0}} sink0 sink1 link0 link1 (Err stop)
         → PairSteps {T = Unit {0}} 0 mid mid2 (Ok tt) (targets_up text count)
         → PairSteps {T = Unit {0}} 0 mid2 new (Err stop) refreshing
@@ -251,12 +251,12 @@ module _ {P : Type 0} {g : Ghosts P} (form : PairForm) (number : ℕ) (taken : O
         )
 
     -- or came through
-    pub target-done : (mid2 mid3 : Moment (PairEnds P g)) (e : PairEnds P g)
+    pub target-done : (mid2 mid3 : Moment (TwoFronts P g)) (e : TwoFronts P g)
         → PairSteps {T = Unit {0}} 0 mid mid2 (Ok tt) (targets_up text count)
         → PairSteps {T = Unit {0}} 0 mid2 mid3 (Ok tt) refreshing
         → ((told : PairAudience) → (pair_ends_of mid3.ends).first_told ≡ told.first → (pair_ends_of mid3.ends).second_told ≡ told.second
         → pair_ends_of e ≡ record (pair_ends_of mid3.ends) { first_told = (retold told).first; second_told = (retold told).second })
-        → e.splitter ≡ mid3.ends.splitter
+        → e.ends.splitter ≡ mid3.ends.ends.splitter
         → (up0 down0 : Pipe) (more : ℕ) (w v : PairRun)
         → PairTogether IsPlainOfPair (more + least_line) w v
         → Settled mid.honest up0 down0 mid.up mid.down (more + 3) w v mid.ends → Right w.state.attached
@@ -382,7 +382,7 @@ detach-first = record {
 -- ---- both lines
 
 -- the session of the run is as the front ends have it
-module _ {P : Type 0} {g : Ghosts P} (number : ℕ) (taken : Option (List ℕ)) (old mid : Moment (PairEnds P g))
+module _ {P : Type 0} {g : Ghosts P} (number : ℕ) (taken : Option (List ℕ)) (old mid : Moment (TwoFronts P g))
     (steps : PairSteps {T = Unit {0}} 0 old mid (Ok tt) refreshing) where
   -- an attach where a session is attached
   pub attach-refused : (stop : Stop) → stop ≡ Line number BadSession → is_there true mid.ends.fronts.pair ≡ true
@@ -399,7 +399,7 @@ module _ {P : Type 0} {g : Ghosts P} (number : ℕ) (taken : Option (List ℕ)) 
       (λ up0 down0 bytes w v s. ap (λ b. first_of (cond b None (Some BadSession)) None) (sym s.stands ∙ there))
 
   module _ (there : is_there true mid.ends.fronts.pair ≡ false) where
-    pub attach-unsent : (stop : Stop) (new : Moment (PairEnds P g)) (sink0 sink1 link0 link1 : ℕ)
+    pub attach-unsent : (stop : Stop) (new : Moment (TwoFronts P g)) (sink0 sink1 link0 link1 : ℕ)
         → HasStopCause {T = Unit {0}} sink0 sink1 link0 link1 (Err stop)
         → PairSteps {T = Unit {0}} 0 mid new (Err stop) sending_attach
         → PairCarries {T = Unit {0}} (numbered_pair number attach_session) (scene old taken) (scene new taken) (Err stop)
@@ -410,7 +410,7 @@ module _ {P : Type 0} {g : Ghosts P} (number : ℕ) (taken : Option (List ℕ)) 
         (with_told true nothing_told) attach-targets stop new sink0 sink1 link0 link1 cause steps1 up0 down0 more w v both s
         (none-of w.state.attached (sym s.stands ∙ there)))
 
-    pub attach-stops : (stop : Stop) (mid2 new : Moment (PairEnds P g)) (sink0 sink1 link0 link1 : ℕ)
+    pub attach-stops : (stop : Stop) (mid2 new : Moment (TwoFronts P g)) (sink0 sink1 link0 link1 : ℕ)
         → HasStopCause {T = Unit {0}} sink0 sink1 link0 link1 (Err stop)
         → PairSteps {T = Unit {0}} 0 mid mid2 (Ok tt) sending_attach → PairSteps {T = Unit {0}} 0 mid2 new (Err stop) refreshing
         → PairCarries {T = Unit {0}} (numbered_pair number attach_session) (scene old taken) (scene new taken) (Err stop)
@@ -421,7 +421,7 @@ module _ {P : Type 0} {g : Ghosts P} (number : ℕ) (taken : Option (List ℕ)) 
         (with_told true nothing_told) attach-targets stop mid2 new sink0 sink1 link0 link1 cause steps1 steps2 up0 down0 more w v both s
         (none-of w.state.attached (sym s.stands ∙ there)))
 
-    pub attach-done : (mid2 mid3 : Moment (PairEnds P g)) (e : PairEnds P g) (t : Told)
+    pub attach-done : (mid2 mid3 : Moment (TwoFronts P g)) (e : TwoFronts P g) (t : Told)
         → PairSteps {T = Unit {0}} 0 mid mid2 (Ok tt) sending_attach → PairSteps {T = Unit {0}} 0 mid2 mid3 (Ok tt) refreshing
         → e ≡ with_told_held true t mid3.ends → told_seen t ≡ nothing_told
         → PairCarries {T = Unit {0}} (numbered_pair number attach_session) (scene old taken) (scene (record mid3 { ends = e }) taken)
@@ -433,11 +433,11 @@ module _ {P : Type 0} {g : Ghosts P} (number : ℕ) (taken : Option (List ℕ)) 
         (with_told true nothing_told) attach-targets mid2 mid3 e steps1 steps2
         (λ told first second.
         ap pair_ends_of is ∙ (λ i. record (pair_ends_of mid3.ends) { first_told = first i; second_told = told_is i }))
-        (ap (λ (x : PairEnds P g). x.splitter) is) up0 down0 more w v both s
+        (ap (λ (x : TwoFronts P g). x.ends.splitter) is) up0 down0 more w v both s
         (none-of w.state.attached (sym s.stands ∙ there)))
 
   module _ (there : is_there true mid.ends.fronts.pair ≡ true) where
-    pub detach-unsent : (stop : Stop) (new : Moment (PairEnds P g)) (sink0 sink1 link0 link1 : ℕ)
+    pub detach-unsent : (stop : Stop) (new : Moment (TwoFronts P g)) (sink0 sink1 link0 link1 : ℕ)
         → HasStopCause {T = Unit {0}} sink0 sink1 link0 link1 (Err stop)
         → PairSteps {T = Unit {0}} 0 mid new (Err stop) sending_detach
         → PairCarries {T = Unit {0}} (numbered_pair number detach_session) (scene old taken) (scene new taken) (Err stop)
@@ -450,7 +450,7 @@ module _ {P : Type 0} {g : Ghosts P} (number : ℕ) (taken : Option (List ℕ)) 
         (detach-targets k.0) stop new sink0
         sink1 link0 link1 cause steps1 up0 down0 more w v both s k.1)
 
-    pub detach-stops : (stop : Stop) (mid2 new : Moment (PairEnds P g)) (sink0 sink1 link0 link1 : ℕ)
+    pub detach-stops : (stop : Stop) (mid2 new : Moment (TwoFronts P g)) (sink0 sink1 link0 link1 : ℕ)
         → HasStopCause {T = Unit {0}} sink0 sink1 link0 link1 (Err stop)
         → PairSteps {T = Unit {0}} 0 mid mid2 (Ok tt) sending_detach → PairSteps {T = Unit {0}} 0 mid2 new (Err stop) refreshing
         → PairCarries {T = Unit {0}} (numbered_pair number detach_session) (scene old taken) (scene new taken) (Err stop)
@@ -463,7 +463,7 @@ module _ {P : Type 0} {g : Ghosts P} (number : ℕ) (taken : Option (List ℕ)) 
         (detach-targets k.0) stop mid2 new
         sink0 sink1 link0 link1 cause steps1 steps2 up0 down0 more w v both s k.1)
 
-    pub detach-done : (mid2 mid3 : Moment (PairEnds P g))
+    pub detach-done : (mid2 mid3 : Moment (TwoFronts P g))
         → PairSteps {T = Unit {0}} 0 mid mid2 (Ok tt) sending_detach → PairSteps {T = Unit {0}} 0 mid2 mid3 (Ok tt) refreshing
         → PairCarries {T = Unit {0}} (numbered_pair number detach_session) (scene old taken) (scene mid3 taken) (Ok tt)
     detach-done mid2 mid3 steps1 steps2 =
@@ -477,7 +477,7 @@ module _ {P : Type 0} {g : Ghosts P} (number : ℕ) (taken : Option (List ℕ)) 
         both s k.1)
 
     -- however the settle after it came through
-    pub detach-ends : (result : Result (Unit {0}) Stop) (mid2 new : Moment (PairEnds P g)) (sink0 sink1 link0 link1 : ℕ)
+    pub detach-ends : (result : Result (Unit {0}) Stop) (mid2 new : Moment (TwoFronts P g)) (sink0 sink1 link0 link1 : ℕ)
         → HasStopCause sink0 sink1 link0 link1 result
         → PairSteps {T = Unit {0}} 0 mid mid2 (Ok tt) sending_detach → PairSteps 0 mid2 new result refreshing
         → PairCarries (numbered_pair number detach_session) (scene old taken) (scene new taken) result

@@ -1,74 +1,69 @@
 -- What holds of a run with two front ends over every link, whatever bytes it gives.
-use Rattle.std.specs.Prelude.{◌≡◌, ℕ, List, [], ◌∷◌, length, Option, None, Result, OnOk}
+use Rattle.std.specs.Prelude.{◌≡◌, ℕ, List, ◌∷◌, length, Option, None, Result, OnOk}
 use Rattle.front_mirror.specs.declared.panels.Panel.{Ghosts}
 use Rattle.front_mirror.specs.declared.panels.PanelKind.{PanelKind}
 use Rattle.pipe_frames.specs.Pipe.{Pipe}
 use Rattle.replay_script.specs.PairLines.{PairForm}
 use Rattle.replay_script.specs.Script.{numbered_or}
 use Rattle.pair_world.specs.PairLinks.{LinkMoment, IsLater, AreInOrderTo, PairStarted, pair_started, one_pair_line_more, FollowsPair}
+use Rattle.pair_world.specs.PairLinks.{pair_fold_of, sent_when_pair_is_full}
+use Rattle.pair_world.specs.PairFresh.{FrontValues}
 use Rattle.replay_parts.specs.declared.stop.Stop.{Stop}
 use Rattle.replay_parts.specs.Says.{says_of}
 use Rattle.replay_parts.specs.Answers.{AtEnd, RunTells}
 use Rattle.replay_parts.specs.Moments.{Moment, Scene}
-use Rattle.pair_replay.specs.declared.ends.PairEnds.{PairEnds}
+use Rattle.replay_parts.specs.LinkEnds.{EachAnswered}
+use Rattle.replay_parts.specs.LinkFolds.{Follower, Keeps, KeepsAnswers, KeepsAnswer}
+use Rattle.pair_replay.specs.declared.two_fronts.TwoFronts.{TwoFronts}
 use Rattle.pair_replay.specs.Running.{pair_ends_of}
 use Rattle.pair_replay.specs.PairAnswers.{PairStopFolds, PairEndsShown, PairAnswersInOrder, pair_since, moment_of}
 use Rattle.pair_replay.specs.Judged.{pair_panels_after, fault_at, AreJudged}
 
 -- the ends follow the link; the splitter may hold whole frames that are not yet answered
-abbrev pub FollowsPairWith : {P : Type 0} {g : Ghosts P} → PairStarted → (up0 down0 up down : Pipe) → PairEnds P g → Type 0
-FollowsPairWith start up0 down0 up down e = FollowsPair start up0 down0 up down e.splitter.whole (pair_ends_of e)
+abbrev pub FollowsPairWith : {P : Type 0} {g : Ghosts P} → PairStarted → (up0 down0 up down : Pipe) → TwoFronts P g → Type 0
+FollowsPairWith start up0 down0 up down e = FollowsPair start up0 down0 up down e.ends.splitter.whole (pair_ends_of e)
 
 -- the ends follow the link, and every whole frame is answered
-pub record FollowsPairRun {P : Type 0} {g : Ghosts P} (start : PairStarted) (up0 down0 up down : Pipe) (e : PairEnds P g) : Type 0 where
-  pub so_far : FollowsPairWith start up0 down0 up down e
-  pub none_whole : e.splitter.whole ≡ []
+abbrev pub FollowsPairRun : {P : Type 0} {g : Ghosts P} → PairStarted → (up0 down0 up down : Pipe) → TwoFronts P g → Type 0
+FollowsPairRun start up0 down0 up down e =
+    EachAnswered (λ waiting. FollowsPair start up0 down0 up down waiting (pair_ends_of e)) e.ends.splitter.whole
+
+-- both as one
+abbrev pub pair_follower : {P : Type 0} {g : Ghosts P} → Follower PairStarted (TwoFronts P g) FrontValues
+pair_follower = record {
+  follows = λ start up0 down0 up down waiting e. FollowsPair start up0 down0 up down waiting (pair_ends_of e);
+  whole = λ e. e.ends.splitter.whole;
+  fold = pair_fold_of;
+  full = sent_when_pair_is_full;
+}
 
 -- a call goes on following, or stops as the fold says
-abbrev pub KeepsPair : {P : Type 0} {g : Ghosts P} {T : Type 0} → Moment (PairEnds P g) → Moment (PairEnds P g) → Result T Stop → Type 0
-KeepsPair old new result =
-    (start : PairStarted) (up0 down0 : Pipe) → FollowsPairRun start up0 down0 old.up old.down old.ends
-    → OnOk result (FollowsPairRun start up0 down0 new.up new.down new.ends) × PairStopFolds result (pair_since up0 down0 new.up new.down)
-
--- one that leaves whole frames in the splitter
-abbrev pub KeepsPairWith : {P : Type 0} {g : Ghosts P} {T : Type 0} → Moment (PairEnds P g) → Moment (PairEnds P g) → Result T Stop → Type 0
-KeepsPairWith old new result =
-    (start : PairStarted) (up0 down0 : Pipe) → FollowsPairRun start up0 down0 old.up old.down old.ends
-    → OnOk result (FollowsPairWith start up0 down0 new.up new.down new.ends) × PairStopFolds result (pair_since up0 down0 new.up new.down)
+abbrev pub KeepsPair : {P : Type 0} {g : Ghosts P} {T : Type 0} → Moment (TwoFronts P g) → Moment (TwoFronts P g) → Result T Stop → Type 0
+KeepsPair old new result = Keeps pair_follower (λ start. start) (λ start. start) old new result
 
 -- one that answers all whole frames
-abbrev pub KeepsPairAnswers : {P : Type 0} {g : Ghosts P} {T : Type 0} → Moment (PairEnds P g) → Moment (PairEnds P g) → Result T Stop
+abbrev pub KeepsPairAnswers : {P : Type 0} {g : Ghosts P} {T : Type 0} → Moment (TwoFronts P g) → Moment (TwoFronts P g) → Result T Stop
     → Type 0
-KeepsPairAnswers old new result =
-    (start : PairStarted) (up0 down0 : Pipe) → FollowsPairWith start up0 down0 old.up old.down old.ends
-    → OnOk result (FollowsPairRun start up0 down0 new.up new.down new.ends) × PairStopFolds result (pair_since up0 down0 new.up new.down)
+KeepsPairAnswers old new result = KeepsAnswers pair_follower old new result
 
 -- one that answers this frame, before those that the splitter holds
-abbrev pub KeepsPairAnswer : {P : Type 0} {g : Ghosts P} {T : Type 0} → List ℕ → Moment (PairEnds P g) → Moment (PairEnds P g)
+abbrev pub KeepsPairAnswer : {P : Type 0} {g : Ghosts P} {T : Type 0} → List ℕ → Moment (TwoFronts P g) → Moment (TwoFronts P g)
     → Result T Stop → Type 0
-KeepsPairAnswer frame old new result =
-    (start : PairStarted) (up0 down0 : Pipe)
-    → FollowsPair start up0 down0 old.up old.down (frame ∷ old.ends.splitter.whole) (pair_ends_of old.ends)
-    → OnOk result (FollowsPairWith start up0 down0 new.up new.down new.ends) × PairStopFolds result (pair_since up0 down0 new.up new.down)
+KeepsPairAnswer frame old new result = KeepsAnswer pair_follower frame old new result
 
 -- one that carries out a line, and may make a step of the script
-abbrev pub PairLineFollows : {P : Type 0} {g : Ghosts P} {T : Type 0} → Moment (PairEnds P g) → Moment (PairEnds P g) → Result T Stop
+abbrev pub PairLineFollows : {P : Type 0} {g : Ghosts P} {T : Type 0} → Moment (TwoFronts P g) → Moment (TwoFronts P g) → Result T Stop
     → Type 0
-PairLineFollows old new result =
-    (start : PairStarted) (up0 down0 : Pipe) → FollowsPairRun (one_pair_line_more start) up0 down0 old.up old.down old.ends
-    → OnOk result (FollowsPairRun start up0 down0 new.up new.down new.ends) × PairStopFolds result (pair_since up0 down0 new.up new.down)
+PairLineFollows old new result = Keeps pair_follower one_pair_line_more (λ start. start) old new result
 
 -- a run after a line, which may have dropped a panel
 abbrev pub pair_passing : PairForm → PairStarted → PairStarted
 pair_passing form start = pair_started start.pair start.lines (pair_panels_after form start.panels) start.from
 
 -- one that carries out any line
-abbrev pub PairLinePasses : {P : Type 0} {g : Ghosts P} {T : Type 0} → PairForm → Moment (PairEnds P g) → Moment (PairEnds P g)
+abbrev pub PairLinePasses : {P : Type 0} {g : Ghosts P} {T : Type 0} → PairForm → Moment (TwoFronts P g) → Moment (TwoFronts P g)
     → Result T Stop → Type 0
-PairLinePasses form old new result =
-    (start : PairStarted) (up0 down0 : Pipe) → FollowsPairRun (one_pair_line_more start) up0 down0 old.up old.down old.ends
-    → OnOk result (FollowsPairRun (pair_passing form start) up0 down0 new.up new.down new.ends)
-    × PairStopFolds result (pair_since up0 down0 new.up new.down)
+PairLinePasses form old new result = Keeps pair_follower one_pair_line_more (pair_passing form) old new result
 
 -- a line with its number
 pub record NumberedPair : Type 0 where
@@ -89,7 +84,7 @@ pub record LineJudged {T : Type 0} (before after : LinkMoment) (panels : List (O
   pub last : (fault_at moment panels form ≡ None → ⊥) → moment ≡ after
 
 -- so it was, over every link
-abbrev pub PairLineTells : {P : Type 0} {g : Ghosts P} {T : Type 0} → NumberedPair → Moment (PairEnds P g) → Moment (PairEnds P g)
+abbrev pub PairLineTells : {P : Type 0} {g : Ghosts P} {T : Type 0} → NumberedPair → Moment (TwoFronts P g) → Moment (TwoFronts P g)
     → Result T Stop → Type 0
 PairLineTells line old new result =
     (start : PairStarted) (up0 down0 : Pipe) → FollowsPairRun (one_pair_line_more start) up0 down0 old.up old.down old.ends
@@ -106,12 +101,12 @@ pub record PairLinesJudged (after : LinkMoment) (panels : List (Option PanelKind
 
 -- the lines were carried out, and some panels are left
 pub record PairLinesCarried {P : Type 0} {g : Ghosts P} (start : PairStarted) (up0 down0 : Pipe)
-    (new : Moment (PairEnds P g)) : Type 0 where
+    (new : Moment (TwoFronts P g)) : Type 0 where
   pub panels : List (Option PanelKind)
   pub run : FollowsPairRun (pair_started start.pair 0 panels start.from) up0 down0 new.up new.down new.ends
 
 -- a call that carries out these lines goes on following, or stops as the fold and the lines say
-abbrev pub PairLinesFollow : {P : Type 0} {g : Ghosts P} {T : Type 0} → List (List ℕ) → Moment (PairEnds P g) → Moment (PairEnds P g)
+abbrev pub PairLinesFollow : {P : Type 0} {g : Ghosts P} {T : Type 0} → List (List ℕ) → Moment (TwoFronts P g) → Moment (TwoFronts P g)
     → Result T Stop → Type 0
 PairLinesFollow lines old new result =
     (start : PairStarted) (up0 down0 : Pipe)
@@ -121,7 +116,7 @@ PairLinesFollow lines old new result =
     × AtEnd (says_of result).phase (PairLinesJudged (moment_of up0 down0 new.up new.down) start.panels lines result)
 
 -- the closing part is printed
-abbrev pub PairClosesShown : {P : Type 0} {g : Ghosts P} {T : Type 0} → Scene (PairEnds P g) → Scene (PairEnds P g) → Result T Stop
+abbrev pub PairClosesShown : {P : Type 0} {g : Ghosts P} {T : Type 0} → Scene (TwoFronts P g) → Scene (TwoFronts P g) → Result T Stop
     → Type 0
 PairClosesShown old new result =
     (start : PairStarted) (up0 down0 : Pipe) → FollowsPairRun start up0 down0 old.now.up old.now.down old.now.ends

@@ -1,10 +1,9 @@
 -- What an answer of a run with two front ends says: of what was written, of room, and of the fold of what went over the link.
-use Rattle.std.specs.Prelude.{◌≡◌, ◌≤◌, ℕ, List, [], ◌∷◌, ◌++◌, length, map, codes, Option, Some, None, Result, Ok, Err, IsOk, ⊤}
+use Rattle.std.specs.Prelude.{◌≡◌, ◌≤◌, ℕ, List, [], ◌∷◌, ◌++◌, map, codes, Option, Some, None, Result, Ok, ⊤}
 use Rattle.std.specs.Io.KnownBytes.{Appends}
 use Rattle.pipe_frames.specs.Whole.{WrotePart}
 use Rattle.pipe_frames.specs.Pipe.{Pipe, sent_since, given_since}
 use Rattle.pipe_frames.specs.Frames.{frames_of}
-use Rattle.front_mirror.specs.declared.faults.FrontFault.{FrontFault}
 use Rattle.front_mirror.specs.Front.{FrontValue}
 use Rattle.front_mirror.specs.Outline.{outline_text, seen_line}
 use Rattle.session_runs.specs.Pairs.{Second}
@@ -15,6 +14,7 @@ use Rattle.replay_parts.specs.declared.status.Status.{Status}
 use Rattle.replay_parts.specs.declared.stop.Stop.{Stop}
 use Rattle.replay_parts.specs.Says.{Phase, untouched, reading, underway, ended, anywhen, Lie, refused, no_room, says, says_of}
 use Rattle.replay_parts.specs.Answers.{InRunOnly}
+use Rattle.replay_parts.specs.LinkFolds.{WentOver, went_since, FoldsFrom, LessAt, ResultFolds}
 
 -- ---- what was written, over an honest link
 
@@ -69,60 +69,26 @@ IsPairHonest status = NotRefused (says status).lie
 
 -- ---- over every link
 
--- What went over a link: the fold of two front ends, over the bytes sent up and given down; and how many were sent and given, up and down.
-pub record PairPassed : Type 0 where
-  pub fold : Result FrontValues FrontFault
-  pub sent_up : ℕ
-  pub given_up : ℕ
-  pub sent_down : ℕ
-  pub given_down : ℕ
+-- what went over a link with two front ends
+abbrev pub PairPassed : Type 0
+PairPassed = WentOver FrontValues
 
 -- what went over it since the pipes were as `up0` and `down0`
 abbrev pub pair_since : (up0 down0 up down : Pipe) → PairPassed
-pair_since up0 down0 up down =
-    record {
-      fold = pair_fold_of (sent_since up0 up) (given_since down0 down);
-      sent_up = length (sent_since up0 up);
-      given_up = length (given_since up0 up);
-      sent_down = length (sent_since down0 down);
-      given_down = length (given_since down0 down);
-    }
-
--- what an answer says of the fold: the message that it refuses, or that it refuses none; want of memory says nothing
-abbrev pub PairFoldsAt : Phase → Option Lie → PairPassed → Type 0
-PairFoldsAt untouched lie passed = IsOk passed.fold
-PairFoldsAt reading lie passed = IsOk passed.fold
-PairFoldsAt underway None passed = IsOk passed.fold
-PairFoldsAt underway (Some (refused fault)) passed = passed.fold ≡ Err fault
-PairFoldsAt underway (Some no_room) passed = IsOk passed.fold × (sent_when_pair_is_full ≤ passed.sent_up)
-PairFoldsAt ended lie passed = IsOk passed.fold
-PairFoldsAt anywhen lie passed = ⊤
+pair_since up0 down0 up down = went_since pair_fold_of up0 down0 up down
 
 -- A front end refuses a message exactly where this fold does, with its place and its fault; and no id or serial is left only where at
 -- least 2^19 bytes were sent up.
 abbrev pub PairFolds : Status → PairPassed → Type 0
-PairFolds status passed = PairFoldsAt (says status).phase (says status).lie passed
+PairFolds status passed = FoldsFrom sent_when_pair_is_full (says status).phase (says status).lie passed
 
--- of each pipe no more bytes were given than were sent
-abbrev pub PairGivesNoMore : PairPassed → Type 0
-PairGivesNoMore passed = (passed.given_up ≤ passed.sent_up) × (passed.given_down ≤ passed.sent_down)
-
--- whatever is answered but want of memory
-abbrev pub PairLessAt : Phase → PairPassed → Type 0
-PairLessAt untouched passed = PairGivesNoMore passed
-PairLessAt reading passed = PairGivesNoMore passed
-PairLessAt underway passed = PairGivesNoMore passed
-PairLessAt ended passed = PairGivesNoMore passed
-PairLessAt anywhen passed = ⊤
-
--- by what the whole call answers
+-- no more bytes were given than were sent, by what the whole call answers
 abbrev pub PairLess : Status → PairPassed → Type 0
-PairLess status passed = PairLessAt (says status).phase passed
+PairLess status passed = LessAt (says status).phase passed
 
 -- what the result of a part says of both
 abbrev pub PairStopFolds : {T : Type 0} → Result T Stop → PairPassed → Type 0
-PairStopFolds result passed =
-    PairFoldsAt (says_of result).phase (says_of result).lie passed × PairLessAt (says_of result).phase passed
+PairStopFolds result passed = ResultFolds sent_when_pair_is_full result passed
 
 -- the second outline at the end, where a second front end stands
 abbrev pub second_shown : Option (Second FrontValue (List ℕ)) → List ℕ

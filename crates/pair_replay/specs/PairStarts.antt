@@ -12,27 +12,26 @@ use Rattle.inspect_world.specs.World.{nothing_told}
 use Rattle.replay_script.specs.Forms.{LineForm}
 use Rattle.replay_script.specs.PairLines.{PairForm, of_first, of_second}
 pub use Rattle.pair_world.specs.PairSendings.{may_ask_on}
-use Rattle.pair_replay.specs.declared.ends.PairEnds.{PairEnds}
-use Rattle.pair_replay.specs.declared.ends.Told.{Told}
+use Rattle.replay_parts.specs.LinkEnds.{unused_ends}
+use Rattle.pair_replay.specs.declared.two_fronts.TwoFronts.{TwoFronts}
+use Rattle.pair_replay.specs.declared.two_fronts.Told.{Told}
 use Rattle.pair_replay.specs.Tellings.{told_seen}
 
 -- a new side of this page with two new seats, and the first front end with panels of these kinds: nothing was sent, given or told
-pub record AreNewEnds {P : Type 0} {g : Ghosts P} (e : PairEnds P g) (kinds : List PanelKind) (page : LoadedPage) : Type 0 where
+pub record AreNewEnds {P : Type 0} {g : Ghosts P} (e : TwoFronts P g) (kinds : List PanelKind) (page : LoadedPage) : Type 0 where
   pub mux : IsNewMux e.mux e.side page
-  pub splitter : e.splitter ≡ record { whole = []; rest = [] }
+  pub ends : e.ends ≡ unused_ends
   pub fronts : e.fronts ≡ first_fronts kinds
-  pub up : e.up_there ≡ 0
-  pub down : e.down_there ≡ 0
   pub first_told : told_seen e.first_told ≡ nothing_told
   pub second_told : told_seen e.second_told ≡ nothing_told
 
 -- what was told of the front end that is meant
-abbrev pub told_held : {P : Type 0} {g : Ghosts P} → Bool → PairEnds P g → Told
+abbrev pub told_held : {P : Type 0} {g : Ghosts P} → Bool → TwoFronts P g → Told
 told_held false e = e.first_told
 told_held true e = e.second_told
 
 -- so much was told of it
-abbrev pub with_told_held : {P : Type 0} {g : Ghosts P} → Bool → Told → PairEnds P g → PairEnds P g
+abbrev pub with_told_held : {P : Type 0} {g : Ghosts P} → Bool → Told → TwoFronts P g → TwoFronts P g
 with_told_held false told e = record e { first_told = told }
 with_told_held true told e = record e { second_told = told }
 

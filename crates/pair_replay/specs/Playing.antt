@@ -16,60 +16,53 @@ use Rattle.replay_parts.specs.Answers.{RunTells}
 use Rattle.replay_parts.specs.Stops.{RunRose}
 use Rattle.replay_parts.specs.Moments.{Scene}
 pub use Rattle.replay_parts.specs.Manners.{Manner, Goes, Part, Plays}
-use Rattle.pair_replay.specs.declared.ends.PairEnds.{PairEnds}
+use Rattle.pair_replay.specs.declared.two_fronts.TwoFronts.{TwoFronts}
 use Rattle.pair_replay.specs.PairAnswers.{PairRunTook, RoomTold}
-use Rattle.pair_replay.specs.Running.{InPairPlay, Aim, PairSteps, PairGoes, PairTakesUp, PairAnswersAll, PairAnswersOne, PairFetches}
+use Rattle.pair_replay.specs.Running.{InPairPlay, Aim, PairSteps, PairGoes, PairAnswersAll, PairAnswersOne, PairFetches}
 use Rattle.pair_replay.specs.Running.{turns_page}
-use Rattle.pair_replay.specs.Following.{KeepsPair, KeepsPairWith, KeepsPairAnswers, KeepsPairAnswer, PairLineFollows, PairLinePasses}
+use Rattle.pair_replay.specs.Following.{KeepsPair, KeepsPairAnswers, KeepsPairAnswer, PairLineFollows, PairLinePasses}
 use Rattle.pair_replay.specs.Following.{PairLinesFollow}
 pub use Rattle.pair_replay.specs.Following.{NumberedPair, numbered_pair}
 
 -- ---- calls that print nothing
 
 -- the run goes where this aims, while lines of so many bytes more may come
-abbrev pub aims : {P : Type 0} {g : Ghosts P} {T : Type 0} → ℕ → Aim → Manner (PairEnds P g) T
+abbrev pub aims : {P : Type 0} {g : Ghosts P} {T : Type 0} → ℕ → Aim → Manner (TwoFronts P g) T
 aims bytes aim = record {
   follows = λ old new result. KeepsPair old new result;
   steps = λ old new result. PairSteps bytes old new result aim;
 }
 
 -- the run goes where this aims, whatever was spent
-abbrev pub goes_to : {P : Type 0} {g : Ghosts P} {T : Type 0} → Aim → Manner (PairEnds P g) T
+abbrev pub goes_to : {P : Type 0} {g : Ghosts P} {T : Type 0} → Aim → Manner (TwoFronts P g) T
 goes_to aim = record {
   follows = λ old new result. KeepsPair old new result;
   steps = λ old new result. PairGoes old new result aim;
 }
 
 -- the script makes a step
-abbrev pub pair_turning : {P : Type 0} {g : Ghosts P} {T : Type 0} → Turn → Manner (PairEnds P g) T
+abbrev pub pair_turning : {P : Type 0} {g : Ghosts P} {T : Type 0} → Turn → Manner (TwoFronts P g) T
 pair_turning x = record {
   follows = λ old new result. PairLineFollows old new result;
   steps = λ old new result. PairSteps 0 old new result (turns_page x);
 }
 
--- up to so many bytes are taken that come up
-abbrev pub pair_taking_up : {P : Type 0} {g : Ghosts P} {T : Type 0} → ℕ → Manner (PairEnds P g) T
-pair_taking_up n = record {
-  follows = λ old new result. KeepsPairWith old new result;
-  steps = λ old new result. PairTakesUp n old new result;
-}
-
 -- the frames that are whole are answered
-abbrev pub pair_answering_all : {P : Type 0} {g : Ghosts P} {T : Type 0} → Manner (PairEnds P g) T
+abbrev pub pair_answering_all : {P : Type 0} {g : Ghosts P} {T : Type 0} → Manner (TwoFronts P g) T
 pair_answering_all = record {
   follows = λ old new result. KeepsPairAnswers old new result;
   steps = λ old new result. PairAnswersAll old new result;
 }
 
 -- this frame is answered
-abbrev pub pair_answering : {P : Type 0} {g : Ghosts P} {T : Type 0} → List ℕ → Manner (PairEnds P g) T
+abbrev pub pair_answering : {P : Type 0} {g : Ghosts P} {T : Type 0} → List ℕ → Manner (TwoFronts P g) T
 pair_answering frame = record {
   follows = λ old new result. KeepsPairAnswer frame old new result;
   steps = λ old new result. PairAnswersOne frame old new result;
 }
 
 -- sheets are fetched for the front end that is meant: so many at most
-abbrev pub pair_fetching : {P : Type 0} {g : Ghosts P} {T : Type 0} → Bool → ℕ → Aim → Manner (PairEnds P g) T
+abbrev pub pair_fetching : {P : Type 0} {g : Ghosts P} {T : Type 0} → Bool → ℕ → Aim → Manner (TwoFronts P g) T
 pair_fetching second count aim = record {
   follows = λ old new result. KeepsPair old new result;
   steps = λ old new result. PairFetches second count old new result aim;
@@ -84,7 +77,7 @@ text_unless (Some fault) text = []
 
 -- Any line is carried out, and prints what it prints. One that names a front end that does not stand or attaches one where one stands,
 -- drops a panel where none stands open, or shows what did not come, is refused, and nothing is printed of it.
-abbrev pub PairCarries : {P : Type 0} {g : Ghosts P} {T : Type 0} → NumberedPair → Scene (PairEnds P g) → Scene (PairEnds P g)
+abbrev pub PairCarries : {P : Type 0} {g : Ghosts P} {T : Type 0} → NumberedPair → Scene (TwoFronts P g) → Scene (TwoFronts P g)
     → Result T Stop → Type 0
 PairCarries line old new result =
     (up0 down0 : Pipe) (more : ℕ) (w v : PairRun)
@@ -96,7 +89,7 @@ PairCarries line old new result =
     × RoomTold result (line_or (pair_lacking line.form w) line.form v ⊤)
 
 -- the lines after the load are carried out, up to the first that is refused
-abbrev pub PairRunsLines : {P : Type 0} {g : Ghosts P} {T : Type 0} → List (List ℕ) → Scene (PairEnds P g) → Scene (PairEnds P g)
+abbrev pub PairRunsLines : {P : Type 0} {g : Ghosts P} {T : Type 0} → List (List ℕ) → Scene (TwoFronts P g) → Scene (TwoFronts P g)
     → Result T Stop → Type 0
 PairRunsLines lines old new result =
     (up0 down0 : Pipe) (w v : PairRun)
@@ -111,13 +104,13 @@ PairRunsLines lines old new result =
     × RoomTold result (LinesHaveRoom (λ x. ⊤) forms w v)
 
 -- the closing part is printed
-abbrev pub PairCloses : {P : Type 0} {g : Ghosts P} {T : Type 0} → Scene (PairEnds P g) → Option (List ℕ) → Result T Stop → Type 0
+abbrev pub PairCloses : {P : Type 0} {g : Ghosts P} {T : Type 0} → Scene (TwoFronts P g) → Option (List ℕ) → Result T Stop → Type 0
 PairCloses old taken result =
     (up0 down0 : Pipe) (w v : PairRun) → InPairPlay old.now.honest up0 down0 old.now.up old.now.down 0 w v old.now.ends
     → PairRunTook result old.taken taken (pair_closing w) × RoomTold result (RefreshHasRoom v)
 
 -- any line
-abbrev pub pair_carrying : {P : Type 0} {g : Ghosts P} {T : Type 0} → NumberedPair → Part (PairEnds P g) T
+abbrev pub pair_carrying : {P : Type 0} {g : Ghosts P} {T : Type 0} → NumberedPair → Part (TwoFronts P g) T
 pair_carrying line = record {
   cause = λ c result. RunRose c result;
   follows = λ old new result. PairLinePasses line.form old new result;
@@ -125,7 +118,7 @@ pair_carrying line = record {
 }
 
 -- the lines after the load
-abbrev pub pair_running : {P : Type 0} {g : Ghosts P} {T : Type 0} → List (List ℕ) → Part (PairEnds P g) T
+abbrev pub pair_running : {P : Type 0} {g : Ghosts P} {T : Type 0} → List (List ℕ) → Part (TwoFronts P g) T
 pair_running lines = record {
   cause = λ c result. RunRose c result;
   follows = λ old new result. PairLinesFollow lines old new result;

@@ -4,7 +4,7 @@ use Rattle.front_mirror.specs.declared.panels.Panel.{Ghosts}
 use Rattle.front_mirror.specs.declared.faults.FrontKind.{FrontKind}
 use Rattle.pipe_frames.specs.Pipe.{Pipe}
 use Rattle.session_runs.specs.Stream.{arriving, awaited}
-use Rattle.session_runs.specs.World.{sent_up, given_up, answered, delivered_up, delivered_down}
+use Rattle.session_runs.specs.World.{sent_up, answered, delivered_up, delivered_down}
 use Rattle.session_runs.specs.Passages.{turning}
 use Rattle.session_runs.specs.PairRuns.{passing}
 use Rattle.session_runs.specs.Agreement.{IsAtRest}
@@ -22,7 +22,8 @@ use Rattle.pair_world.specs.PairHeld.{Mode, calm, targeted, InPairWorld}
 use Rattle.pair_world.specs.PairHeld as held
 use Rattle.replay_parts.specs.declared.stop.Stop.{Stop}
 use Rattle.replay_parts.specs.Moments.{Moment}
-use Rattle.pair_replay.specs.declared.ends.PairEnds.{PairEnds}
+use Rattle.replay_parts.specs.LinkEnds.{LinkEnds, EachAnswered, OverHonest}
+use Rattle.pair_replay.specs.declared.two_fronts.TwoFronts.{TwoFronts}
 use Rattle.pair_replay.specs.Tellings.{told_seen}
 use Rattle.multi_replay.specs.States.{StatePair, is_there, front_meant, attach_text, detach_text}
 use Rattle.front_mirror.specs.Sheets.{stale_of}
@@ -34,32 +35,36 @@ pub use Rattle.pair_world.specs.PairSendings.{attached_text, fetcher_on, by_fetc
 use Rattle.pair_replay.specs.PairAnswers.{RoomTold}
 pub use Rattle.pair_world.specs.FetchShown.{IsPlainOfPair}
 
+-- what both ends hold, with so much of the link
+abbrev pub with_ends : LinkEnds → held.PairEnds → held.PairEnds
+with_ends s e = record e { back_rest = s.splitter.rest; up_there = s.up_there; down_there = s.down_there }
+
 -- what the ends of the program hold
-abbrev pub pair_ends_of : {P : Type 0} {g : Ghosts P} → PairEnds P g → held.PairEnds
+abbrev pub pair_ends_of : {P : Type 0} {g : Ghosts P} → TwoFronts P g → held.PairEnds
 pair_ends_of e = record {
   mux = e.mux;
   side = e.side;
-  back_rest = e.splitter.rest;
+  back_rest = e.ends.splitter.rest;
   fronts = e.fronts;
-  up_there = e.up_there;
-  down_there = e.down_there;
+  up_there = e.ends.up_there;
+  down_there = e.ends.down_there;
   first_told = told_seen e.first_told;
   second_told = told_seen e.second_told;
 }
 
 -- Over an honest link the run, with the fetches of its settles, has come to w since the pipes were as `up0` and `down0`, with nothing left
--- to give. The frames that the splitter holds came up whole, and are not yet answered.
-pub record InPairRunWith {P : Type 0} {g : Ghosts P} (mode : Mode) (honest : Type 0) (up0 down0 up down : Pipe) (w : PairRun)
-    (e : PairEnds P g)
-    : Type 0 where
-  pub is_honest : honest
-  pub in_world : InPairWorld mode up0 down0 up down w (e.splitter.whole ++ awaited w.up) (pair_ends_of e)
+-- to give. The frames that `waiting` holds came up whole, and are not yet answered.
+abbrev pub HonestPair : Mode → Type 0 → (up0 down0 up down : Pipe) → PairRun → held.PairEnds → List (List ℕ) → Type 0
+HonestPair mode honest up0 down0 up down w e waiting = OverHonest honest (InPairWorld mode up0 down0 up down w (waiting ++ awaited w.up) e)
+
+-- the ends are in a run, and the splitter may hold whole frames
+abbrev pub InPairRunWith : {P : Type 0} {g : Ghosts P} → Mode → Type 0 → (up0 down0 up down : Pipe) → PairRun → TwoFronts P g → Type 0
+InPairRunWith mode honest up0 down0 up down w e = HonestPair mode honest up0 down0 up down w (pair_ends_of e) e.ends.splitter.whole
 
 -- the ends are in a run, each frame that came up whole being answered
-pub record InPairRun {P : Type 0} {g : Ghosts P} (mode : Mode) (honest : Type 0) (up0 down0 up down : Pipe) (w : PairRun) (e : PairEnds P g)
-    : Type 0 where
-  pub so_far : InPairRunWith mode honest up0 down0 up down w e
-  pub none_whole : e.splitter.whole ≡ []
+abbrev pub InPairRun : {P : Type 0} {g : Ghosts P} → Mode → Type 0 → (up0 down0 up down : Pipe) → PairRun → TwoFronts P g → Type 0
+InPairRun mode honest up0 down0 up down w e =
+    EachAnswered (HonestPair mode honest up0 down0 up down w (pair_ends_of e)) e.ends.splitter.whole
 
 -- Where a call takes a run, and for which steps there has to be room; when it may come, and whether an attach or a detach is on its
 -- way then.
@@ -70,7 +75,7 @@ pub record Aim : Type 1 where
   pub room : PairRun → Type 0
 
 -- A call takes each run over an honest link, while lines of so many bytes more may come, to where it aims; unless a step meets no room.
-abbrev pub PairSteps : {P : Type 0} {g : Ghosts P} {T : Type 0} → ℕ → Moment (PairEnds P g) → Moment (PairEnds P g) → Result T Stop → Aim
+abbrev pub PairSteps : {P : Type 0} {g : Ghosts P} {T : Type 0} → ℕ → Moment (TwoFronts P g) → Moment (TwoFronts P g) → Result T Stop → Aim
     → Type 0
 PairSteps bytes old new result aim =
     (mode : Mode) (up0 down0 : Pipe) (w : PairRun) → PairHasLeft w.spent bytes → aim.may mode w
@@ -78,7 +83,7 @@ PairSteps bytes old new result aim =
     → RoomTold result (aim.room w) × OnOk result (InPairRun (aim.mode mode) new.honest up0 down0 new.up new.down (aim.to w) new.ends)
 
 -- a call takes each run over an honest link to where it aims, whatever was spent
-abbrev pub PairGoes : {P : Type 0} {g : Ghosts P} {T : Type 0} → Moment (PairEnds P g) → Moment (PairEnds P g) → Result T Stop → Aim
+abbrev pub PairGoes : {P : Type 0} {g : Ghosts P} {T : Type 0} → Moment (TwoFronts P g) → Moment (TwoFronts P g) → Result T Stop → Aim
     → Type 0
 PairGoes old new result aim =
     (mode : Mode) (up0 down0 : Pipe) (w : PairRun) → aim.may mode w
@@ -141,30 +146,21 @@ delivers_all = record { may = λ mode w. ⊤; to = pair_settled; mode = λ mode.
 abbrev pub refreshing : Aim
 refreshing = record { may = λ mode w. ⊤; to = pair_refreshes; mode = λ mode. calm; room = RefreshHasRoom }
 
--- a call that takes bytes that come up, and cuts them into frames
-abbrev pub PairTakesUp : {P : Type 0} {g : Ghosts P} {T : Type 0} → ℕ → Moment (PairEnds P g) → Moment (PairEnds P g) → Result T Stop
-    → Type 0
-PairTakesUp n old new result =
-    (mode : Mode) (up0 down0 : Pipe) (w : PairRun) → InPairRun mode old.honest up0 down0 old.up old.down w old.ends
-    → RoomTold result ⊤
-    × OnOk result
-    (InPairRunWith mode new.honest up0 down0 new.up new.down (given_up n w) new.ends × (new.ends.splitter.whole ≡ arriving n w.up))
-
 -- a call that answers the frames that came up whole
-abbrev pub PairAnswersAll : {P : Type 0} {g : Ghosts P} {T : Type 0} → Moment (PairEnds P g) → Moment (PairEnds P g) → Result T Stop
+abbrev pub PairAnswersAll : {P : Type 0} {g : Ghosts P} {T : Type 0} → Moment (TwoFronts P g) → Moment (TwoFronts P g) → Result T Stop
     → Type 0
 PairAnswersAll old new result =
     (mode : Mode) (up0 down0 : Pipe) (w : PairRun) → InPairRunWith mode old.honest up0 down0 old.up old.down w old.ends
-    → RoomTold result (RoomThroughout (pair_step pair_reads client_steps) PairRoom w.state old.ends.splitter.whole)
+    → RoomTold result (RoomThroughout (pair_step pair_reads client_steps) PairRoom w.state old.ends.ends.splitter.whole)
     × OnOk result (InPairRun mode new.honest up0 down0 new.up new.down
-    (answered (pair_step pair_reads client_steps) old.ends.splitter.whole w) new.ends)
+    (answered (pair_step pair_reads client_steps) old.ends.ends.splitter.whole w) new.ends)
 
 -- a call that answers one frame, before those that the splitter holds
-abbrev pub PairAnswersOne : {P : Type 0} {g : Ghosts P} {T : Type 0} → List ℕ → Moment (PairEnds P g) → Moment (PairEnds P g)
+abbrev pub PairAnswersOne : {P : Type 0} {g : Ghosts P} {T : Type 0} → List ℕ → Moment (TwoFronts P g) → Moment (TwoFronts P g)
     → Result T Stop → Type 0
 PairAnswersOne frame old new result =
     (mode : Mode) (up0 down0 : Pipe) (w : PairRun) → old.honest
-    → InPairWorld mode up0 down0 old.up old.down w (frame ∷ (old.ends.splitter.whole ++ awaited w.up)) (pair_ends_of old.ends)
+    → InPairWorld mode up0 down0 old.up old.down w (frame ∷ (old.ends.ends.splitter.whole ++ awaited w.up)) (pair_ends_of old.ends)
     → RoomTold result (PairRoom w.state)
     × OnOk result (InPairRunWith mode new.honest up0 down0 new.up new.down
     (answered (pair_step pair_reads client_steps) (frame ∷ []) w) new.ends)
@@ -232,7 +228,7 @@ fetching_all second numbers = record {
 }
 
 -- a call that makes fetches for the front end that is meant takes each run there, while there are ids, and for so many
-abbrev pub PairFetches : {P : Type 0} {g : Ghosts P} {T : Type 0} → Bool → ℕ → Moment (PairEnds P g) → Moment (PairEnds P g)
+abbrev pub PairFetches : {P : Type 0} {g : Ghosts P} {T : Type 0} → Bool → ℕ → Moment (TwoFronts P g) → Moment (TwoFronts P g)
     → Result T Stop → Aim → Type 0
 PairFetches second count old new result aim =
     (up0 down0 : Pipe) (w : PairRun) → PairHasIds w.spent → fetches_on second w.spent + count ≤ most_fetches → aim.may calm w
@@ -244,6 +240,6 @@ PairFetches second count old new result aim =
 -- The run that the report tells has come to w, and over an honest link the run with fetches to v, which goes together with w; lines of so
 -- many bytes more may be carried out. As much was told as in w.
 pub record InPairPlay {P : Type 0} {g : Ghosts P} (honest : Type 0) (up0 down0 up down : Pipe) (bytes : ℕ) (w v : PairRun)
-    (e : PairEnds P g) : Type 0 where
+    (e : TwoFronts P g) : Type 0 where
   pub both : PairTogether IsPlainOfPair bytes w v
   pub in_run : InPairRun calm honest up0 down0 up down (pair_telling w.told v) e

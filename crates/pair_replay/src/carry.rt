@@ -18,9 +18,9 @@ ghost use Rattle.replay_parts.specs.Moments.{scene, seen_by};
 ghost use Rattle.pair_replay.specs.Following.{PairLinePasses, PairLineTells};
 ghost use Rattle.pair_replay.specs.Playing.{Plays, PairCarries, pair_carrying, numbered_pair};
 
-use crate::ends::PairEnds;
 use crate::reading::bad_session;
 use crate::shows::{show_front, show_panels, show_pauses, show_replies, show_sheets, show_styles};
+use crate::two_fronts::TwoFronts;
 use back_end::Act;
 use front_mirror::Panel;
 use pipe_frames::{Link, Sink};
@@ -32,7 +32,7 @@ use std::alloc::Global;
 /// refused where one stands.
 fn carry_attach<P: Panel, L: Link>(
     number: u64,
-    ends: &mut PairEnds<P>,
+    ends: &mut TwoFronts<P>,
     link: &mut L,
 ) -> Result<(), Stop>
     ensures follows { PairLinePasses attach_session (⟦<L as Watched>⟧.at link.old ends.old) (⟦<L as Watched>⟧.at link.new ends.new) result }
@@ -66,7 +66,7 @@ fn carry_attach<P: Panel, L: Link>(
 /// Settles, detaches the session of the second front end, and settles. The line of that number is refused where none stands.
 fn carry_detach<P: Panel, L: Link>(
     number: u64,
-    ends: &mut PairEnds<P>,
+    ends: &mut TwoFronts<P>,
     link: &mut L,
 ) -> Result<(), Stop>
     ensures follows { PairLinePasses detach_session (⟦<L as Watched>⟧.at link.old ends.old) (⟦<L as Watched>⟧.at link.new ends.new) result }
@@ -95,7 +95,7 @@ fn carry_act<P: Panel, K: Sink, L: Link>(
     alloc: Global,
     number: u64,
     change: Act,
-    ends: &mut PairEnds<P>,
+    ends: &mut TwoFronts<P>,
     out: &mut K,
     link: &mut L,
 ) -> Result<(), Stop>
@@ -113,7 +113,7 @@ fn carry_act<P: Panel, K: Sink, L: Link>(
 }
 
 /// Drops the panel at that place. The line of that number is refused where none stands open there.
-fn drop_panel<P: Panel>(number: u64, place: u64, ends: &mut PairEnds<P>) -> Result<(), Stop>
+fn drop_panel<P: Panel>(number: u64, place: u64, ends: &mut TwoFronts<P>) -> Result<(), Stop>
     ensures refused { result ≡ drops number (stands_open place ends.old.fronts.pair.one.panels) }
     ensures dropped { ends.new ≡ record ends.old { fronts = after_close ends.old.fronts place } }
 {
@@ -130,7 +130,7 @@ fn drop_panel<P: Panel>(number: u64, place: u64, ends: &mut PairEnds<P>) -> Resu
 /// Sends an ask of the second front end. The line of that number is refused where it does not stand.
 fn carry_second_ask<P: Panel, L: Link>(
     number: u64,
-    ends: &mut PairEnds<P>,
+    ends: &mut TwoFronts<P>,
     link: &mut L,
     sent: &Ask,
 ) -> Result<(), Stop>
@@ -157,7 +157,7 @@ fn carry_first<P: Panel, K: Sink, L: Link>(
     alloc: Global,
     number: u64,
     line: Line,
-    ends: &mut PairEnds<P>,
+    ends: &mut TwoFronts<P>,
     out: &mut K,
     link: &mut L,
 ) -> Result<(), Stop>
@@ -195,7 +195,7 @@ fn carry_second<P: Panel, K: Sink, L: Link>(
     alloc: Global,
     number: u64,
     line: Line,
-    ends: &mut PairEnds<P>,
+    ends: &mut TwoFronts<P>,
     out: &mut K,
     link: &mut L,
 ) -> Result<(), Stop>
@@ -233,7 +233,7 @@ pub(crate) fn carry_out<P: Panel, K: Sink, L: Link>(
     alloc: Global,
     number: u64,
     line: PairLine,
-    ends: &mut PairEnds<P>,
+    ends: &mut TwoFronts<P>,
     out: &mut K,
     link: &mut L,
 ) -> Result<(), Stop>

@@ -19,9 +19,9 @@ ghost use Rattle.pair_replay.specs.Following.{PairLinesJudged, PairClosesShown};
 ghost use Rattle.pair_replay.specs.Playing.{Plays, pair_running, PairCloses};
 
 use crate::carry::carry_out;
-use crate::ends::PairEnds;
 use crate::reading::{next_line, read, read_load};
 use crate::shows::print_end;
+use crate::two_fronts::TwoFronts;
 use back_end::PageForm;
 use front_mirror::Panel;
 use pipe_frames::{Link, Sink};
@@ -33,7 +33,7 @@ use std::alloc::Global;
 fn run_lines<P: Panel, K: Sink, L: Link>(
     alloc: Global,
     mut lines: Lines,
-    ends: &mut PairEnds<P>,
+    ends: &mut TwoFronts<P>,
     out: &mut K,
     link: &mut L,
 ) -> Result<(), Stop>
@@ -61,7 +61,7 @@ fn run_lines<P: Panel, K: Sink, L: Link>(
 /// Settles, and prints the closing part.
 fn close<P: Panel, K: Sink, L: Link>(
     alloc: Global,
-    ends: &mut PairEnds<P>,
+    ends: &mut TwoFronts<P>,
     out: &mut K,
     link: &mut L,
 ) -> Result<(), Stop>
@@ -110,7 +110,7 @@ fn run_loaded<P: Panel, K: Sink, L: Link>(
         (pair_rest_text (pair_first_bad 2 lines.entry) (pair_good_lines 2 lines.entry)
         (pair_loaded_run (map P.kind_of panels.items) (loaded_page form))) }
 {
-    let mut ends = PairEnds::new(alloc, panels, form)?;
+    let mut ends = TwoFronts::new(alloc, panels, form)?;
     match run_lines(alloc, lines, &mut ends, out, link) {
         Ok(()) => close(alloc, &mut ends, out, link),
         Err(stop) => Err(stop),

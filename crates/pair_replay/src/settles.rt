@@ -3,13 +3,13 @@ ghost use Rattle.std.specs.Prelude.{◌≡◌, ◌&&◌, true, length, IfOk};
 ghost use Rattle.front_mirror.specs.Sheets.{has_sheet};
 ghost use Rattle.multi_replay.specs.States.{is_there, front_meant};
 
-use crate::ends::PairEnds;
+use crate::two_fronts::TwoFronts;
 use front_mirror::Panel;
 use pipe_frames::Link;
 use replay_parts::{Stop, Watched};
 use std::alloc::AllocError;
 
-impl<P: Panel> PairEnds<P> {
+impl<P: Panel> TwoFronts<P> {
     ghost use Rattle.pair_replay.specs.Running.{delivers_all, refreshing, fetching, fetching_all, fetching_known, stale_meant};
     ghost use Rattle.pair_replay.specs.Playing.{Goes, aims, goes_to, pair_fetching};
 
@@ -18,10 +18,10 @@ impl<P: Panel> PairEnds<P> {
         ensures { Goes (goes_to delivers_all) (⟦<L as Watched>⟧.at link.old self.old)
             (⟦<L as Watched>⟧.at link.new self.new) result }
     {
-        let up = self.up_there;
+        let up = self.ends.up_there();
         match self.deliver_up(link, up) {
             Ok(()) => {
-                let down = self.down_there;
+                let down = self.ends.down_there();
                 self.deliver_down(link, down)
             }
             Err(stop) => Err(stop),

@@ -12,8 +12,8 @@ ghost use Rattle.pair_replay.specs.PairStarts.{line_on, ends_text};
 ghost use Rattle.pair_replay.specs.Following.{PairLineTells};
 ghost use Rattle.pair_replay.specs.Playing.{Plays, pair_carrying, numbered_pair};
 
-use crate::ends::{PairEnds, Told};
 use crate::reading::bad_session;
+use crate::two_fronts::{Told, TwoFronts};
 use front_mirror::{Front, Panel};
 use pipe_frames::{Link, Sink};
 use replay_parts::{
@@ -34,7 +34,7 @@ pub(crate) fn show_front<P: Panel, K: Sink, L: Link>(
     alloc: Global,
     number: u64,
     second: bool,
-    ends: &mut PairEnds<P>,
+    ends: &mut TwoFronts<P>,
     out: &mut K,
     link: &mut L,
 ) -> Result<(), Stop>
@@ -60,7 +60,7 @@ pub(crate) fn show_sheets<P: Panel, K: Sink, L: Link>(
     alloc: Global,
     number: u64,
     second: bool,
-    ends: &mut PairEnds<P>,
+    ends: &mut TwoFronts<P>,
     out: &mut K,
     link: &mut L,
 ) -> Result<(), Stop>
@@ -111,7 +111,7 @@ pub(crate) fn show_replies<P: Panel, K: Sink, L: Link>(
     alloc: Global,
     number: u64,
     second: bool,
-    ends: &mut PairEnds<P>,
+    ends: &mut TwoFronts<P>,
     out: &mut K,
     link: &mut L,
 ) -> Result<(), Stop>
@@ -175,7 +175,7 @@ pub(crate) fn show_pauses<P: Panel, K: Sink, L: Link>(
     alloc: Global,
     number: u64,
     second: bool,
-    ends: &mut PairEnds<P>,
+    ends: &mut TwoFronts<P>,
     out: &mut K,
     link: &mut L,
 ) -> Result<(), Stop>
@@ -212,7 +212,7 @@ pub(crate) fn show_pauses<P: Panel, K: Sink, L: Link>(
 /// Settles, and prints what the panels show that stand open: they are the first front end's.
 pub(crate) fn show_panels<P: Panel, K: Sink, L: Link>(
     alloc: Global,
-    ends: &mut PairEnds<P>,
+    ends: &mut TwoFronts<P>,
     out: &mut K,
     link: &mut L,
 ) -> Result<(), Stop>
@@ -235,7 +235,7 @@ pub(crate) fn show_styles<P: Panel, K: Sink, L: Link>(
     number: u64,
     second: bool,
     ask: u64,
-    ends: &mut PairEnds<P>,
+    ends: &mut TwoFronts<P>,
     out: &mut K,
     link: &mut L,
 ) -> Result<(), Stop>
@@ -259,7 +259,7 @@ pub(crate) fn show_styles<P: Panel, K: Sink, L: Link>(
 /// Prints the closing part: what the first front end shows, and then what the second does, where it stands.
 pub(crate) fn print_end<P: Panel, K: Sink>(
     alloc: Global,
-    ends: &PairEnds<P>,
+    ends: &TwoFronts<P>,
     out: &mut K,
 ) -> Result<(), Stop>
     ensures ok { OnOk result (Appends (K.taken out.old) (K.taken out.new) (ends_text ends.now.fronts.pair)) }

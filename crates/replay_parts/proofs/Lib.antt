@@ -8,3 +8,5 @@ pub mod CauseLemmas
 pub mod ClosedPanels
 pub mod InputLemmas
 pub mod ValueLemmas
+pub mod SendLemmas
+pub mod FoldLemmas

@@ -4,6 +4,8 @@ pub mod Answers
 pub mod Stops
 pub mod Moved
 pub mod Moments
+pub mod LinkEnds
+pub mod LinkFolds
 pub mod Printed
 pub mod Manners
 pub mod Reads

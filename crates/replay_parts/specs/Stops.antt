@@ -75,3 +75,16 @@ pub record HasRunCause {T : Type 0} (sink_before sink_after link_before link_aft
 -- such a run's counts do not fall, and a fault has its cause, the counts being in one record
 abbrev pub RunRose : {T : Type 0} → Counts → Result T Stop → Type 0
 RunRose c result = HasRunCause c.sink_before c.sink_after c.link_before c.link_after result
+
+-- a statement of stops that tell of the outside: want of memory says nothing of what was given meanwhile
+abbrev pub ButForMemory : Phase → Type 0 → Type 0
+ButForMemory untouched P = P
+ButForMemory reading P = P
+ButForMemory underway P = P
+ButForMemory ended P = P
+ButForMemory anywhen P = ⊤
+
+-- a call that stops, but not for want of memory, leaves this so
+abbrev pub UnlessMemory : {T : Type 0} → Result T Stop → Type 0 → Type 0
+UnlessMemory (Ok value) P = ⊤
+UnlessMemory (Err stop) P = ButForMemory (says (status_of stop)).phase P

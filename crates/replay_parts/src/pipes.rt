@@ -9,7 +9,7 @@ use pipe_frames::{Link, OutErr};
 use std::alloc::Global;
 
 /// Sends the bytes up, where so many are on their way. Gives how many are then: what waits is in memory, so the sum has room.
-pub fn send_up<L: Link>(link: &mut L, there: u64, bytes: &[u8]) -> Result<u64, Stop>
+pub(crate) fn send_up<L: Link>(link: &mut L, there: u64, bytes: &[u8]) -> Result<u64, Stop>
     ensures up { Sent (L.up link.old) (L.up link.new) bytes.now result }
     ensures down { L.down link.new ≡ L.down link.old }
     ensures count { there ≤ length (waiting (L.up link.old)) → IfOk result (λ n. n ≡ there + length bytes.now) }
@@ -25,7 +25,7 @@ pub fn send_up<L: Link>(link: &mut L, there: u64, bytes: &[u8]) -> Result<u64, S
 }
 
 /// The same of bytes that go down.
-pub fn send_down<L: Link>(link: &mut L, there: u64, bytes: &[u8]) -> Result<u64, Stop>
+pub(crate) fn send_down<L: Link>(link: &mut L, there: u64, bytes: &[u8]) -> Result<u64, Stop>
     ensures down { Sent (L.down link.old) (L.down link.new) bytes.now result }
     ensures up { L.up link.new ≡ L.up link.old }
     ensures count { there ≤ length (waiting (L.down link.old)) → IfOk result (λ n. n ≡ there + length bytes.now) }
@@ -41,7 +41,7 @@ pub fn send_down<L: Link>(link: &mut L, there: u64, bytes: &[u8]) -> Result<u64,
 }
 
 /// The next bytes that come up, at most `max`.
-pub fn receive_up<L: Link>(alloc: Global, link: &mut L, max: usize) -> Result<Vec<u8>, Stop>
+pub(crate) fn receive_up<L: Link>(alloc: Global, link: &mut L, max: usize) -> Result<Vec<u8>, Stop>
     ensures up { Got (L.up link.old) (L.up link.new) max result }
     ensures down { L.down link.new ≡ L.down link.old }
     ensures honest { L.honest link.old → L.honest link.new }
@@ -58,7 +58,11 @@ pub fn receive_up<L: Link>(alloc: Global, link: &mut L, max: usize) -> Result<Ve
 }
 
 /// The next bytes that come down, at most `max`.
-pub fn receive_down<L: Link>(alloc: Global, link: &mut L, max: usize) -> Result<Vec<u8>, Stop>
+pub(crate) fn receive_down<L: Link>(
+    alloc: Global,
+    link: &mut L,
+    max: usize,
+) -> Result<Vec<u8>, Stop>
     ensures down { Got (L.down link.old) (L.down link.new) max result }
     ensures up { L.up link.new ≡ L.up link.old }
     ensures honest { L.honest link.old → L.honest link.new }

@@ -5,7 +5,7 @@ use Rattle.replay_script.specs.PairSeen.{pair_seen}
 use Rattle.inspect_world.specs.Costs.{line_bytes}
 use Rattle.pair_world.specs.PairLinks.{pair_started}
 use Rattle.replay_parts.specs.Moments.{Moment, moment}
-use Rattle.pair_replay.specs.declared.ends.PairEnds.{PairEnds}
+use Rattle.pair_replay.specs.declared.two_fronts.TwoFronts.{TwoFronts}
 use Rattle.pair_replay.specs.PairAnswers.{pair_since}
 use Rattle.pair_replay.proofs.PairFollows.{run-well, run-line}
 use Rattle.pair_replay.proofs.LinesRun.{running-first, with-lines, run-later, run-on, run-stops, read-stops, lines-done, whole_of}
@@ -141,7 +141,7 @@ pub returns : goal.returns
 returns g c =
     let up = g.L.Link.up c.loop-text.link in
     let down = g.L.Link.down c.loop-text.link in
-    let new : Moment (PairEnds g.row.P.Denot g.P.Panel) = record {
+    let new : Moment (TwoFronts g.row.P.Denot g.P.Panel) = record {
       honest = g.L.Link.honest c.loop-text.link;
       up = up;
       down = down;

@@ -1,7 +1,0 @@
--- As many are told as the front end has.
-use Rattle.std.proofs.Common.{length, ap}
-use Rattle.inspect_replay.proofs.SameEnds.{told-same}
-use Rattle.inspect_replay.proofs.ends.Ends.tell_replies.Goals as goal
-
-pub returns : goal.returns
-returns g c = told-same c.args.self.now _ _ _ (ap length c.replies.ensures)

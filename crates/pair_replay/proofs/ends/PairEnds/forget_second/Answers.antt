@@ -1,6 +1,0 @@
--- Nothing was told of a second front end that is still to come.
-use Rattle.pair_replay.proofs.SameEnds.{seated-same}
-use Rattle.pair_replay.proofs.ends.PairEnds.forget_second.Goals as goal
-
-pub returns-clause-ends : goal.returns-clause-ends
-returns-clause-ends g c = seated-same _ _
