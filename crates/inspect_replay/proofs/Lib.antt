@@ -17,6 +17,7 @@ pub mod AnswerLemmas
 pub mod FaultAnswers
 pub mod ServeLemmas
 pub mod ClientLemmas
+pub mod ServeNumbers
 pub mod ServeEnds
 pub mod ReadLemmas
 pub mod ServeRoom

@@ -6,10 +6,12 @@ use Rattle.pipe_frames.specs.Fault.{Rose}
 use Rattle.pipe_frames.specs.Frames.{frames_of}
 use Rattle.pipe_frames.specs.Whole.{WrotePart}
 use Rattle.session_runs.specs.World.{Stepped, steps}
+use Rattle.back_end.specs.Laws.{HasRoom}
+use Rattle.back_end.specs.Pairs.{root_state, second_state}
 use Rattle.inspect_replay.specs.declared.service.Service.{Service}
 use Rattle.replay_parts.specs.Says.{Counts, OthersStill, says_of}
 use Rattle.replay_parts.specs.Stops.{two_counts}
-use Rattle.inspect_replay.specs.Served.{Served, first_alone, first_paired, served_step, served_run, HasRoomFor, RoomForEach}
+use Rattle.inspect_replay.specs.Served.{Served, alone, paired, first_alone, first_paired, served_step, served_run, HasRoomFor, RoomForEach}
 use Rattle.inspect_replay.specs.Served.{ClientsStandFor}
 use Rattle.replay_parts.specs.declared.status.Status.{Status}
 use Rattle.replay_parts.specs.declared.status.Status.TheVariants as status
@@ -104,10 +106,36 @@ AnswersTook first status.Memory input call = HaltedWithin Memory first (take max
 abbrev pub ServeTook : Status → List ℕ → ServeCall → Type 0
 ServeTook status input call = AnswersTook first_alone status input call
 
+-- a client has no room for a step, or one of two has none
+abbrev pub LacksRoom : Served → Type 0
+LacksRoom (alone state) = HasRoom state → ⊥
+LacksRoom (paired pair) = HasRoom (root_state pair) × HasRoom (second_state pair) → ⊥
+
+-- Answering two clients stopped before a frame that met one without room for a step; exactly the answers to the frames before it were
+-- written.
+pub record StoppedFull (frames : List (List ℕ)) (before after : Option (List ℕ)) : Type 0 where
+  pub answered : List (List ℕ)
+  pub frame : List ℕ
+  pub later : List (List ℕ)
+  pub cut : frames ≡ answered ++ frame ∷ later
+  pub room : RoomForEach first_paired answered
+  pub full : LacksRoom (steps served_step first_paired answered).state
+  pub wrote : Appends before after (steps served_step first_paired answered).sent
+
 -- What `share` wrote of the answers to two clients. No room is answered exactly where a frame meets two clients for one of which there
--- is none, or no number for another session.
+-- is none.
 abbrev pub ShareTook : Status → List ℕ → ServeCall → Type 0
-ShareTook status input call = AnswersTook first_paired status input call
+ShareTook status.Done input call = AnswersTook first_paired status.Done input call
+ShareTook status.Usage input call = ⊥
+ShareTook (status.Line number fault) input call = ⊥
+ShareTook status.TooLong input call = AnswersTook first_paired status.TooLong input call
+ShareTook status.ReadFault input call = AnswersTook first_paired status.ReadFault input call
+ShareTook status.WriteFault input call = AnswersTook first_paired status.WriteFault input call
+ShareTook status.LinkFault input call = ⊥
+ShareTook (status.FrontRefused place kind) input call = ⊥
+ShareTook status.NoRoom input call =
+    StoppedFull (frames_of (take max_input input)).whole call.taken_before call.taken_after
+ShareTook status.Memory input call = AnswersTook first_paired status.Memory input call
 
 -- an answer that `share` gives
 abbrev pub IsShareStatus : Status → Type 0

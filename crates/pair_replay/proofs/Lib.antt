@@ -4,6 +4,7 @@ pub mod SessionSizes
 pub mod OutsideCounts
 pub mod ReplyIds
 pub mod PairSteps
+pub mod NumberLemmas
 pub mod AnySends
 pub mod PairLinkLemmas
 pub mod FollowLemmas

@@ -219,7 +219,7 @@ name-next true id s = omega arith
 name-next false id s = omega arith
 
 -- a session is numbered at most
-few-next : (frame : List ℕ) (s : Sessions) → (routing frame s).sessions.next ≤ s.next + 1
+pub few-next : (frame : List ℕ) (s : Sessions) → (routing frame s).sessions.next ≤ s.next + 1
 few-next frame s = at (request_of frame) where
   by : (session : Field (List ℕ)) (r : Request) → (by_session session r.id r.method r.params s).sessions.next ≤ s.next + 1
   by Missing r = method-next (bytes_eq attach_method r.method) (bytes_eq detach_method r.method) r.id r.params s

@@ -1,4 +1,5 @@
 pub mod Tellings
+pub mod NumberLaws
 pub mod PairAnswers
 pub mod Judged
 pub mod Running

@@ -5,14 +5,17 @@
 //!
 //! Way in: `run_pair`. `TwoFronts` (src/two_fronts.rt) has both ends: two seats behind a `Mux`, two front ends behind `Fronts`.
 //!
-//! Law: none of its own. What a line does and prints stands in pair_world (specs/PairScripts); what holds of each call in specs/.
+//! Law: `session_numbers_law`, that the numbers of sessions last. What a line does and prints stands in pair_world (specs/PairScripts);
+//! what holds of each call in specs/.
 #![tactic(auto)]
 
 mod carry;
+mod laws;
 mod reading;
 mod run;
 mod settles;
 mod shows;
 mod two_fronts;
 
+pub use laws::session_numbers_law;
 pub use run::run_pair;

@@ -3,8 +3,9 @@ use Rattle.std.proofs.Common.{Ok, Err, sym, subst}
 use Rattle.inspect_replay.specs.Served.{first_paired}
 use Rattle.replay_parts.specs.declared.status.Status.TheVariants.{Done}
 use Rattle.replay_parts.specs.Answers.{StatusRose}
-use Rattle.inspect_replay.specs.Serving.{ServeCall, ShareTook, IsShareStatus}
+use Rattle.inspect_replay.specs.Serving.{ServeCall, AnswersTook, IsShareStatus}
 use Rattle.inspect_replay.proofs.ServeEnds.{end-took, stop-served, share-status, stop-rose, served-reads}
+use Rattle.inspect_replay.proofs.ServeNumbers.{share-took}
 use Rattle.inspect_replay.proofs.FaultAnswers.{answers-faults, stop-answers}
 use Rattle.inspect_replay.proofs.serve.share.Goals as goal
 
@@ -37,8 +38,9 @@ returns-in-Err-clause-took g c = λ input left.
       taken_before = g.K.Sink.taken c.args.out.now;
       taken_after = g.K.Sink.taken c.serve_source.new.out;
     } in
-    subst (λ status. ShareTook status input call) (sym c.status_of.ensures)
-    (stop-served c.in-Err.stop first_paired input call left c.in-Err.ensures.served)
+    share-took c.status_of.result input call
+    (subst (λ status. AnswersTook first_paired status input call) (sym c.status_of.ensures)
+    (stop-served c.in-Err.stop first_paired input call left c.in-Err.ensures.served))
 
 pub returns-in-Err-clause-only : goal.returns-in-Err-clause-only
 returns-in-Err-clause-only g c =

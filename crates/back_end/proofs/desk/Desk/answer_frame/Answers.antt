@@ -20,7 +20,7 @@ returns-in-Some-clause-stands c =
     let load = c.in-Some.load in
     let own = subst (λ (o : Option LoadFrame). IfSome o (λ f. c.args.own ≡ true)) c.in-Some.is c.requires.known in
     let asks = subst (λ (o : Option LoadFrame). IfSome o (λ f. AsksLoad c.args.frame.now f.id (loaded_page f.page)))
-      c.in-Some.is c.requires.asks in
+    c.in-Some.is c.requires.asks in
     λ state both.
     subst (λ (s : Step). OnOk c.answer_loaded.result
     (BothStandFor c.answer_loaded.new.self c.answer_loaded.new.history c.answer_loaded.new.side s.state))
@@ -32,7 +32,7 @@ returns-in-Some-clause-sent c =
     let load = c.in-Some.load in
     let own = subst (λ (o : Option LoadFrame). IfSome o (λ f. c.args.own ≡ true)) c.in-Some.is c.requires.known in
     let asks = subst (λ (o : Option LoadFrame). IfSome o (λ f. AsksLoad c.args.frame.now f.id (loaded_page f.page)))
-      c.in-Some.is c.requires.asks in
+    c.in-Some.is c.requires.asks in
     λ state both.
     subst (λ (s : Step). OnOk c.answer_loaded.result
     (c.answer_loaded.new.out.items ≡ c.args.out.now.items ++ frames_of_moves s.moves))
@@ -44,7 +44,7 @@ returns-in-Some-clause-told c =
     let load = c.in-Some.load in
     let own = subst (λ (o : Option LoadFrame). IfSome o (λ f. c.args.own ≡ true)) c.in-Some.is c.requires.known in
     let asks = subst (λ (o : Option LoadFrame). IfSome o (λ f. AsksLoad c.args.frame.now f.id (loaded_page f.page)))
-      c.in-Some.is c.requires.asks in
+    c.in-Some.is c.requires.asks in
     λ state other both stands.
     subst (λ (out : Outward). OnOk c.answer_loaded.result
     (Hears c.args.guest.now c.answer_loaded.new.guest c.answer_loaded.new.side (heard_step out other)))
