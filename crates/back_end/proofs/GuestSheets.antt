@@ -6,7 +6,7 @@ use Rattle.std.specs.Prelude.{IsSome, slice_get}
 use Rattle.std.proofs.lemmas.List.Concat.{flat_map-append}
 use Rattle.pipe_frames.specs.Frames.{framed}
 use Rattle.page_forms.specs.declared.acts.Act.{Act}
-use Rattle.sheet_reader.specs.declared.book.Origin.{Origin}
+use Rattle.node_tree.specs.declared.origins.Origin.{Origin}
 use Rattle.sheet_reader.specs.declared.book.SheetEntry.{SheetEntry}
 use Rattle.sheet_reader.specs.Books.{entry_of, removed}
 use Rattle.style_edits.specs.Edits.{is_too_big, new_sheet}

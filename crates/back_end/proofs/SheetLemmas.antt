@@ -10,8 +10,7 @@ use Rattle.std.proofs.lemmas.Bool.Decides.{nat_tests}
 use Rattle.std.proofs.lemmas.List.{map-append}
 use Rattle.std.proofs.lemmas.List.Elements.{All-head, All-tail}
 use Rattle.css_objects.specs.Sheets.{sheet_in}
-use Rattle.sheet_reader.specs.declared.book.Origin.{Origin}
-use Rattle.sheet_reader.specs.declared.book.Origin.TheVariants.{UserAgent, Regular}
+use Rattle.node_tree.specs.declared.origins.Origin.{Origin}
 use Rattle.sheet_reader.specs.declared.book.SheetEntry.{SheetEntry}
 use Rattle.sheet_reader.specs.Books.{IsStored, entry_of, removed}
 use Rattle.style_edits.specs.declared.faults.SheetErr.{SheetErr}
@@ -23,13 +22,12 @@ use Rattle.page_forms.specs.declared.sheets.SheetForm.{SheetForm}
 use Rattle.page_forms.specs.Sheets.{max_sheets, max_sheet_bytes, is_short, can_hold_sheets}
 use Rattle.page_forms.specs.Texts.{SheetsHaveTexts}
 use Rattle.client_views.specs.Views.{ShownSheet, sheet_number, AreSheets, shows_sheet, shown_text, sheets_without, is_in, is_distinct}
-use Rattle.css_agent.specs.Told.{told_origin}
 use Rattle.css_agent.specs.Asks.{sheet_named}
 use Rattle.cascade_match.proofs.MatchLemmas.{drop-at}
 use Rattle.css_agent.proofs.TellableStyles.{both, sheet-number}
 use Rattle.dom_agent.specs.Laws.{CanTellSheets}
 use Rattle.media_rules.specs.declared.medium.Medium.{Medium}
-use Rattle.back_end.specs.Sheets.{origin_in_book, entry_of_sheet, as_book, shown_sheet, numbered_sheets, AscendBetween, AreSheetTexts}
+use Rattle.back_end.specs.Sheets.{entry_of_sheet, as_book, shown_sheet, numbered_sheets, AscendBetween, AreSheetTexts}
 use Rattle.back_end.specs.Sheets.{AreSheetsBelow, NumberedBook, AreBelow}
 
 -- ---- tests
@@ -221,15 +219,10 @@ sheets-loaded next fs some can texts =
 
 -- ---- the book
 
-origin-back : (origin : Origin) → origin_in_book (told_origin origin) ≡ origin
-origin-back UserAgent = refl
-origin-back Regular = refl
-
 pub book-last : (next : ℕ) (origin : Origin) (text : List ℕ) (ss : List ShownSheet)
     → as_book (ss ++ shown_sheet next origin text ∷ []) ≡ as_book ss ++ new_sheet next origin text ∷ []
 book-last next origin text ss =
-    map-append entry_of_sheet ss (shown_sheet next origin text ∷ []) ∙ ap (λ (o : Origin). as_book ss ++ new_sheet next o text ∷ [])
-    (origin-back origin)
+    map-append entry_of_sheet ss (shown_sheet next origin text ∷ [])
 
 pub book-without : (n : ℕ) (ss : List ShownSheet) → removed n (as_book ss) ≡ as_book (sheets_without n ss)
 book-without n [] = refl
@@ -387,7 +380,7 @@ loaded-turn next i medium forms f book later at inv is =
     let split : drop i forms ≡ f ∷ drop (i + 1) forms = drop-at forms i f at in
     let rest = as_book (numbered_sheets (book.next + 1) (drop (i + 1) forms)) in
     let own : new_sheet book.next f.origin f.text ∷ rest ≡ as_book (numbered_sheets book.next (drop i forms)) =
-    ap (λ (o : Origin). new_sheet book.next o f.text ∷ rest) (sym (origin-back f.origin)) ∙ ap
+    ap
     (λ (fs : List SheetForm). as_book (numbered_sheets book.next fs)) (sym split) in
     let count : length (drop i forms) ≡ suc (length (drop (i + 1) forms)) = ap (λ (fs : List SheetForm). length fs) split in
     let done : LoadedSoFar next medium forms (i + 1)

@@ -5,8 +5,6 @@ use Rattle.std.specs.Prelude.{IsSome, is_some, slice_get, option_and_then}
 use Rattle.std.specs.FinMap as finite
 use Rattle.std.specs.Str.{IsUtf8}
 use Rattle.std.proofs.lemmas.List.Concat.{flat_map-append}
-use Rattle.css_objects.specs.declared.sheets.SheetOrigin.{SheetOrigin}
-use Rattle.css_objects.specs.declared.sheets.SheetOrigin.TheVariants as told
 use Rattle.css_objects.specs.Sheets.{sheet_in}
 use Rattle.node_tree.specs.Nodes.{Branch, alone}
 use Rattle.node_tree.specs.Labels.{is_element}
@@ -15,7 +13,7 @@ use Rattle.page_tree.specs.Pages.{PageRow, row_serial, PageValue, IsValid, find_
 use Rattle.node_binding.specs.Bindings.{BindingValue, Stands, cleared}
 use Rattle.node_binding.specs.Sessions.{Session, serial_at, reset}
 use Rattle.node_binding.proofs.StandsLemmas.{Stands-reset}
-use Rattle.sheet_reader.specs.declared.book.Origin.{Origin}
+use Rattle.node_tree.specs.declared.origins.Origin.{Origin}
 use Rattle.sheet_reader.specs.declared.book.SheetEntry.{SheetEntry}
 use Rattle.sheet_reader.specs.Books.{entry_of, removed}
 use Rattle.style_edits.specs.Edits.{is_too_big, new_sheet}
@@ -32,7 +30,7 @@ use Rattle.client_views.specs.Moves.{Move, clear, added, dropped, replied, messa
 use Rattle.cascade_match.proofs.MatchLemmas.{drop-at}
 use Rattle.cdp_messages.specs.declared.css_ask.CssAsk.{CssAsk}
 use Rattle.cdp_messages.specs.declared.css_ask.CssAsk.TheVariants as css
-use Rattle.css_agent.specs.Told.{told_origin, told_header, added_message, turn_messages, event_messages}
+use Rattle.css_agent.specs.Told.{told_header, added_message, turn_messages, event_messages}
 use Rattle.css_agent.specs.Asks.{sheet_named, if_sheet, styled_page, css_outcome, answer_move}
 use Rattle.dom_agent.specs.Keepers.{session_keeper, binding_keeper}
 use Rattle.dom_agent.specs.Requests.{known_node}
@@ -41,7 +39,7 @@ use Rattle.back_end.specs.declared.side.PageSide.{PageSide}
 use Rattle.back_end.specs.declared.faults.ActFault.{ActFault}
 use Rattle.back_end.specs.declared.faults.ActFault.TheVariants.{Sheet}
 use Rattle.style_edits.specs.declared.faults.SheetFault.TheVariants.{TooBig}
-use Rattle.back_end.specs.Sheets.{origin_in_book, entry_of_sheet, as_book, numbered_sheets, SheetChange, leaves, comes, NumberedBook}
+use Rattle.back_end.specs.Sheets.{entry_of_sheet, as_book, numbered_sheets, SheetChange, leaves, comes, NumberedBook}
 use Rattle.media_rules.specs.declared.medium.Medium.{Medium}
 use Rattle.shown_pages.specs.declared.modes.Mode.{Mode}
 use Rattle.shown_pages.specs.ShownPages.{shown_page}
@@ -65,12 +63,8 @@ use Rattle.back_end.proofs.SeatLemmas.{marks-stands, on-is}
 
 -- ---- frames of messages
 
-told-back : (origin : SheetOrigin) → told_origin (origin_in_book origin) ≡ origin
-told-back told.UserAgent = refl
-told-back told.Regular = refl
-
 header-is : (s : ShownSheet) → told_header (entry_of_sheet s) ≡ sheet_header s
-header-is s = ap (λ (o : SheetOrigin). record { length = (sheet_header s).length; origin = o; sheet = s.number }) (told-back s.origin)
+header-is s = refl
 
 -- each sheet comes
 pub come-frames : (ss : List ShownSheet) → message_frames (map added_message (as_book ss)) ≡ frames_of_moves (moves_come ss)

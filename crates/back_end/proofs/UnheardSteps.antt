@@ -60,7 +60,8 @@ taken-still : (es : Option (List Inverse)) (state : State) → IsStill state.sid
 taken-still None state = refl
 taken-still (Some es) state = made-still state.side.page es
 
-own-still : {A : Type 0} (turn_of : A → Turn) (read : Result A Why) (state : State) → IsStill state.side.page (own_outward turn_of read state)
+own-still : {A : Type 0} (turn_of : A → Turn) (read : Result A Why) (state : State)
+    → IsStill state.side.page (own_outward turn_of read state)
 own-still turn_of (Err why) state = refl
 own-still turn_of (Ok a) state = tt
 

@@ -2,10 +2,7 @@
 use Rattle.std.specs.Prelude.{◌≤◌, ◌<◌, ℕ, ◌+◌, List, [], ◌∷◌, map, length, refl, ⊤}
 use Rattle.std.specs.Coded.{Coded, code_by, coded×, coded_list, coded_ℕ}
 use Rattle.std.specs.Str.{IsUtf8}
-use Rattle.css_objects.specs.declared.sheets.SheetOrigin.{SheetOrigin}
-use Rattle.css_objects.specs.declared.sheets.SheetOrigin.TheVariants as told
-use Rattle.sheet_reader.specs.declared.book.Origin.{Origin}
-use Rattle.sheet_reader.specs.declared.book.Origin.TheVariants.{UserAgent, Regular}
+use Rattle.node_tree.specs.declared.origins.Origin.{Origin}
 use Rattle.sheet_reader.specs.declared.book.SheetEntry.{SheetEntry}
 use Rattle.sheet_reader.specs.contracts.book.SheetEntry as entry
 use Rattle.style_edits.specs.Edits.{new_sheet}
@@ -14,18 +11,12 @@ use Rattle.page_forms.specs.Sheets.{max_sheets, max_sheet_bytes}
 use Rattle.media_rules.specs.declared.medium.Medium.{Medium}
 use Rattle.media_rules.specs.contracts.medium.Medium as medium
 use Rattle.client_views.specs.Views.{ShownSheet}
-use Rattle.css_agent.specs.Told.{told_origin}
 
 -- ---- a sheet in the book, and as messages tell it
 
--- where a sheet comes from, as the book has it
-abbrev pub origin_in_book : SheetOrigin → Origin
-origin_in_book told.UserAgent = UserAgent
-origin_in_book told.Regular = Regular
-
 -- the book's entry of a sheet, with the reading of its text
 abbrev pub entry_of_sheet : ShownSheet → SheetEntry
-entry_of_sheet s = new_sheet s.number (origin_in_book s.origin) s.text
+entry_of_sheet s = new_sheet s.number s.origin s.text
 
 -- the book of these sheets
 abbrev pub as_book : List ShownSheet → List SheetEntry
@@ -33,7 +24,7 @@ as_book sheets = map entry_of_sheet sheets
 
 -- a sheet with this number, origin and text
 abbrev pub shown_sheet : ℕ → Origin → List ℕ → ShownSheet
-shown_sheet number origin text = record { number = number; origin = told_origin origin; text = text }
+shown_sheet number origin text = record { number = number; origin = origin; text = text }
 
 -- the sheets of a page that is loaded, with the numbers from this one on
 abbrev pub numbered_sheets : ℕ → List SheetForm → List ShownSheet

@@ -6,7 +6,7 @@ use Rattle.selectors.specs.declared.weight.Spec.{Spec}
 use Rattle.selectors.specs.Forms.{SelectorForm}
 use Rattle.selectors.specs.Weight.{specificity_of}
 use Rattle.select_match.specs.Matches.{selector_matches}
-use Rattle.sheet_reader.specs.declared.book.Origin.{Origin}
+use Rattle.node_tree.specs.declared.origins.Origin.{Origin}
 use Rattle.sheet_reader.specs.declared.book.SheetEntry.{SheetEntry}
 use Rattle.sheet_reader.specs.Forms.{RuleForm}
 use Rattle.sheet_reader.specs.Sheets.{sheet_of}

@@ -47,8 +47,8 @@ pub use command::{Asked, Command, CommandErr, Param, ReadErr, Refused, Whitespac
 pub use css_ask::CssAsk;
 pub use css_edit::CssEdit;
 pub use css_objects::{
-    Header, Inherited, Listed, Matched, Media, Rule, RuleMatch, RuleSelectors, SelectorValue,
-    SheetOrigin, SourceRange, Style, StyleProperty, Weight,
+    Header, Inherited, Listed, Matched, Media, Origin, Rule, RuleMatch, RuleSelectors,
+    SelectorValue, SourceRange, Style, StyleProperty, Weight,
 };
 pub use dom_ask::DomAsk;
 pub use dom_edit::DomEdit;

@@ -5,7 +5,7 @@ use Rattle.std.specs.Str.{IsUtf8}
 use Rattle.std.proofs.lemmas.Bool.{eqb-true}
 use Rattle.cdp_json.specs.Kinds.{is_counted}
 use Rattle.css_objects.specs.Sheets.{is_sheet}
-use Rattle.css_objects.specs.declared.sheets.SheetOrigin.{SheetOrigin}
+use Rattle.node_tree.specs.declared.origins.Origin.{Origin}
 use Rattle.cdp_messages.specs.Events.{sheet_added, sheet_changed, sheet_removed, fits_news}
 use Rattle.client_views.specs.Views.{ShownSheet, sheet_number, AreSheets, text_units, sheet_header, shows_sheet, shown_text}
 use Rattle.client_views.specs.Views.{is_in, is_distinct}
@@ -58,7 +58,7 @@ shown_utf8 n text (s ∷ ss) are e = text_at (s.number == n) s.text text (shown_
 
 -- ---- their events
 
-added_fits : (from : SheetOrigin) (number units : ℕ) → is_sheet number ≡ true → is_counted units ≡ true
+added_fits : (from : Origin) (number units : ℕ) → is_sheet number ≡ true → is_counted units ≡ true
     → fits_news (sheet_added (record { length = units; origin = from; sheet = number })) ≡ true
 added_fits from number units is counted = both (both counted (both refl (both is refl))) refl
 

@@ -4,7 +4,7 @@ use Rattle.std.specs.Prelude.{◌++◌, Option, Some, None}
 use Rattle.std.specs.List.{list_any, sum_by}
 use Rattle.std.specs.Str.{IsUtf8}
 use Rattle.css_objects.specs.declared.sheets.Header.{Header}
-use Rattle.css_objects.specs.declared.sheets.SheetOrigin.{SheetOrigin}
+use Rattle.node_tree.specs.declared.origins.Origin.{Origin}
 use Rattle.css_objects.specs.Sheets.{is_sheet}
 use Rattle.node_tree.specs.Nodes.{Nodes, none, node, height, is_no_node}
 use Rattle.node_tree.specs.Levels.{most_levels}
@@ -64,7 +64,7 @@ is_distinct (x ∷ xs) = not (is_in x xs) && is_distinct xs
 -- a sheet that a client was told of: its number, where it comes from, and its text as the page has it
 pub record ShownSheet : Type 0 where
   pub number : ℕ
-  pub origin : SheetOrigin
+  pub origin : Origin
   pub text : List ℕ
 
 -- the sheet's number

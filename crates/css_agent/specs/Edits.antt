@@ -5,7 +5,7 @@ use Rattle.std.specs.List.{slice_get}
 use Rattle.css_objects.specs.declared.ranges.SourceRange.{SourceRange}
 use Rattle.css_objects.specs.declared.media.Media.{Media}
 use Rattle.css_objects.specs.declared.rules.Rule.{Rule}
-use Rattle.css_objects.specs.declared.sheets.SheetOrigin.TheVariants as origin
+use Rattle.node_tree.specs.declared.origins.Origin.TheVariants as origin
 use Rattle.css_objects.specs.Sheets.{sheet_in}
 use Rattle.sheet_reader.specs.declared.book.SheetEntry.{SheetEntry}
 use Rattle.sheet_reader.specs.Books.{entry_of}

@@ -14,7 +14,6 @@ use Rattle.sheet_reader.specs.declared.book.SheetEntry.{SheetEntry}
 use Rattle.sheet_reader.specs.declared.sheet.Property.{Property}
 use Rattle.sheet_reader.specs.Forms.{RuleForm}
 use Rattle.sheet_reader.specs.Declarations.{style_of}
-use Rattle.css_agent.specs.Told.{told_origin}
 use Rattle.css_agent.specs.Texts.{source_range, told_part}
 use Rattle.css_agent.specs.MediaAround.{told_around}
 
@@ -70,7 +69,7 @@ told_prelude text r = record { selectors = map (told_selector text) r.selectors;
 -- a style rule of a sheet
 abbrev pub told_rule : SheetEntry → RuleForm → Rule
 told_rule e r = record {
-  origin = told_origin e.origin;
+  origin = e.origin;
   selectors = told_prelude e.text r;
   style = rule_style e.id e.text r;
   sheet = e.id;

@@ -1,21 +1,12 @@
 -- What messages tell of the sheets of a book.
 use Rattle.std.specs.Prelude.{ℕ, List, [], ◌∷◌, map, Bool, cond, not, ◌&&◌}
 use Rattle.std.specs.List.{sum_by}
-use Rattle.css_objects.specs.declared.sheets.SheetOrigin.{SheetOrigin}
-use Rattle.css_objects.specs.declared.sheets.SheetOrigin.TheVariants as told
 use Rattle.css_objects.specs.declared.sheets.Header.{Header}
-use Rattle.sheet_reader.specs.declared.book.Origin.{Origin}
-use Rattle.sheet_reader.specs.declared.book.Origin.TheVariants.{UserAgent, Regular}
 use Rattle.sheet_reader.specs.declared.book.SheetEntry.{SheetEntry}
 use Rattle.sheet_reader.specs.Positions.{units_at}
 use Rattle.style_edits.specs.declared.splice.Splice.{Splice}
 use Rattle.cdp_messages.specs.Events.{News, sheet_added, sheet_changed}
 use Rattle.cdp_messages.specs.Replies.{Message, event}
-
--- where a sheet comes from, as messages tell it
-abbrev pub told_origin : Origin → SheetOrigin
-told_origin UserAgent = told.UserAgent
-told_origin Regular = told.Regular
 
 -- the UTF-16 units of a text
 abbrev pub units_in : List ℕ → ℕ
@@ -23,7 +14,7 @@ units_in text = sum_by units_at text
 
 -- what is told of a sheet as it comes: how long its text is, where it comes from, and its number
 abbrev pub told_header : SheetEntry → Header
-told_header e = record { length = units_in e.text; origin = told_origin e.origin; sheet = e.id }
+told_header e = record { length = units_in e.text; origin = e.origin; sheet = e.id }
 
 -- the message that tells that a sheet comes
 abbrev pub added_message : SheetEntry → Message

@@ -12,8 +12,8 @@ use crate::media_around::{media_at, told_media_of};
 use crate::rulers::Ruler;
 use crate::rules::told_rule;
 use crate::sheet_rulers::{SheetRuler, ruler_of};
-use css_objects::{Listed, Media, Rule, RuleSelectors, SheetOrigin, SourceRange, Style};
-use node_tree::Text;
+use css_objects::{Listed, Media, Rule, RuleSelectors, SourceRange, Style};
+use node_tree::{Origin, Text};
 use sheet_reader::{SheetBook, SheetEntry};
 use std::alloc::{AllocError, Global};
 use style_edits::{RulePlace, Splice, edited_media};
@@ -80,7 +80,7 @@ fn empty_rule(alloc: Global, sheet: u64) -> Rule
         sheet: Some(sheet),
     };
     Rule {
-        origin: SheetOrigin::Regular,
+        origin: Origin::Regular,
         selectors,
         style,
         sheet,

@@ -10,7 +10,6 @@ ghost use Rattle.sheet_reader.specs.Sheets.{sheet_of};
 ghost use Rattle.sheet_reader.specs.Usable.{IsRuleOf};
 ghost use Rattle.css_agent.specs.RuleObjects.{told_weight, told_selector, told_prelude, told_rule};
 
-use crate::headers::told_origin;
 use crate::media_around::told_around;
 use crate::rulers::Ruler;
 use crate::styles::{rule_style, told_part};
@@ -99,7 +98,7 @@ pub(crate) fn told_rule(
     let selectors = told_prelude(alloc, ruler, rule)?;
     let style = rule_style(alloc, ruler, entry.id, rule)?;
     Ok(Rule {
-        origin: told_origin(entry.origin),
+        origin: entry.origin,
         selectors,
         style,
         sheet: entry.id,

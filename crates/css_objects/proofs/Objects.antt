@@ -10,10 +10,11 @@ use Rattle.cdp_json.specs.Rows.{object_of}
 use Rattle.cdp_json.proofs.KindLaws.{choice_lawful, only_text_lawful}
 use Rattle.css_objects.specs.declared.media.Media.{Media}
 use Rattle.css_objects.specs.declared.rules.Rule.{Rule}
-use Rattle.css_objects.specs.declared.sheets.SheetOrigin.{SheetOrigin}
-use Rattle.css_objects.specs.declared.sheets.SheetOrigin.TheVariants.{UserAgent, Regular}
+use Rattle.node_tree.specs.Origins.{all_origins, origin_name}
+use Rattle.node_tree.specs.declared.origins.Origin.{Origin}
+use Rattle.node_tree.specs.declared.origins.Origin.TheVariants.{UserAgent, Regular}
 use Rattle.css_objects.specs.Ranges.{range_fields, range_from, range_kind}
-use Rattle.css_objects.specs.Sheets.{is_sheet, sheet_kind, origin_name, origin_named, origin_kind, header_fields, header_from, header_kind}
+use Rattle.css_objects.specs.Sheets.{is_sheet, sheet_kind, origin_named, origin_kind, header_fields, header_from, header_kind}
 use Rattle.css_objects.specs.Media.{media_fields, media_from, media_kind, has_media, some_media_kind, written_media, media_written}
 use Rattle.css_objects.specs.Selectors.{weight_fields, weight_from, weight_kind, selector_fields, selector_from, selector_kind}
 use Rattle.css_objects.specs.Selectors.{selectors_fields, selectors_from, selectors_kind}
@@ -49,16 +50,16 @@ sheet_lawful = record { takes = sheet_take; again = λ n f. sym (the_sheet n f);
 pub sheet_sound : IsSoundKind sheet_kind (λ _. ⊤) 0
 sheet_sound = sound sheet_lawful refl (λ n f u. sheet_text-utf8 n f) (λ n. omega arith) (λ n. refl)
 
-origin_again : (o : SheetOrigin) → origin_named (origin_name o) ≡ Some o
+origin_again : (o : Origin) → origin_named (origin_name o) ≡ Some o
 origin_again UserAgent = refl
 origin_again Regular = refl
 
-origin_utf8 : (o : SheetOrigin) → IsUtf8 (origin_name o)
+origin_utf8 : (o : Origin) → IsUtf8 (origin_name o)
 origin_utf8 UserAgent = IsUtf8-are_ascii (codes "user-agent") refl
 origin_utf8 Regular = IsUtf8-are_ascii (codes "regular") refl
 
 pub origin_sound : IsSoundKind origin_kind (λ _. ⊤) 0
-origin_sound = sound (choice_lawful origin_name (UserAgent ∷ Regular ∷ []) origin_again) refl (λ o f u. origin_utf8 o) (λ o. omega arith)
+origin_sound = sound (choice_lawful origin_name all_origins origin_again) refl (λ o f u. origin_utf8 o) (λ o. omega arith)
     (λ o. refl)
 
 empty_take : (d : Data) (x : ⊤) → empty_list.reads d ≡ Some x → (empty_list.spell x ≡ d) × (empty_list.fits x ≡ true)

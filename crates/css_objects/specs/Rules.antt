@@ -3,7 +3,7 @@ use Rattle.std.specs.Prelude.{ℕ, List, [], ◌∷◌, codes, Bool, true, ◌&&
 use Rattle.cdp_json.specs.Kinds.{Kind, whole, refined, list_of}
 use Rattle.cdp_json.specs.Rows.{Row, ends, and_need, and_may, object_of}
 use Rattle.css_objects.specs.declared.media.Media.{Media}
-use Rattle.css_objects.specs.declared.sheets.SheetOrigin.{SheetOrigin}
+use Rattle.node_tree.specs.declared.origins.Origin.{Origin}
 use Rattle.css_objects.specs.declared.selectors.RuleSelectors.{RuleSelectors}
 use Rattle.css_objects.specs.declared.styles.Style.{Style}
 use Rattle.css_objects.specs.declared.rules.Rule.{Rule}
@@ -20,7 +20,7 @@ use Rattle.css_objects.specs.Styles.{inline_kind, rule_style_kind}
 
 -- the fields of a rule, in the order of their names
 abbrev pub RuleFields : Type 0
-RuleFields = Option (List Media) × (SheetOrigin × (RuleSelectors × (Style × (ℕ × ⊤))))
+RuleFields = Option (List Media) × (Origin × (RuleSelectors × (Style × (ℕ × ⊤))))
 
 -- the fields of `CSS.CSSRule`; `media` is there exactly where a media rule is around the rule
 abbrev pub rule_row : Row RuleFields

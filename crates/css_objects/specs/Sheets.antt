@@ -1,12 +1,12 @@
 -- Ids, origins and headers of sheets, as JSON.
-use Rattle.std.specs.Prelude.{ℕ, List, [], ◌∷◌, codes, drop, Bool, ◌&&◌, nat_lt, Option, None, option_and_then, bytes_eq, decimal, ⊤}
+use Rattle.std.specs.Prelude.{ℕ, List, ◌∷◌, codes, drop, Bool, ◌&&◌, nat_lt, Option, None, option_and_then, bytes_eq, decimal, ⊤}
 use Rattle.std.specs.Str.Parse.{digits_value}
 use Rattle.serde_json.specs.Data.{string}
 use Rattle.serde_json.specs.Find.{as_str}
 use Rattle.cdp_json.specs.Kinds.{Kind, if_holds, whole, is_counted, named, choice}
 use Rattle.cdp_json.specs.Rows.{Row, ends, and_need, object_of}
-use Rattle.css_objects.specs.declared.sheets.SheetOrigin.{SheetOrigin}
-use Rattle.css_objects.specs.declared.sheets.SheetOrigin.TheVariants.{UserAgent, Regular}
+use Rattle.node_tree.specs.Origins.{origin_name, all_origins}
+use Rattle.node_tree.specs.declared.origins.Origin.{Origin}
 use Rattle.css_objects.specs.declared.sheets.Header.{Header}
 use Rattle.css_objects.specs.Made.{by_fields}
 
@@ -35,22 +35,17 @@ sheet_kind = record {
   loose = None;
 }
 
--- the name of an origin (`CSS.StyleSheetOrigin`)
-abbrev pub origin_name : SheetOrigin → List ℕ
-origin_name UserAgent = codes "user-agent"
-origin_name Regular = codes "regular"
-
 -- the origin of this name
-abbrev pub origin_named : List ℕ → Option SheetOrigin
-origin_named = named origin_name (UserAgent ∷ Regular ∷ [])
+abbrev pub origin_named : List ℕ → Option Origin
+origin_named = named origin_name all_origins
 
 -- an origin, by its name
-abbrev pub origin_kind : Kind SheetOrigin
-origin_kind = choice origin_name (UserAgent ∷ Regular ∷ [])
+abbrev pub origin_kind : Kind Origin
+origin_kind = choice origin_name all_origins
 
 -- the fields of a header, in the order of their names
 abbrev pub HeaderFields : Type 0
-HeaderFields = ℕ × (SheetOrigin × (ℕ × ⊤))
+HeaderFields = ℕ × (Origin × (ℕ × ⊤))
 
 -- those fields of `CSS.CSSStyleSheetHeader` that are told
 abbrev pub header_row : Row HeaderFields

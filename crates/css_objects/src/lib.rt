@@ -26,6 +26,7 @@ mod token_write;
 pub use laws::css_objects_law;
 pub use listed::Listed;
 pub use media::{Media, media_of, media_value};
+pub use node_tree::Origin;
 pub use ranges::{SourceRange, range_of, range_value};
 pub use results::{
     class_names_of, class_names_value, new_media_of, new_media_value, new_rule_of, new_rule_value,
@@ -41,8 +42,7 @@ pub use selectors::{
     selectors_value,
 };
 pub use sheets::{
-    Header, SheetOrigin, header_of, header_value, number_in, sheet_in, sheet_of, sheet_text,
-    sheet_value,
+    Header, header_of, header_value, number_in, sheet_in, sheet_of, sheet_text, sheet_value,
 };
 pub use styles::{
     Style, StyleProperty, inline_style_of, property_of, property_value, rule_style_of, style_value,

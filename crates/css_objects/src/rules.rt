@@ -12,16 +12,17 @@ ghost use Rattle.css_objects.specs.Rules.{rule_kind, ascend, places_kind, match_
 use crate::listed::Listed;
 use crate::media::{Media, some_media_of, some_media_value};
 use crate::selectors::{RuleSelectors, selectors_of, selectors_value};
-use crate::sheets::{SheetOrigin, origin_field, origin_value, sheet_field, sheet_value};
+use crate::sheets::{origin_field, origin_value, sheet_field, sheet_value};
 use crate::styles::{Style, inline_style_of, rule_style_of, style_value};
 use cdp_json::{Cursor, ObjectBuilder, wholes_of};
+use node_tree::Origin;
 use serde_json::Value;
 use std::alloc::{AllocError, Global};
 
 /// A style rule of a sheet (`CSS.CSSRule`).
 #[derive(Drop)]
 pub struct Rule {
-    pub origin: SheetOrigin,
+    pub origin: Origin,
     pub selectors: RuleSelectors,
     pub style: Style,
     /// The sheet's number.

@@ -16,14 +16,14 @@ use crate::media::Media;
 use crate::ranges::SourceRange;
 use crate::rules::{Inherited, Matched, Rule, RuleMatch, ascend};
 use crate::selectors::{RuleSelectors, SelectorValue, Weight};
-use crate::sheets::{SheetOrigin, origin_in, sheet_in};
+use crate::sheets::{origin_in, sheet_in};
 use crate::styles::{Style, StyleProperty};
 use cdp_json::{
     ScanErr, is_counted, take_any_key, take_begin_array, take_begin_object, take_counted_field,
     take_end_object, take_key, take_text, take_text_field, take_whole,
 };
 use json::{Reader, Token};
-use node_tree::Text;
+use node_tree::{Origin, Text};
 use std::alloc::Global;
 
 // ---- texts, numbers, ranges and ids
@@ -114,7 +114,7 @@ fn sheet_where(reader: &mut Reader<'_>, there: bool) -> Result<Option<u64>, Scan
     }
 }
 
-fn scan_origin(reader: &mut Reader<'_>) -> Result<SheetOrigin, ScanErr>
+fn scan_origin(reader: &mut Reader<'_>) -> Result<Origin, ScanErr>
     ensures read { IfOk result (λ o. reader.old ≡ data_tokens (origin_kind.spell o) ++ reader.new) }
     ensures fits { IfOk result (λ o. origin_kind.fits o ≡ true) }
 {

@@ -3,37 +3,19 @@ ghost use Rattle.std.specs.Prelude.{◌≡◌, ◌∷◌, codes, option_map, str
 ghost use Rattle.serde_json.specs.View.{view};
 ghost use Rattle.cdp_json.specs.Left.{left};
 ghost use Rattle.cdp_json.specs.Rows.{left_with, need, may};
-ghost use Rattle.css_objects.specs.Sheets.{sheet_text, sheet_in, sheet_kind, origin_name, origin_named, origin_kind, header_kind};
+ghost use Rattle.css_objects.specs.Sheets.{sheet_text, sheet_in, sheet_kind, origin_named, origin_kind, header_kind};
 
 use cdp_json::{Cursor, ObjectBuilder, text_of};
+use node_tree::Origin;
 use serde_json::Value;
 use std::alloc::{AllocError, Global};
-
-/// Where a sheet comes from (`CSS.StyleSheetOrigin`).
-#[derive(Clone, Copy, Drop)]
-pub enum SheetOrigin {
-    UserAgent,
-    Regular,
-}
-
-impl SheetOrigin {
-    /// As it stands in messages.
-    pub fn as_str(self) -> &'static str
-        ensures { result.now ≡ origin_name self }
-    {
-        match self {
-            SheetOrigin::UserAgent => "user-agent",
-            SheetOrigin::Regular => "regular",
-        }
-    }
-}
 
 /// What is told of a sheet as it comes (`CSS.CSSStyleSheetHeader`).
 #[derive(Clone, Copy, Drop)]
 pub struct Header {
     /// The length of the sheet's text, in UTF-16 units.
     pub length: u64,
-    pub origin: SheetOrigin,
+    pub origin: Origin,
     /// The sheet's number.
     pub sheet: u64,
 }
@@ -121,23 +103,23 @@ pub(crate) fn sheet_if_any_value(
     }
 }
 
-pub(crate) fn origin_in(name: &str) -> Option<SheetOrigin>
+pub(crate) fn origin_in(name: &str) -> Option<Origin>
     ensures { result ≡ origin_named name.now }
 {
     match name {
-        "user-agent" => Some(SheetOrigin::UserAgent),
-        "regular" => Some(SheetOrigin::Regular),
+        "user-agent" => Some(Origin::UserAgent),
+        "regular" => Some(Origin::Regular),
         _ => None,
     }
 }
 
-fn origin_of(value: &Value) -> Option<SheetOrigin>
+fn origin_of(value: &Value) -> Option<Origin>
     ensures { result ≡ origin_kind.reads (view value.now) }
 {
     origin_in(text_of(value)?)
 }
 
-pub(crate) fn origin_field(fields: &mut Cursor<'_>) -> Option<SheetOrigin>
+pub(crate) fn origin_field(fields: &mut Cursor<'_>) -> Option<Origin>
     ensures { option_map (left_with (left fields.new)) result
         ≡ need origin_kind.reads (codes "origin") (left fields.old) }
 {
@@ -145,7 +127,7 @@ pub(crate) fn origin_field(fields: &mut Cursor<'_>) -> Option<SheetOrigin>
     origin_of(value)
 }
 
-pub(crate) fn origin_value(alloc: Global, origin: SheetOrigin) -> Result<Value, AllocError>
+pub(crate) fn origin_value(alloc: Global, origin: Origin) -> Result<Value, AllocError>
     ensures { IfOk result (λ v. view v ≡ origin_kind.spell origin) }
 {
     Value::try_from_str(alloc, origin.as_str())

@@ -15,10 +15,11 @@ use crate::media::Media;
 use crate::ranges::SourceRange;
 use crate::rules::{Inherited, Matched, Rule, RuleMatch};
 use crate::selectors::{RuleSelectors, SelectorValue, Weight};
-use crate::sheets::{SheetOrigin, sheet_text};
+use crate::sheets::sheet_text;
 use crate::styles::{Style, StyleProperty};
 use cdp_json::{write_text_field, write_whole_field};
 use json::Writer;
+use node_tree::Origin;
 use std::alloc::{AllocError, Global};
 
 // ---- ranges and ids
@@ -76,7 +77,7 @@ fn write_sheet_if_any(alloc: Global, out: &mut Writer, sheet: Option<u64>) -> Re
     }
 }
 
-fn write_origin_field(out: &mut Writer, origin: SheetOrigin) -> Result<(), AllocError>
+fn write_origin_field(out: &mut Writer, origin: Origin) -> Result<(), AllocError>
     ensures ok { OnOk result (out.new.tokens ≡ out.old.tokens
         ++ field_tokens (codes "origin") (Some (origin_kind.spell origin))) }
     ensures before { out.new.before ≡ out.old.before }

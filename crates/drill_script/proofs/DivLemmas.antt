@@ -7,7 +7,7 @@ use Rattle.std.proofs.lemmas.Bool.Decides.{nat_tests}
 use Rattle.drill_script.specs.declared.divs.Div.{Div}
 use Rattle.drill_script.specs.Draws.{next_number, drawn}
 use Rattle.drill_script.specs.Divs.{body_level, last_level, level_at, place, next_div, next_divs, AreLevels, after_divs, page_divs}
-use Rattle.drill_script.specs.Hanging.{AreNumbered}
+use Rattle.drill_script.specs.Hanging.{AreDivsNumbered}
 use Rattle.drill_script.proofs.DrawLemmas.{drawn-below}
 
 -- ---- places and levels
@@ -60,19 +60,19 @@ levels-first = record { some = omega arith; body = refl; low = low } where
 
 -- ---- their numbers
 
-next-numbered : (n : ℕ) (levels : List ℕ) (x : ℕ) → AreLevels levels → AreNumbered (length levels) (next_divs n levels x)
+next-numbered : (n : ℕ) (levels : List ℕ) (x : ℕ) → AreLevels levels → AreDivsNumbered (length levels) (next_divs n levels x)
 next-numbered zero levels x r = tt
 next-numbered (suc n) levels x r = (
   refl,
   place-below levels (drawn x (length levels)) (drawn-below x (length levels) r.some),
-  subst (λ k. AreNumbered k (next_divs n (levels ++ (next_div levels x).level ∷ []) (next_number (next_number x))))
+  subst (λ k. AreDivsNumbered k (next_divs n (levels ++ (next_div levels x).level ∷ []) (next_number (next_number x))))
       (let e : length (levels ++ (next_div levels x).level ∷ []) ≡ suc (length levels)
       = omega (arith, length-append levels ((next_div levels x).level ∷ [])) in e)
       (next-numbered n (levels ++ (next_div levels x).level ∷ []) (next_number (next_number x)) (levels-next levels x r)),
 )
 
 -- the divs of a page are numbered one after another
-pub page-numbered : (n : ℕ) → AreNumbered 1 (page_divs n)
+pub page-numbered : (n : ℕ) → AreDivsNumbered 1 (page_divs n)
 unfolding page_divs
 page-numbered n = next-numbered n (body_level ∷ []) n levels-first
 

@@ -11,7 +11,7 @@ use Rattle.node_tree.specs.Nodes.{Nodes, none, node, Branch, nodes_of}
 use Rattle.node_tree.specs.Labels.{Label}
 use Rattle.page_tree.specs.declared.forms.NodeForm.{NodeForm}
 use Rattle.drill_script.specs.declared.divs.Div.{Div}
-use Rattle.drill_script.specs.Hanging.{nothing_hangs, hung, AreNumbered}
+use Rattle.drill_script.specs.Hanging.{nothing_hangs, hung, AreDivsNumbered}
 use Rattle.drill_script.specs.DrillNodes.{div_label, below}
 
 -- ---- as code holds it
@@ -96,7 +96,7 @@ hung-first all trees n e is = record {
 }
 
 -- a div by its place
-pub numbered-at : (k : ℕ) (left : List Div) (d : Div) (rest : List Div) → AreNumbered k (left ++ d ∷ rest)
+pub numbered-at : (k : ℕ) (left : List Div) (d : Div) (rest : List Div) → AreDivsNumbered k (left ++ d ∷ rest)
     → (d.number ≡ k + length left) × (d.up < d.number)
 numbered-at k [] d rest h = let n : d.number ≡ k + 0 = omega (arith, h.0) in (n, omega (arith, h.0, h.1))
 numbered-at k (x ∷ left) d rest h =
@@ -118,7 +118,7 @@ hung-get front up j b h = at (up == j) refl where
       get_or-set_other front up j (node b.row b.children (get_or front up none)) none other
 
 -- the last of the divs that are left is hung below the one that it is put into
-pub hung-next : (all divs left : List Div) (d : Div) (trees after : List (Nodes Label)) → AreNumbered 1 all → Hung all divs trees
+pub hung-next : (all divs left : List Div) (d : Div) (trees after : List (Nodes Label)) → AreDivsNumbered 1 all → Hung all divs trees
     → divs ≡ left ++ d ∷ []
     → ((front : List (Nodes Label)) (last : Nodes Label) → trees ≡ front ++ last ∷ []
     → after ≡ hung front d.up (record { row = div_label d.digit; children = last })) → Hung all left after
@@ -132,7 +132,7 @@ hung-next all divs left d trees after numbered h pop step =
     let parts : trees ≡ front ++ last ∷ [] = last-parts trees (length divs) many in
     let is = step front last parts in
     let whole : all ≡ left ++ d ∷ h.rest = h.all_are ∙ ap (λ l. l ++ h.rest) pop ∙ append_assoc left (d ∷ []) h.rest in
-    let at = numbered-at 1 left d h.rest (subst (AreNumbered 1) whole numbered) in
+    let at = numbered-at 1 left d h.rest (subst (AreDivsNumbered 1) whole numbered) in
     let front-long : length front ≡ length divs = omega (arith, length-take (length divs) trees) in
     let up : d.up < length front = omega (arith, at.0, at.1) in
     let long : length after ≡ length front = ap length is ∙ length-set front d.up _ in
@@ -152,14 +152,14 @@ hung-next all divs left d trees after numbered h pop step =
     }
 
 -- what it is put into is left
-pub hung-fits : (all divs left : List Div) (d : Div) (trees : List (Nodes Label)) → AreNumbered 1 all → Hung all divs trees
+pub hung-fits : (all divs left : List Div) (d : Div) (trees : List (Nodes Label)) → AreDivsNumbered 1 all → Hung all divs trees
     → divs ≡ left ++ d ∷ [] → d.up + 1 < length trees
 hung-fits all divs left d trees numbered h pop =
     let n : length divs ≡ suc (length left) = ap length pop ∙ (let e : length (left ++ d ∷ []) ≡ suc (length left)
     = omega (arith, length-append left (d ∷ [])) in e) in
     let many : length trees ≡ suc (length divs) = h.many in
     let whole : all ≡ left ++ d ∷ h.rest = h.all_are ∙ ap (λ l. l ++ h.rest) pop ∙ append_assoc left (d ∷ []) h.rest in
-    let at = numbered-at 1 left d h.rest (subst (AreNumbered 1) whole numbered) in
+    let at = numbered-at 1 left d h.rest (subst (AreDivsNumbered 1) whole numbered) in
     omega (arith, at.0, at.1)
 
 -- none is left: what hangs below the body stands below it of all

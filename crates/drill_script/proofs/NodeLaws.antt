@@ -13,7 +13,7 @@ use Rattle.page_tree.specs.Forms.{CanLoad, are_formed, are_named}
 use Rattle.drill_script.specs.declared.divs.Div.{Div}
 use Rattle.drill_script.specs.Draws.{next_number, drawn}
 use Rattle.drill_script.specs.Divs.{body_level, last_level, level_at, next_div, next_divs, page_divs, AreLevels}
-use Rattle.drill_script.specs.Hanging.{AreNumbered}
+use Rattle.drill_script.specs.Hanging.{AreDivsNumbered}
 use Rattle.drill_script.specs.DrillNodes.{div_label, below, drill_nodes}
 use Rattle.drill_script.proofs.DrawLemmas.{drawn-below}
 use Rattle.drill_script.proofs.DivLemmas.{place-below, place-low, levels-next, levels-first, page-numbered, page-many}
@@ -150,7 +150,7 @@ few-none : (js : List ℕ) → count_below js [] ≡ 0
 few-none [] = refl
 few-none (j ∷ js) = let e : 0 + count_below js [] ≡ 0 = omega (arith, few-none js) in e
 
-few-below : (number : ℕ) (js : List ℕ) (divs : List Div) → AreNumbered number divs → AreBefore number js
+few-below : (number : ℕ) (js : List ℕ) (divs : List Div) → AreDivsNumbered number divs → AreBefore number js
     → count_below js divs ≤ length divs
 few-below number js [] n b = omega (arith, few-none js)
 few-below number js (d ∷ ds) n b =

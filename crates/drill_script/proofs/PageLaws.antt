@@ -16,7 +16,7 @@ use Rattle.page_forms.specs.Mediums.{usual_medium}
 use Rattle.page_forms.specs.Pages.{LoadedPage, CanLoadPage}
 use Rattle.page_forms.specs.declared.sheets.SheetForm.{SheetForm}
 use Rattle.page_forms.specs.Texts.{HaveTexts, PageHasTexts}
-use Rattle.sheet_reader.specs.declared.book.Origin.TheVariants.{Regular}
+use Rattle.node_tree.specs.declared.origins.Origin.TheVariants.{Regular}
 use Rattle.drill_script.specs.declared.divs.Div.{Div}
 use Rattle.drill_script.specs.Divs.{page_divs}
 use Rattle.drill_script.specs.DrillNodes.{element, div_label, below, drill_nodes}

@@ -2,7 +2,7 @@
 use Rattle.std.specs.Prelude.{ℕ, zero, suc, ◌+◌, ◌%◌, List, [], ◌∷◌, ◌++◌, codes, decimal}
 use Rattle.page_forms.specs.Mediums.{usual_medium}
 use Rattle.page_forms.specs.Pages.{LoadedPage}
-use Rattle.sheet_reader.specs.declared.book.Origin.TheVariants.{Regular}
+use Rattle.node_tree.specs.declared.origins.Origin.TheVariants.{Regular}
 use Rattle.drill_script.specs.Divs.{page_divs}
 use Rattle.drill_script.specs.DrillNodes.{drill_nodes}
 

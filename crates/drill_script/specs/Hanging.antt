@@ -15,6 +15,6 @@ abbrev pub hung : List (Nodes Label) → ℕ → Branch Label → List (Nodes La
 hung trees up b = slice_set trees up (node b.row b.children (get_or trees up none))
 
 -- the divs are numbered one after another, and each is put into the body or a div before it
-abbrev pub AreNumbered : ℕ → List Div → Type 0
-AreNumbered number [] = ⊤
-AreNumbered number (d ∷ ds) = (d.number ≡ number) × (d.up < number) × AreNumbered (suc number) ds
+abbrev pub AreDivsNumbered : ℕ → List Div → Type 0
+AreDivsNumbered number [] = ⊤
+AreDivsNumbered number (d ∷ ds) = (d.number ≡ number) × (d.up < number) × AreDivsNumbered (suc number) ds

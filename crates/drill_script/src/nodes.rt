@@ -3,7 +3,7 @@ ghost use Rattle.std.specs.Prelude.{◌≡◌, ◌+◌, ◌<◌, [], ◌∷◌, 
 ghost use Rattle.node_tree.specs.Nodes.{Nodes, nodes_of};
 ghost use Rattle.node_tree.specs.Labels.{Label};
 ghost use Rattle.drill_script.specs.DrillNodes.{element, div_label, below, drill_nodes};
-ghost use Rattle.drill_script.specs.Hanging.{AreNumbered, hung};
+ghost use Rattle.drill_script.specs.Hanging.{AreDivsNumbered, hung};
 
 use crate::digits::numbered;
 use crate::divs::Div;
@@ -56,7 +56,7 @@ fn hang_div(alloc: Global, div: Div, hanging: &mut Hanging) -> Result<(), AllocE
 
 // The nodes below the body.
 fn nest(alloc: Global, mut divs: Vec<Div>) -> Result<Vec<NodeForm>, AllocError>
-    requires { AreNumbered 1 divs.items }
+    requires { AreDivsNumbered 1 divs.items }
     ensures { IfOk result (λ forms. nodes_of forms.items ≡ below 0 divs.items) }
 {
     let mut hanging = Hanging::new(alloc, divs.len())?;
@@ -77,7 +77,7 @@ fn alone(alloc: Global, form: NodeForm) -> Result<Vec<NodeForm>, AllocError>
 
 /// `html`, which has `body`, which has the divs.
 pub(crate) fn drill_nodes(alloc: Global, divs: Vec<Div>) -> Result<Vec<NodeForm>, AllocError>
-    requires { AreNumbered 1 divs.items }
+    requires { AreDivsNumbered 1 divs.items }
     ensures { IfOk result (λ forms. nodes_of forms.items ≡ drill_nodes divs.items) }
 {
     let below = nest(alloc, divs)?;

@@ -1,6 +1,6 @@
 // The sheet of a drill's page.
 ghost use Rattle.std.specs.Prelude.{◌≡◌, ◌+◌, ◌<◌, ◌++◌, IfOk, OnOk, string_bytes, decimal};
-ghost use Rattle.sheet_reader.specs.declared.book.Origin.TheVariants.{Regular};
+ghost use Rattle.node_tree.specs.declared.origins.Origin.TheVariants.{Regular};
 ghost use Rattle.drill_script.specs.DrillPages.{rule_line, drill_sheet};
 
 use node_tree::Text;

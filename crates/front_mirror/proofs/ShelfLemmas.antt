@@ -1,5 +1,5 @@
 -- Ids in shelves: passed over, found, taken out and put in.
-use Rattle.std.proofs.Common.{◌≡◌, ℕ, zero, suc, ◌+◌, ◌-◌, ◌<◌, ◌≤◌, Bool, true, false, cond, ◌||◌, nat_eq, Option, Some, List, [], ◌∷◌}
+use Rattle.std.proofs.Common.{◌≡◌, ℕ, zero, suc, ◌+◌, ◌-◌, ◌<◌, ◌≤◌, ◌==◌, Bool, true, false, cond, ◌||◌, nat_eq, Option, Some, List, [], ◌∷◌}
 use Rattle.std.proofs.Common.{◌++◌}
 use Rattle.std.proofs.Common.{length, take, drop, get_or, slice_get, refl, sym, ap, subst, ◌∙◌, arith, inl, inr}
 use Rattle.std.proofs.Common.{append_assoc, append-nil, length-append, take-append-drop, take_at, drop_at, drop-drop, length-take-le}
@@ -232,6 +232,16 @@ pub joined : (start : ℕ) (ss old : List Shelf) (mid : List ℕ) → take start
     → ids_in ss ≡ ids_in (take start old) ++ mid
 joined start ss old mid front rest =
     sym (parts start ss) ∙ (λ i. ids_in (front i) ++ rest i)
+
+-- nothing comes in place of nothing
+pub spliced-nothing : (gone : ℕ) (new : List ℕ) (place : ℕ) (ids : List ℕ) → gone ≡ 0 → (length new == 0) ≡ true
+    → ids ≡ spliced place gone new ids
+spliced-nothing gone [] place ids g e =
+    let p : place + gone ≡ place = omega (arith, g) in
+    sym (ap (λ k. take place ids ++ drop k ids) p ∙ take-append-drop place ids)
+spliced-nothing gone (x ∷ new) place ids g e =
+    let h : length (x ∷ new) ≡ 0 = eqb-true (length (x ∷ new)) 0 e in
+    absurd (omega (arith, h))
 
 -- ---- the numbers of shelves
 

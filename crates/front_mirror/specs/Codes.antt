@@ -6,8 +6,8 @@ use Rattle.node_tree.specs.Seen.{Seen, coded_seen}
 use Rattle.front_mirror.specs.contracts.faults.FrontKind as kind
 use Rattle.front_mirror.specs.contracts.panels.PanelKind as panel
 use Rattle.front_mirror.specs.declared.panels.PanelKind.{PanelKind}
-use Rattle.css_objects.specs.declared.sheets.SheetOrigin.{SheetOrigin}
-use Rattle.css_objects.specs.contracts.sheets.SheetOrigin as origin
+use Rattle.node_tree.specs.declared.origins.Origin.{Origin}
+use Rattle.node_tree.specs.contracts.origins.Origin as origin
 use Rattle.css_objects.specs.declared.rules.Matched.{Matched}
 use Rattle.css_objects.specs.contracts.rules.Matched as matched
 use Rattle.front_mirror.specs.declared.sheets.KnownSheet.{KnownSheet}
@@ -40,7 +40,7 @@ coded_kept =
 -- a sheet by its parts
 abbrev pub coded_sheet : Coded KnownSheet
 coded_sheet =
-    code_by ((ℕ × SheetOrigin) × (Option (List ℕ) × Bool))
+    code_by ((ℕ × Origin) × (Option (List ℕ) × Bool))
     (coded× (coded× coded_ℕ origin.the_row.coded) (coded× (coded_option (coded_list coded_ℕ)) coded_bool))
     (λ s. ((s.number, s.origin), (s.text, s.stale)))
     (λ p. record { number = p.0.0; origin = p.0.1; text = p.1.0; stale = p.1.1 })

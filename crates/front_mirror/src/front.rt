@@ -20,7 +20,7 @@ use crate::places::{close_at, open_all, open_at, tell_slots};
 use crate::replies::{Ask, Kept, matched_in};
 use cdp_json::ObjectBuilder;
 use cdp_messages::write_command;
-use css_objects::{Matched, SheetOrigin, sheet_value};
+use css_objects::{Matched, Origin, sheet_value};
 use node_tree::Text;
 use pipe_frames::Splitter;
 use serde_json::Value;
@@ -286,7 +286,7 @@ impl<P: Panel> Front<P> {
 
     /// The number of the sheet at place `i`, counted from 0, where it comes from, and its text where it has one, which may be
     /// old.
-    pub fn sheet_at(&self, i: usize) -> (u64, SheetOrigin, Option<&str>)
+    pub fn sheet_at(&self, i: usize) -> (u64, Origin, Option<&str>)
         requires place { i < length self.now.value.sheets }
         ensures number { option_map (λ (s : KnownSheet). s.number) (slice_get self.now.value.sheets i) ≡ Some result.0 }
         ensures origin { option_map (λ (s : KnownSheet). s.origin) (slice_get self.now.value.sheets i) ≡ Some result.1 }

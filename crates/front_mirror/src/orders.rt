@@ -1,5 +1,5 @@
 // Ids in their order, cut into shelves, so that the place of one is found without a walk over all before it.
-ghost use Rattle.std.specs.Prelude.{◌≡◌, ℕ, ◌+◌, ◌<◌, ◌≤◌, ◌++◌, [], cond, length, take, drop, Some, IfOk, OnOk, IfSome, slice_get};
+ghost use Rattle.std.specs.Prelude.{◌≡◌, true, ℕ, List, ◌+◌, ◌<◌, ◌≤◌, ◌++◌, [], cond, length, take, drop, Some, IfOk, OnOk, IfSome, slice_get};
 ghost use Rattle.std.specs.FinMap as map;
 ghost use Rattle.node_tree.specs.Numbers.{number_limit};
 ghost use Rattle.client_views.specs.Views.{is_in};
@@ -51,6 +51,16 @@ fn ids_behind(ids: &[u64], place: usize) -> &[u64]
     ensures { result.now ≡ drop place ids.now }
 {
     &ids[place..]
+}
+
+/// Whether no id comes, and none leaves.
+fn stays(gone: usize, new: &[u64]) -> bool
+    ensures { result ≡ true → (place : ℕ) (ids : List ℕ) → ids ≡ spliced place gone new.now ids }
+{
+    if gone == 0 {
+        return new.is_empty();
+    }
+    false
 }
 
 /// Shelves one behind the other, and for each id the number of the shelf in which it is looked for first.
@@ -316,6 +326,9 @@ impl Order {
         requires { place + gone ≤ length self.old }
         ensures { OnOk result (self.new ≡ spliced place gone new.now self.old) }
     {
+        if stays(gone, new) {
+            return Ok(());
+        }
         let Order { mut shelves, len } = mem::replace(self, Order::new(alloc));
         let len = (len - gone).checked_add(new.len()).ok_or(AllocError)?;
         shelves.splice(alloc, place, gone, new)?;

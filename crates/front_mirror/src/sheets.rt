@@ -4,7 +4,7 @@ ghost use Rattle.indexmap.specs.IndexMap.{shift_remove_entry};
 ghost use Rattle.front_mirror.specs.Sheets.{told_sheet, stale_sheet, fresh_sheet, has_sheet, marked_old, with_fetched, without_sheet};
 ghost use Rattle.front_mirror.specs.Sheets.{has_fresh_text, stale_of};
 
-use cdp_messages::{Header, SheetOrigin};
+use cdp_messages::{Header, Origin};
 use indexmap::IndexMap;
 use node_tree::Text;
 use std::alloc::{AllocError, Global};
@@ -14,7 +14,7 @@ use std::marker::Model;
 #[derive(Drop)]
 pub(crate) struct KnownSheet {
     pub(crate) number: u64,
-    pub(crate) origin: SheetOrigin,
+    pub(crate) origin: Origin,
     pub(crate) text: Option<Text>,
     /// Whether the text may be another by now.
     pub(crate) stale: bool,

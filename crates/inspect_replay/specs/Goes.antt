@@ -7,7 +7,7 @@ use Rattle.inspect_world.specs.RunStates.{RunState, run_turn}
 use Rattle.inspect_world.specs.World.{World, turned}
 use Rattle.replay_script.specs.Forms.{LineForm}
 use Rattle.replay_parts.specs.Stops.{StopRose, RunRose}
-pub use Rattle.replay_parts.specs.Manners.{Manner, Goes, Part, Plays}
+pub use Rattle.replay_parts.specs.Manners.{Manner, Goes, PrintManner, Plays}
 use Rattle.inspect_replay.specs.declared.one_front.OneFront.{OneFront}
 use Rattle.replay_parts.specs.Moments.{passage}
 use Rattle.inspect_replay.specs.Runs.{Steps, Spends, AnswersAll, AnswersOne, SendsFetch, FetchesText, FetchesOne, FetchesAll}
@@ -82,7 +82,7 @@ settling = record { follows = λ old new result. KeepsFollowing old new result; 
 -- ---- calls that print
 
 -- a show, of any number
-abbrev pub showing : {P : Type 0} {g : Ghosts P} {T : Type 0} → LineForm → Part (OneFront P g) T
+abbrev pub showing : {P : Type 0} {g : Ghosts P} {T : Type 0} → LineForm → PrintManner (OneFront P g) T
 showing form = record {
   cause = λ c result. StopRose c result;
   follows = λ old new result. KeepsFollowing old new result;
@@ -90,7 +90,7 @@ showing form = record {
 }
 
 -- a line that is not refused
-abbrev pub carrying : {P : Type 0} {g : Ghosts P} {T : Type 0} → NumberedLine → Part (OneFront P g) T
+abbrev pub carrying : {P : Type 0} {g : Ghosts P} {T : Type 0} → NumberedLine → PrintManner (OneFront P g) T
 carrying line = record {
   cause = λ c result. StopRose c result;
   follows = λ old new result. LineFollows old new result;
@@ -98,7 +98,7 @@ carrying line = record {
 }
 
 -- a show of matched styles, which is refused where none came
-abbrev pub showing_styles : {P : Type 0} {g : Ghosts P} {T : Type 0} → NumberedLine → Part (OneFront P g) T
+abbrev pub showing_styles : {P : Type 0} {g : Ghosts P} {T : Type 0} → NumberedLine → PrintManner (OneFront P g) T
 showing_styles line = record {
   cause = λ c result. RunRose c result;
   follows = λ old new result. KeepsFollowing old new result;
@@ -106,7 +106,7 @@ showing_styles line = record {
 }
 
 -- any line
-abbrev pub carrying_line : {P : Type 0} {g : Ghosts P} {T : Type 0} → NumberedLine → Part (OneFront P g) T
+abbrev pub carrying_line : {P : Type 0} {g : Ghosts P} {T : Type 0} → NumberedLine → PrintManner (OneFront P g) T
 carrying_line line = record {
   cause = λ c result. RunRose c result;
   follows = λ old new result. LinePasses old new line.form result;
@@ -114,7 +114,7 @@ carrying_line line = record {
 }
 
 -- the lines after the load
-abbrev pub running : {P : Type 0} {g : Ghosts P} {T : Type 0} → List (List ℕ) → Part (OneFront P g) T
+abbrev pub running : {P : Type 0} {g : Ghosts P} {T : Type 0} → List (List ℕ) → PrintManner (OneFront P g) T
 running lines = record {
   cause = λ c result. RunRose c result;
   follows = λ old new result. LinesFollow old new lines result;

@@ -1,8 +1,9 @@
 -- What a show of the sheets prints: one line for each, its id, whose it is, and its text.
+use Rattle.node_tree.specs.Origins.{origin_name}
 use Rattle.std.specs.Prelude.{ℕ, List, [], ◌∷◌, ◌++◌, codes, Option, Some, None}
 use Rattle.std.specs.List.{flat_map}
-use Rattle.css_objects.specs.declared.sheets.SheetOrigin.{SheetOrigin}
-use Rattle.css_objects.specs.Sheets.{sheet_text, origin_name}
+use Rattle.node_tree.specs.declared.origins.Origin.{Origin}
+use Rattle.css_objects.specs.Sheets.{sheet_text}
 use Rattle.client_views.specs.Views.{ShownSheet}
 use Rattle.front_mirror.specs.declared.sheets.KnownSheet.{KnownSheet}
 use Rattle.front_mirror.specs.Outline.{quoted}
@@ -13,7 +14,7 @@ text_shown None = codes "-"
 text_shown (Some text) = quoted text
 
 -- the line of a sheet
-abbrev pub sheet_line : ℕ → SheetOrigin → Option (List ℕ) → List ℕ
+abbrev pub sheet_line : ℕ → Origin → Option (List ℕ) → List ℕ
 sheet_line number origin text = sheet_text number ++ codes " " ++ origin_name origin ++ codes " " ++ text_shown text ++ 10 ∷ []
 
 -- the lines of a page's sheets

@@ -1,8 +1,9 @@
 -- What a show of matched styles prints: each block of declarations, with those of its declarations that win.
+use Rattle.node_tree.specs.Origins.{origin_name}
 use Rattle.std.specs.Prelude.{ℕ, Bool, true, false, List, [], ◌∷◌, ◌++◌, map, length, drop, codes, decimal, option_map}
 use Rattle.std.specs.Prelude.{option_to_list}
-use Rattle.sheet_reader.specs.declared.book.Origin.{Origin}
-use Rattle.sheet_reader.specs.declared.book.Origin.TheVariants.{Regular}
+use Rattle.node_tree.specs.declared.origins.Origin.{Origin}
+use Rattle.node_tree.specs.declared.origins.Origin.TheVariants.{Regular}
 use Rattle.cascade_match.specs.declared.blocks.Decl.{Decl}
 use Rattle.cascade_match.specs.declared.blocks.Block.{Block}
 use Rattle.cascade_match.specs.Winning.{wins}
@@ -10,9 +11,8 @@ use Rattle.css_objects.specs.declared.styles.StyleProperty.{StyleProperty}
 use Rattle.css_objects.specs.declared.styles.Style.{Style}
 use Rattle.css_objects.specs.declared.rules.RuleMatch.{RuleMatch}
 use Rattle.css_objects.specs.declared.rules.Matched.{Matched}
-use Rattle.css_objects.specs.Sheets.{sheet_text, origin_name}
+use Rattle.css_objects.specs.Sheets.{sheet_text}
 use Rattle.front_mirror.specs.Outline.{quoted}
-use Rattle.back_end.specs.Sheets.{origin_in_book}
 
 -- a block of declarations: the line above it, its origin, and its properties
 pub record ShownBlock : Type 0 where
@@ -26,7 +26,7 @@ rule_heading m = sheet_text m.rule.sheet ++ codes " " ++ origin_name m.rule.orig
 
 -- the block of a matched rule
 abbrev pub rule_block : RuleMatch → ShownBlock
-rule_block m = record { heading = rule_heading m; origin = origin_in_book m.rule.origin; properties = m.rule.style.properties }
+rule_block m = record { heading = rule_heading m; origin = m.rule.origin; properties = m.rule.style.properties }
 
 -- the block of the element's own `style` attribute, which counts as the page's
 abbrev pub inline_block : Style → ShownBlock

@@ -1,4 +1,5 @@
 pub mod Numbers
+pub mod Origins
 pub mod Nodes
 pub mod Levels
 pub mod Names

@@ -15,6 +15,7 @@ mod attribute_edits;
 mod attribute_lists;
 mod limits;
 mod names;
+mod origins;
 mod texts;
 mod watches;
 
@@ -22,6 +23,7 @@ pub use attribute_edits::{drop_attribute, set_attribute};
 pub use attribute_lists::Attributes;
 pub use limits::{MAX_LEVEL, MAX_NODES, MAX_SHEET_BYTES, MAX_SHEETS, MOST_LEVELS, MOST_TOLD};
 pub use names::{is_attribute_name, is_element_name};
+pub use origins::Origin;
 pub use texts::Text;
 pub use watches::WatchKind;
 

@@ -1,4 +1,5 @@
 -- What holds of each page that is read: its first fault beside that of its nodes, and its texts.
+use Rattle.node_tree.specs.Origins.{origin_name, all_origins}
 use Rattle.std.proofs.Common.{◌≡◌, ℕ, List, [], ◌∷◌, Bool, true, false, not, ◌&&◌, codes, Option, Some, None, option_map, IsUtf8, refl, ap}
 use Rattle.std.proofs.Common.{subst, sym, ◌∙◌}
 use Rattle.std.proofs.lemmas.List.Elements.{All-nil, All-cons}
@@ -21,13 +22,13 @@ use Rattle.page_tree.proofs.FormedLemmas.{can_load}
 use Rattle.page_tree.proofs.FlatLoads.{can_load_flat}
 use Rattle.page_tree.specs.declared.faults.LoadFault.{LoadFault}
 use Rattle.page_tree.specs.declared.faults.LoadFault.TheVariants.{TooDeep, TooMany, BadName}
-use Rattle.sheet_reader.specs.declared.book.Origin.{Origin}
-use Rattle.sheet_reader.specs.declared.book.Origin.TheVariants.{UserAgent, Regular}
+use Rattle.node_tree.specs.declared.origins.Origin.{Origin}
+use Rattle.node_tree.specs.declared.origins.Origin.TheVariants.{UserAgent, Regular}
 use Rattle.page_forms.specs.declared.sheets.SheetForm.{SheetForm}
 use Rattle.page_forms.specs.Acts.{fields_in}
 use Rattle.media_rules.specs.declared.medium.Medium.{Medium}
 use Rattle.page_forms.specs.Mediums.{medium_at}
-use Rattle.page_forms.specs.Sheets.{origin_form, origin_word, all_origins, sheet_row, sheet_from, sheet_form, can_hold_sheets}
+use Rattle.page_forms.specs.Sheets.{origin_form, sheet_row, sheet_from, sheet_form, can_hold_sheets}
 use Rattle.page_forms.specs.Pages.{LoadedPage, page_row, nodes_at, sheets_at, page_with, page_in, first_page_fault, page_fault, CanLoadPage}
 use Rattle.page_forms.specs.Texts.{HaveTexts, SheetsHaveTexts, PageHasTexts, PagesHaveTexts}
 use Rattle.page_forms.proofs.FieldTexts.{fields_utf8, if_read}
@@ -79,7 +80,7 @@ origin_again UserAgent = refl
 origin_again Regular = refl
 
 pub origin_lawful : LawfulKind origin_form
-origin_lawful = choice_lawful origin_word all_origins origin_again
+origin_lawful = choice_lawful origin_name all_origins origin_again
 
 sheet_lawful : LawfulRow sheet_row
 sheet_lawful = and_need_lawful (codes "origin") origin_lawful (and_need_lawful (codes "text") text_lawful ends_lawful refl) refl

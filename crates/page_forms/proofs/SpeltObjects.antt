@@ -1,4 +1,5 @@
 -- Objects that tokens spell: nodes, sheets and pages in their usual form.
+use Rattle.node_tree.specs.Origins.{origin_name, all_origins}
 use Rattle.std.proofs.Common.{◌≡◌, ℕ, ◌+◌, ◌<◌, ◌≤◌, List, [], ◌∷◌, ◌++◌, append_assoc, codes, Bool, true, false, ◌||◌, cond, Option, Some}
 use Rattle.std.proofs.Common.{None, option_and_then, option_map, refl, sym, ap, ap₂, ◌∙◌, subst, arith}
 use Rattle.json.specs.Token.{Token, begin_object, end_object, begin_array, key, string}
@@ -14,10 +15,10 @@ use Rattle.node_tree.specs.Keys.{first_of}
 use Rattle.node_tree.specs.declared.Kind.{Kind}
 use Rattle.node_tree.specs.declared.Kind.TheVariants.{Element}
 use Rattle.page_tree.specs.Loads.{labelled, branch_of, node_spelled}
-use Rattle.sheet_reader.specs.declared.book.Origin.{Origin}
+use Rattle.node_tree.specs.declared.origins.Origin.{Origin}
 use Rattle.page_forms.specs.Mediums.{usual_medium}
 use Rattle.page_forms.specs.declared.sheets.SheetForm.{SheetForm}
-use Rattle.page_forms.specs.Sheets.{origin_word, all_origins, sheet_from}
+use Rattle.page_forms.specs.Sheets.{sheet_from}
 use Rattle.page_forms.specs.Pages.{page_with, page_in}
 use Rattle.page_forms.specs.Spelt.{ListForm, FieldForm, ReadsAs, SpellsItems, SpellsField, absent, there}
 use Rattle.page_forms.specs.NodeForms.{text_field, text_data, element_tokens, attribute_field, node_form, nodes_form, child_field}
@@ -192,7 +193,7 @@ sheet_of origin text = record { origin = origin; text = text }
 
 pub sheet_spelt : (word text : List ℕ) (origin : Origin) {old r1 r2 r3 r4 r5 new : List Token} → old ≡ begin_object ∷ r1
     → r1 ≡ key (codes "origin") ∷ r2 → r2 ≡ string word ∷ r3 → r3 ≡ key (codes "text") ∷ r4
-    → r4 ≡ string text ∷ r5 → r5 ≡ end_object ∷ new → named origin_word all_origins word ≡ Some origin
+    → r4 ≡ string text ∷ r5 → r5 ≡ end_object ∷ new → named origin_name all_origins word ≡ Some origin
     → ReadsAs sheet_value old (sheet_of origin text) new
 sheet_spelt word text origin e0 e1 e2 e3 e4 e5 is = record {
   json = json.object (json.member (codes "origin") (json.string word) (json.member (codes "text") (json.string text) json.no_members));

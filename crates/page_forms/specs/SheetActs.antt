@@ -2,7 +2,7 @@
 use Rattle.std.specs.Prelude.{ℕ, List, codes, ⊤}
 use Rattle.cdp_json.specs.Kinds.{text, only_text}
 use Rattle.cdp_json.specs.Rows.{Row, ends, and_need}
-use Rattle.sheet_reader.specs.declared.book.Origin.{Origin}
+use Rattle.node_tree.specs.declared.origins.Origin.{Origin}
 use Rattle.page_forms.specs.Sheets.{origin_form}
 
 -- `{"do":"addSheet","origin":ORIGIN,"text":TEXT}`

@@ -1,25 +1,16 @@
 -- The style sheets of a page, as JSON spells them, and which of them a page may hold.
 pub use Rattle.node_tree.specs.Numbers.{max_sheet_bytes, max_sheets}
-use Rattle.std.specs.Prelude.{ℕ, List, [], ◌∷◌, length, codes, Bool, ◌&&◌, nat_le, Option, Some, ⊤}
+use Rattle.std.specs.Prelude.{ℕ, List, length, codes, Bool, ◌&&◌, nat_le, Option, Some, ⊤}
 use Rattle.std.specs.List.{list_all}
 use Rattle.cdp_json.specs.Kinds.{Kind, text, choice, through, list_of}
 use Rattle.cdp_json.specs.Rows.{Row, ends, and_need, object_of}
-use Rattle.sheet_reader.specs.declared.book.Origin.{Origin}
-use Rattle.sheet_reader.specs.declared.book.Origin.TheVariants.{UserAgent, Regular}
+use Rattle.node_tree.specs.Origins.{origin_name, all_origins}
+use Rattle.node_tree.specs.declared.origins.Origin.{Origin}
 use Rattle.page_forms.specs.declared.sheets.SheetForm.{SheetForm}
-
--- the word for whose sheet it is
-abbrev pub origin_word : Origin → List ℕ
-origin_word UserAgent = codes "user-agent"
-origin_word Regular = codes "regular"
-
--- whose sheets there are
-abbrev pub all_origins : List Origin
-all_origins = UserAgent ∷ Regular ∷ []
 
 -- ORIGIN: `user-agent` or `regular`
 abbrev pub origin_form : Kind Origin
-origin_form = choice origin_word all_origins
+origin_form = choice origin_name all_origins
 
 -- `{"origin":ORIGIN,"text":TEXT}`, with nothing else
 abbrev pub sheet_row : Row (Origin × (List ℕ × ⊤))

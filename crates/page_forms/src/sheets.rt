@@ -1,11 +1,12 @@
 // The style sheets of a page that is loaded.
+ghost use Rattle.node_tree.specs.Origins.{origin_name, all_origins};
 ghost use Rattle.std.specs.Prelude.{◌≡◌, codes, option_map, IfOk};
 ghost use Rattle.std.specs.List.{list_all};
 ghost use Rattle.serde_json.specs.View.{view, items_view};
 ghost use Rattle.cdp_json.specs.Kinds.{named, read_items};
 ghost use Rattle.cdp_json.specs.Left.{left};
 ghost use Rattle.cdp_json.specs.Rows.{left_with, need};
-ghost use Rattle.page_forms.specs.Sheets.{origin_word, all_origins, origin_form, sheet_form, sheet_list, is_short, can_hold_sheets};
+ghost use Rattle.page_forms.specs.Sheets.{origin_form, sheet_form, sheet_list, is_short, can_hold_sheets};
 
 use cdp_json::{Cursor, text_of};
 use node_tree::{MAX_SHEET_BYTES, MAX_SHEETS, Text};
@@ -22,7 +23,7 @@ pub struct SheetForm {
 
 /// Whose sheets the word says.
 pub(crate) fn origin_in(word: &str) -> Option<Origin>
-    ensures { result ≡ named origin_word all_origins word.now }
+    ensures { result ≡ named origin_name all_origins word.now }
 {
     match word {
         "user-agent" => Some(Origin::UserAgent),

@@ -37,8 +37,8 @@ use Rattle.pair_world.specs.Clients.{pair_reads, client_steps}
 use Rattle.pair_world.specs.PairRuns.{PairRun, one_ask_on, one_attach, none_more, fetches_on, next_target}
 use Rattle.pair_world.specs.PairFresh.{PairHasLeft, PairRoom}
 use Rattle.pair_world.specs.PairHeld as held
-use Rattle.pair_world.specs.PairHeld.{Mode, calm, targeted, InPairWorld}
-use Rattle.pair_world.specs.PairSendings.{next_ask, PairHasIds}
+use Rattle.pair_world.specs.PairHeld.{PairMode, calm, targeted, InPairWorld}
+use Rattle.pair_world.specs.PairSendings.{next_ask_text, PairHasIds}
 use Rattle.pair_world.proofs.PairEndLemmas.{world-has-room, world-no-room}
 use Rattle.pair_world.proofs.PairKnown.{ids-left, world-ids}
 use Rattle.pair_world.proofs.PairCalls.{asked_in, fetched_in, fetch_sent, raw_in, attached_in, detached_in, detach_sent}
@@ -61,19 +61,19 @@ use Rattle.replay_parts.proofs.ValueLemmas.{refs-seen}
 -- ---- room
 
 -- over an honest link the front ends have ids, where there are for what is sent
-pub has-ids : (mode : Mode) (up0 down0 up down : Pipe) (w : PairRun) (frames : List (List ℕ)) (e : held.PairEnds)
+pub has-ids : (mode : PairMode) (up0 down0 up down : Pipe) (w : PairRun) (frames : List (List ℕ)) (e : held.PairEnds)
     → InPairWorld mode up0 down0 up down w frames e → PairHasIds w.spent → (HaveRoom e.fronts → false ≡ true) → ⊤ → ⊥
 has-ids mode up0 down0 up down w frames e in_world ids none t =
     let no : false ≡ true = none (world-ids w.spent e.fronts in_world.numbered ids) in absurd cc
 
 -- and the seats have room where the run has
-pub no-room : (mode : Mode) (up0 down0 up down : Pipe) (w : PairRun) (frames : List (List ℕ)) (e : held.PairEnds)
+pub no-room : (mode : PairMode) (up0 down0 up down : Pipe) (w : PairRun) (frames : List (List ℕ)) (e : held.PairEnds)
     → InPairWorld mode up0 down0 up down w frames e → (PairHasRoomLeft e.mux e.side → false ≡ true) → PairRoom w.state → ⊥
 no-room mode up0 down0 up down w frames e in_world none room =
     let no : false ≡ true = none (world-no-room mode up0 down0 up down w frames e in_world room) in absurd cc
 
 -- what the ends count waits in the link
-pub world-waits : (mode : Mode) (up0 down0 up down : Pipe) (w : PairRun) (frames : List (List ℕ)) (e : held.PairEnds)
+pub world-waits : (mode : PairMode) (up0 down0 up down : Pipe) (w : PairRun) (frames : List (List ℕ)) (e : held.PairEnds)
     → InPairWorld mode up0 down0 up down w frames e
     → (e.up_there ≤ length (waiting up)) × (e.down_there ≤ length (waiting down))
 world-waits mode up0 down0 up down w frames e in_world =
@@ -87,11 +87,11 @@ world-waits mode up0 down0 up down w frames e in_world =
 -- ---- a frame goes up
 
 -- the ends, with so much of the link, are in a run, and every whole frame is answered
-abbrev pub PlayWith : Mode → Type 0 → (up0 down0 up down : Pipe) → PairRun → LinkEnds → held.PairEnds → Type 0
+abbrev pub PlayWith : PairMode → Type 0 → (up0 down0 up down : Pipe) → PairRun → LinkEnds → held.PairEnds → Type 0
 PlayWith mode honest up0 down0 up down w s e = EachAnswered (HonestPair mode honest up0 down0 up down w (with_ends s e)) s.splitter.whole
 
 -- the run goes on where the frame was sent
-sent-run : (result : Result (Unit {0}) Stop) (honest : Type 0) (mode : Mode) (up0 down0 up down up1 down1 : Pipe)
+sent-run : (result : Result (Unit {0}) Stop) (honest : Type 0) (mode : PairMode) (up0 down0 up down up1 down1 : Pipe)
     (w : PairRun) (s s1 : LinkEnds) (e : held.PairEnds) (bytes : List ℕ) → SentUp result up down up1 down1 s s1 bytes → honest
     → s.splitter.whole ≡ [] → s.up_there ≤ length (waiting up)
     → ((there : ℕ) → up1.sent ≡ up.sent ++ bytes → there ≡ s.up_there + length bytes
@@ -109,11 +109,11 @@ sent-run result honest mode up0 down0 up down up1 down1 w s s1 e bytes c is_hone
     })
 
 -- where no attach and no detach is on its way
-as-calm : (honest : Type 0) (mode : Mode) (up0 down0 up down : Pipe) (w : PairRun) (s : LinkEnds) (e : held.PairEnds)
+as-calm : (honest : Type 0) (mode : PairMode) (up0 down0 up down : Pipe) (w : PairRun) (s : LinkEnds) (e : held.PairEnds)
     → mode ≡ calm → PlayWith mode honest up0 down0 up down w s e → PlayWith calm honest up0 down0 up down w s e
 as-calm honest mode up0 down0 up down w s e is run = subst (λ m. PlayWith m honest up0 down0 up down w s e) is run
 
-from-calm : (result : Result (Unit {0}) Stop) (honest : Type 0) (mode : Mode) (up0 down0 up down : Pipe)
+from-calm : (result : Result (Unit {0}) Stop) (honest : Type 0) (mode : PairMode) (up0 down0 up down : Pipe)
     (w : PairRun) (s : LinkEnds) (e : held.PairEnds)
     → mode ≡ calm → OnOk result (PlayWith calm honest up0 down0 up down w s e) → OnOk result (PlayWith mode honest up0 down0 up down w s e)
 from-calm result honest mode up0 down0 up down w s e is run =
@@ -123,17 +123,17 @@ module _ (result : Result (Unit {0}) Stop) (honest honest1 : Type 0) (up0 down0 
     (w : PairRun) (s s1 : LinkEnds) (e : held.PairEnds) (fronts : FrontsState) (frame bytes : List ℕ)
     (c : SentUp result up down up1 down1 s s1 bytes) (keeps : honest → honest1) where
   -- an ask is sent
-  pub asked-goes : (second : Bool) (mode : Mode) (a : AskForm)
+  pub asked-goes : (second : Bool) (mode : PairMode) (a : AskForm)
       → is_there second e.fronts.pair ≡ true → CanSend a → may_ask_on second a ≡ true → PairHasLeft w.spent least_line → mode ≡ calm
       → PlayWith mode honest up0 down0 up down w s e
       → frame ≡ framed (ask_text second e.fronts.pair a.method a.params) → fronts ≡ after_asked e.fronts second a.method → bytes ≡ frame
       → RoomTold result ⊤
-      × OnOk result (PlayWith mode honest1 up0 down0 up1 down1 (sent_up (next_ask second a w) (one_ask_on second) w) s1
+      × OnOk result (PlayWith mode honest1 up0 down0 up1 down1 (sent_up (next_ask_text second a w) (one_ask_on second) w) s1
       (record e { fronts = fronts }))
   asked-goes second mode a stands can may left is run frame_is fronts_is same =
       let r = as-calm honest mode up0 down0 up down w s e is run in
       let here = r.so_far.in_world in
-      let after : PairRun = sent_up (next_ask second a w) (one_ask_on second) w in (
+      let after : PairRun = sent_up (next_ask_text second a w) (one_ask_on second) w in (
         room-there result ⊤ c.never tt,
         from-calm result honest1 mode up0 down0 up1 down1 after s1 (record e { fronts = fronts }) is
             (sent-run result honest1 calm up0 down0 up down up1 down1 after s s1 (record e { fronts = fronts }) bytes c
@@ -166,7 +166,7 @@ module _ (result : Result (Unit {0}) Stop) (honest honest1 : Type 0) (up0 down0 
       )
 
   -- a session is attached
-  pub attached-goes : (mode : Mode) → is_there true e.fronts.pair ≡ false → PairHasLeft w.spent 0 → mode ≡ calm → IsAtRest w
+  pub attached-goes : (mode : PairMode) → is_there true e.fronts.pair ≡ false → PairHasLeft w.spent 0 → mode ≡ calm → IsAtRest w
       → PlayWith mode honest up0 down0 up down w s e
       → frame ≡ framed (attach_text e.fronts.next) → fronts ≡ after_target e.fronts attach → bytes ≡ frame
       → RoomTold result ⊤
@@ -187,7 +187,7 @@ module _ (result : Result (Unit {0}) Stop) (honest honest1 : Type 0) (up0 down0 
       )
 
   -- and detached
-  pub detached-goes : (mode : Mode) → is_there true e.fronts.pair ≡ true → PairHasLeft w.spent 0 → mode ≡ calm → IsAtRest w
+  pub detached-goes : (mode : PairMode) → is_there true e.fronts.pair ≡ true → PairHasLeft w.spent 0 → mode ≡ calm → IsAtRest w
       → PlayWith mode honest up0 down0 up down w s e
       → IfSome e.fronts.pair.two (λ v. frame ≡ framed (detach_text e.fronts.next v.text)) → fronts ≡ after_target e.fronts detach
       → bytes ≡ frame
@@ -208,7 +208,7 @@ module _ (result : Result (Unit {0}) Stop) (honest honest1 : Type 0) (up0 down0 
       )
 
 -- a frame is sent that names no ask
-pub raw-goes : (result : Result (Unit {0}) Stop) (honest honest1 : Type 0) (mode : Mode)
+pub raw-goes : (result : Result (Unit {0}) Stop) (honest honest1 : Type 0) (mode : PairMode)
     (up0 down0 up down up1 down1 : Pipe) (w : PairRun) (s s1 : LinkEnds) (e : held.PairEnds) (text : List ℕ)
     → SentUp result up down up1 down1 s s1 (framed text) → (honest → honest1) → IsText text → IsBare text → mode ≡ calm
     → PlayWith mode honest up0 down0 up down w s e
@@ -240,7 +240,7 @@ frame-seen second p ask frame method params m ps is =
 -- ---- bytes go down
 
 -- the run goes on where they were sent
-told-run : (result : Result (Unit {0}) Stop) (honest : Type 0) (mode : Mode)
+told-run : (result : Result (Unit {0}) Stop) (honest : Type 0) (mode : PairMode)
     (up0 down0 up down up1 down1 : Pipe) (w : PairRun) (s s1 : LinkEnds) (e : held.PairEnds) (bytes : List ℕ)
     → SentDown result up down up1 down1 s s1 bytes → honest → s.down_there ≤ length (waiting down)
     → ((there : ℕ) → down1.sent ≡ down.sent ++ bytes → there ≡ s.down_there + length bytes
@@ -252,14 +252,14 @@ told-run result honest mode up0 down0 up down up1 down1 w s s1 e bytes c is_hone
     (λ there sent given left. record { is_honest = is_honest; in_world = goes there sent left })
 
 -- with each frame answered
-whole-run : (result : Result (Unit {0}) Stop) (honest : Type 0) (mode : Mode) (up0 down0 up down : Pipe)
+whole-run : (result : Result (Unit {0}) Stop) (honest : Type 0) (mode : PairMode) (up0 down0 up down : Pipe)
     (w : PairRun) (s : LinkEnds) (e : held.PairEnds) → s.splitter.whole ≡ []
     → OnOk result (HonestPair mode honest up0 down0 up down w (with_ends s e) s.splitter.whole)
     → OnOk result (PlayWith mode honest up0 down0 up down w s e)
 whole-run (Ok u) honest mode up0 down0 up down w s e none run = record { so_far = run; none_whole = none }
 whole-run (Err stop) honest mode up0 down0 up down w s e none run = tt
 
-module _ (result : Result (Unit {0}) Stop) (honest honest1 : Type 0) (mode : Mode)
+module _ (result : Result (Unit {0}) Stop) (honest honest1 : Type 0) (mode : PairMode)
     (up0 down0 up down up1 down1 : Pipe) (w : PairRun) (s s1 : LinkEnds) (e : held.PairEnds) (mux : Mux) (side : PageSide)
     (old out bytes : List ℕ) (c : SentDown result up down up1 down1 s s1 bytes)
     (keeps : honest → honest1) (room : PairHasRoomLeft e.mux e.side) (empty : old ≡ []) (same : bytes ≡ out) where
@@ -309,7 +309,7 @@ module _ (result : Result (Unit {0}) Stop) (honest honest1 : Type 0) (mode : Mod
 -- ---- frames are answered one after the other
 
 -- While frames are answered: where the run is, that it goes to where it would have gone, and that there was room so far.
-pub record Answering {P : Type 0} {g : Ghosts P} (honest : Type 0) (mode : Mode) (up0 down0 up down : Pipe) (Room : Type 0)
+pub record Answering {P : Type 0} {g : Ghosts P} (honest : Type 0) (mode : PairMode) (up0 down0 up down : Pipe) (Room : Type 0)
     (target : PairRun) (e : TwoFronts P g) : Type 0 where
   pub world : PairRun
   pub so_far : InPairRunWith mode honest up0 down0 up down world e
@@ -329,7 +329,7 @@ room-more (FrontRefused place kind) c A B rose fewer told = absurd told
 room-more NoRoom c A B rose fewer told = λ b. told (fewer b)
 room-more Memory c A B rose fewer told = tt
 
-module _ {P : Type 0} {g : Ghosts P} (honest honest1 : Type 0) (mode : Mode) (up0 down0 up down up1 down1 : Pipe) (Room : Type 0)
+module _ {P : Type 0} {g : Ghosts P} (honest honest1 : Type 0) (mode : PairMode) (up0 down0 up down up1 down1 : Pipe) (Room : Type 0)
     (target : PairRun) (e e1 : TwoFronts P g) (s : LinkEnds) (frame : List ℕ)
     (going : Answering honest mode up0 down0 up down Room target e) (whole : e.ends.splitter.whole ≡ frame ∷ s.splitter.whole)
     (rest : s.splitter.rest ≡ e.ends.splitter.rest) (ends : s ≡ record e.ends { splitter = s.splitter }) where
@@ -379,7 +379,8 @@ module _ {P : Type 0} {g : Ghosts P} (honest honest1 : Type 0) (mode : Mode) (up
       (answers mode up0 down0 here going.so_far.is_honest start).0
 
 -- no frame is left
-pub answer_end : {P : Type 0} {g : Ghosts P} (honest : Type 0) (mode : Mode) (up0 down0 up down : Pipe) (Room : Type 0) (target : PairRun)
+pub answer_end : {P : Type 0} {g : Ghosts P} (honest : Type 0) (mode : PairMode) (up0 down0 up down : Pipe) (Room : Type 0)
+    (target : PairRun)
     (e : TwoFronts P g) (s : LinkEnds) → Answering honest mode up0 down0 up down Room target e → s ≡ e.ends → s.splitter.whole ≡ []
     → Room × InPairRun mode honest up0 down0 up down target (record e { ends = s })
 answer_end honest mode up0 down0 up down Room target e s going same none =
@@ -399,7 +400,7 @@ answer_end honest mode up0 down0 up down Room target e s going same none =
     nothing w = ap (λ (s : Stream). record w { down = s }) (put-nil w.down)
 
 -- bytes came up, as `take_up` says
-pub took-run : (mode : Mode) (up0 down0 : Pipe) (n : ℕ) (old new : Moment LinkEnds) (w : PairRun) (e : held.PairEnds) → TookUp n old new
+pub took-run : (mode : PairMode) (up0 down0 : Pipe) (n : ℕ) (old new : Moment LinkEnds) (w : PairRun) (e : held.PairEnds) → TookUp n old new
     → new.down ≡ old.down → (old.honest → new.honest) → PlayWith mode old.honest up0 down0 old.up old.down w old.ends e
     → HonestPair mode new.honest up0 down0 new.up new.down (given_up n w) (with_ends new.ends e) new.ends.splitter.whole
     × (new.ends.splitter.whole ≡ arriving n w.up)
@@ -419,7 +420,7 @@ took-run mode up0 down0 n old new w e took same_down keeps run =
     )
 
 -- bytes came up, and their frames are answered
-pub deliver_goes : {P : Type 0} {g : Ghosts P} {T : Type 0} (result : Result T Stop) (honest honest1 : Type 0) (mode : Mode)
+pub deliver_goes : {P : Type 0} {g : Ghosts P} {T : Type 0} (result : Result T Stop) (honest honest1 : Type 0) (mode : PairMode)
     (up0 down0 up down up1 down1 : Pipe) (w : PairRun) (n : ℕ) (e e1 : TwoFronts P g)
     → InPairRunWith mode honest up0 down0 up down (given_up n w) e × (e.ends.splitter.whole ≡ arriving n w.up)
     → PairAnswersAll (moment honest up down e) (moment honest1 up1 down1 e1) result
@@ -439,7 +440,7 @@ room-stop stop c Room rose told = room-more stop c ⊤ Room rose (λ room. tt) t
 -- ---- bytes come down
 
 -- as `take_down` says
-pub got-run : (honest honest1 : Type 0) (mode : Mode) (up0 down0 up down up1 down1 : Pipe) (w : PairRun) (n : ℕ) (s s1 : LinkEnds)
+pub got-run : (honest honest1 : Type 0) (mode : PairMode) (up0 down0 up down up1 down1 : Pipe) (w : PairRun) (n : ℕ) (s s1 : LinkEnds)
     (e : held.PairEnds) (piece bytes : List ℕ) (fronts : FrontsState)
     → PlayWith mode honest up0 down0 up down w s e → (honest → honest1) → s1 ≡ record s { down_there = s1.down_there }
     → s1.down_there + length bytes ≡ s.down_there → (honest → bytes ≡ take (min n s.down_there) (waiting down))

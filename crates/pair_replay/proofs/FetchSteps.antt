@@ -15,7 +15,7 @@ use Rattle.session_runs.specs.Pairs.{Second, SessionAsks}
 use Rattle.multi_replay.specs.States.{StatePair, is_there, front_meant}
 use Rattle.multi_replay.specs.Laws.{pair_value}
 use Rattle.pair_world.specs.PairRuns.{PairSpent, PairRun, fetches_on}
-use Rattle.pair_world.specs.PairFresh.{FrontValues, pair_replay, no_fronts, first_fetcher, second_fetcher, PairRoom, SettleHasRoom}
+use Rattle.pair_world.specs.PairFresh.{FrontValues, pair_runner, no_fronts, first_fetcher, second_fetcher, PairRoom, SettleHasRoom}
 use Rattle.pair_world.specs.PairFresh.{WhereTrue}
 use Rattle.pair_world.specs.PairHeld.{calm, IsSecondOf}
 use Rattle.replay_parts.specs.declared.stop.Stop.{Stop}
@@ -87,7 +87,7 @@ module _ {P : Type 0} {g : Ghosts P} (second : Bool) (number : ℕ) where
         room-iff result (SettleHasRoom u) (PairRoom w.state) (room-fetch second f number w m.is may.1 few)
             (fetch-room second f number w m.is may.1 few) done.0,
         subst (λ o. OnOk result (InPairRun calm new.honest up0 down0 new.up new.down
-            (by_fetcher o (λ fetcher v. fetched pair_replay fetcher number v) w) new.ends)) (sym m.is) done.1,
+            (by_fetcher o (λ fetcher v. fetched pair_runner fetcher number v) w) new.ends)) (sym m.is) done.1,
       )
 
   -- the fetch was not sent
@@ -108,19 +108,19 @@ module _ {P : Type 0} {g : Ghosts P} (second : Bool) (number : ℕ) where
       let front = run-front calm old.honest up0 down0 old.up old.down w old.ends run in
       let p : FrontValues = pair_value asked old.ends.fronts.pair in
       let knows : m.fetcher.knows p number ≡ true = m.knows number ∙ known in
-      let is : fetched_if pair_replay m.fetcher (front_in pair_replay no_fronts w) number w ≡ fetched pair_replay m.fetcher number w =
-      ap (λ r. fetched_if pair_replay m.fetcher r number w) front
-      ∙ ap (λ b. cond b (fetched pair_replay m.fetcher number w) w) knows in
+      let is : fetched_if pair_runner m.fetcher (front_in pair_runner no_fronts w) number w ≡ fetched pair_runner m.fetcher number w =
+      ap (λ r. fetched_if pair_runner m.fetcher r number w) front
+      ∙ ap (λ b. cond b (fetched pair_runner m.fetcher number w) w) knows in
       let done = goes up0 down0 w ids few may run in (
-        subst (λ o. RoomTold result (room_by o (λ fetcher v. KnownHasRoom fetcher number (front_in pair_replay no_fronts v) v) w))
+        subst (λ o. RoomTold result (room_by o (λ fetcher v. KnownHasRoom fetcher number (front_in pair_runner no_fronts v) v) w))
             (sym m.is)
             (subst (λ r. RoomTold result (KnownHasRoom m.fetcher number r w)) (sym front)
             (subst (λ b. RoomTold result (WhereTrue b (PairRoom w.state))) (sym knows) done.0)),
         subst (λ o. OnOk result (InPairRun calm new.honest up0 down0 new.up new.down
-            (by_fetcher o (λ fetcher v. fetched_if pair_replay fetcher (front_in pair_replay no_fronts v) number v) w) new.ends)) (sym m.is)
+            (by_fetcher o (λ fetcher v. fetched_if pair_runner fetcher (front_in pair_runner no_fronts v) number v) w) new.ends)) (sym m.is)
             (subst (λ v. OnOk result (InPairRun calm new.honest up0 down0 new.up new.down v new.ends)) (sym is)
             (subst (λ o. OnOk result (InPairRun calm new.honest up0 down0 new.up new.down
-            (by_fetcher o (λ fetcher v. fetched pair_replay fetcher number v) w) new.ends)) m.is done.1)),
+            (by_fetcher o (λ fetcher v. fetched pair_runner fetcher number v) w) new.ends)) m.is done.1)),
       )
 
   -- a sheet that it does not know, or of a front end that does not stand
@@ -134,21 +134,21 @@ module _ {P : Type 0} {g : Ghosts P} (second : Bool) (number : ℕ) where
       let front = run-front calm old.honest up0 down0 old.up old.down w old.ends run in
       let p : FrontValues = pair_value asked old.ends.fronts.pair in
       let knows : m.fetcher.knows p number ≡ false = m.knows number ∙ unknown refl in
-      let is : fetched_if pair_replay m.fetcher (front_in pair_replay no_fronts w) number w ≡ w =
-      ap (λ r. fetched_if pair_replay m.fetcher r number w) front
-      ∙ ap (λ b. cond b (fetched pair_replay m.fetcher number w) w) knows in (
-        subst (λ o. room_by o (λ fetcher v. KnownHasRoom fetcher number (front_in pair_replay no_fronts v) v) w) (sym m.is)
+      let is : fetched_if pair_runner m.fetcher (front_in pair_runner no_fronts w) number w ≡ w =
+      ap (λ r. fetched_if pair_runner m.fetcher r number w) front
+      ∙ ap (λ b. cond b (fetched pair_runner m.fetcher number w) w) knows in (
+        subst (λ o. room_by o (λ fetcher v. KnownHasRoom fetcher number (front_in pair_runner no_fronts v) v) w) (sym m.is)
             (subst (λ r. KnownHasRoom m.fetcher number r w) (sym front)
             (subst (λ b. WhereTrue b (PairRoom w.state)) (sym knows) tt)),
         subst (λ o. InPairRun calm old.honest up0 down0 old.up old.down
-            (by_fetcher o (λ fetcher v. fetched_if pair_replay fetcher (front_in pair_replay no_fronts v) number v) w) old.ends) (sym m.is)
+            (by_fetcher o (λ fetcher v. fetched_if pair_runner fetcher (front_in pair_runner no_fronts v) number v) w) old.ends) (sym m.is)
             (subst (λ v. InPairRun calm old.honest up0 down0 old.up old.down v old.ends) (sym is) run),
       )
   unknown-passed old false there unknown = λ up0 down0 w ids few may run.
       let none = none-meant second old.ends.fronts.pair w.state.attached there run.so_far.in_world.session.1 in (
-        subst (λ o. room_by o (λ fetcher v. KnownHasRoom fetcher number (front_in pair_replay no_fronts v) v) w) (sym none) tt,
+        subst (λ o. room_by o (λ fetcher v. KnownHasRoom fetcher number (front_in pair_runner no_fronts v) v) w) (sym none) tt,
         subst (λ o. InPairRun calm old.honest up0 down0 old.up old.down
-            (by_fetcher o (λ fetcher v. fetched_if pair_replay fetcher (front_in pair_replay no_fronts v) number v) w) old.ends) (sym
+            (by_fetcher o (λ fetcher v. fetched_if pair_runner fetcher (front_in pair_runner no_fronts v) number v) w) old.ends) (sym
             none) run,
       )
 

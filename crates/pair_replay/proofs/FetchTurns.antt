@@ -19,7 +19,7 @@ use Rattle.pair_world.specs.Clients.{pair_reads, client_steps}
 use Rattle.pair_world.specs.Shown.{IsSessionNumber}
 use Rattle.pair_world.specs.PairFits.{PageSessions}
 use Rattle.pair_world.specs.PairRuns.{PairSpent, PairRun, fetches_on}
-use Rattle.pair_world.specs.PairFresh.{FrontValues, pair_replay, no_fronts, first_fetcher, second_fetcher}
+use Rattle.pair_world.specs.PairFresh.{FrontValues, pair_runner, no_fronts, first_fetcher, second_fetcher}
 use Rattle.pair_world.specs.PairHeld.{calm}
 use Rattle.pair_world.proofs.WayLemmas.{asks-are-the-roots, asks-are-the-sessions}
 use Rattle.pair_world.proofs.DeedLemmas.{session-command}
@@ -126,14 +126,14 @@ module _ {P : Type 0} {g : Ghosts P} (second : Bool) where
       (is : fetcher_on second v.state.attached ≡ Some f) (small : (k : ℕ) → v.state.attached ≡ Some k → IsSessionNumber k)
       (rests : IsAtRest v) (ids : PairHasIds v.spent) (few : fetches_on second v.spent + 1 ≤ most_fetches) (fits : number < 2 ^ 64) where
     -- the session after a fetch
-    session-same : (fetched pair_replay f number v).state.attached ≡ v.state.attached
+    session-same : (fetched pair_runner f number v).state.attached ≡ v.state.attached
     session-same =
         ap (λ frames. (steps (pair_step pair_reads client_steps) v.state frames).state.attached)
         (arriving-one (f.text (f.count v.spent) number) v.up (fetch-letters second v.state.attached f v.spent number is few) rests.up)
         ∙ step-keeps second v.state.attached f v.spent number v.state is small few fits
 
-    after-fetch : InPairRun calm new.honest up0 down0 new.up new.down (fetched pair_replay f number v) new.ends
-        → IsAfter second v (fetched pair_replay f number v)
+    after-fetch : InPairRun calm new.honest up0 down0 new.up new.down (fetched pair_runner f number v) new.ends
+        → IsAfter second v (fetched pair_runner f number v)
     after-fetch run = record {
       rests =
           settled-still new.honest up0 down0 new.up new.down (sent_up (f.text (f.count v.spent) number) f.one_more v) new.ends calm run;
@@ -146,14 +146,14 @@ module _ {P : Type 0} {g : Ghosts P} (second : Bool) where
     after-none = record { rests = rests; ids = ids; few = omega arith; same = refl }
 
     after-known : (known : Bool)
-        → InPairRun calm new.honest up0 down0 new.up new.down (cond known (fetched pair_replay f number v) v) new.ends
-        → IsAfter second v (cond known (fetched pair_replay f number v) v)
+        → InPairRun calm new.honest up0 down0 new.up new.down (cond known (fetched pair_runner f number v) v) new.ends
+        → IsAfter second v (cond known (fetched pair_runner f number v) v)
     after-known true run = after-fetch run
     after-known false run = after-none
 
     after-one : (r : Result FrontValues FrontKind)
-        → InPairRun calm new.honest up0 down0 new.up new.down (fetched_if pair_replay f r number v) new.ends
-        → IsAfter second v (fetched_if pair_replay f r number v)
+        → InPairRun calm new.honest up0 down0 new.up new.down (fetched_if pair_runner f r number v) new.ends
+        → IsAfter second v (fetched_if pair_runner f r number v)
     after-one (Ok p) run = after-known (f.knows p number) run
     after-one (Err fault) run = after-none
 
@@ -169,7 +169,7 @@ module _ {P : Type 0} {g : Ghosts P} (second : Bool) where
     pub rests : IsAtRest world
     pub ids : PairHasIds world.spent
     pub few : fetches_on second world.spent + length numbers ≤ most_fetches
-    pub goes : by_fetcher o (λ fetcher v. all_fetched pair_replay fetcher no_fronts numbers v) world ≡ target
+    pub goes : by_fetcher o (λ fetcher v. all_fetched pair_runner fetcher no_fronts numbers v) world ≡ target
     pub room : room_by o (λ fetcher v. AllHaveRoom fetcher numbers v) world → Room
     pub need : Room → room_by o (λ fetcher v. AllHaveRoom fetcher numbers v) world
 
@@ -186,14 +186,14 @@ module _ {P : Type 0} {g : Ghosts P} (second : Bool) where
       (old new : Moment (TwoFronts P g)) (result : Result (Unit {0}) Stop)
       → (going : Fetching o target Room up0 down0 (number ∷ numbers) old)
       → PairFetches second 1 old new result (fetching second number)
-      → RoomTold result (room_by o (λ fetcher v. KnownHasRoom fetcher number (front_in pair_replay no_fronts v) v) going.world)
+      → RoomTold result (room_by o (λ fetcher v. KnownHasRoom fetcher number (front_in pair_runner no_fronts v) v) going.world)
       × OnOk result (InPairRun calm new.honest up0 down0 new.up new.down
-      (by_fetcher o (λ fetcher v. fetched_if pair_replay fetcher (front_in pair_replay no_fronts v) number v) going.world) new.ends)
+      (by_fetcher o (λ fetcher v. fetched_if pair_runner fetcher (front_in pair_runner no_fronts v) number v) going.world) new.ends)
   one-goes o target Room up0 down0 number numbers old new result going fetches =
       let few : fetches_on second going.world.spent + suc (length numbers) ≤ most_fetches = going.few in
-      subst (λ o. RoomTold result (room_by o (λ fetcher v. KnownHasRoom fetcher number (front_in pair_replay no_fronts v) v) going.world)
+      subst (λ o. RoomTold result (room_by o (λ fetcher v. KnownHasRoom fetcher number (front_in pair_runner no_fronts v) v) going.world)
       × OnOk result (InPairRun calm new.honest up0 down0 new.up new.down
-      (by_fetcher o (λ fetcher v. fetched_if pair_replay fetcher (front_in pair_replay no_fronts v) number v) going.world)
+      (by_fetcher o (λ fetcher v. fetched_if pair_runner fetcher (front_in pair_runner no_fronts v) number v) going.world)
       new.ends)) going.is
       (fetches up0 down0 going.world going.ids (omega (arith, few)) (refl, going.rests) going.in_run)
 
@@ -221,10 +221,10 @@ module _ {P : Type 0} {g : Ghosts P} (second : Bool) where
       let v = going.world in
       let few : fetches_on second v.spent + suc (length numbers) ≤ most_fetches = going.few in
       let done = one-goes (Some f) target Room up0 down0 number numbers old new (Ok tt) going fetches in
-      let after : PairRun = fetched_if pair_replay f (front_in pair_replay no_fronts v) number v in
+      let after : PairRun = fetched_if pair_runner f (front_in pair_runner no_fronts v) number v in
       let then : IsAfter second v after =
       after-one f number up0 down0 v new going.is (number-of up0 down0 v old going.in_run) going.rests going.ids (omega (arith, few)) fits
-      (front_in pair_replay no_fronts v) done.1 in
+      (front_in pair_runner no_fronts v) done.1 in
       let spent : fetches_on second after.spent ≤ fetches_on second v.spent + 1 = then.few in
       record {
         world = after;
@@ -294,7 +294,7 @@ module _ {P : Type 0} {g : Ghosts P} (second : Bool) where
       → fetches_on second w.spent + length numbers ≤ most_fetches → IsAtRest w
       → InPairRun calm now.honest up0 down0 now.up now.down w now.ends
       → Fetching (fetcher_on second w.state.attached)
-      (by_fetcher (fetcher_on second w.state.attached) (λ fetcher v. all_fetched pair_replay fetcher no_fronts numbers v) w)
+      (by_fetcher (fetcher_on second w.state.attached) (λ fetcher v. all_fetched pair_runner fetcher no_fronts numbers v) w)
       (room_by (fetcher_on second w.state.attached) (λ fetcher v. AllHaveRoom fetcher numbers v) w) up0 down0 numbers now
   fetch-start numbers up0 down0 w now ids few rests run = record {
     world = w;

@@ -31,12 +31,12 @@ use Rattle.pair_world.specs.Clients.{pair_reads, client_steps}
 use Rattle.pair_world.specs.Shown.{MaySend}
 use Rattle.pair_world.specs.PairFits.{PageSessions, PairFits}
 use Rattle.pair_world.specs.PairRuns.{PairAudience, told_on, PairRun, pair_settled}
-use Rattle.pair_world.specs.PairScripts.{deeds, settle_deed, pair_telling, told_by, after_pair_line, show_text, pair_line_text, met_in}
+use Rattle.pair_world.specs.PairScripts.{deeds, settle_deed, pair_telling, told_by_form, after_pair_line, show_text, pair_line_text, met_in}
 use Rattle.pair_world.specs.PairScripts.{pair_lacking}
-use Rattle.pair_world.specs.PairFresh.{pair_replay, no_fronts, pair_refreshes, fresh_pair_line, PairTogether, RefreshHasRoom}
+use Rattle.pair_world.specs.PairFresh.{pair_runner, no_fronts, pair_refreshes, fresh_pair_line, PairTogether, RefreshHasRoom}
 use Rattle.pair_world.specs.PairFresh.{DeedsHaveRoom, pair_settles_first, line_or, WhereTrue}
 use Rattle.pair_world.specs.PairHeld as held
-use Rattle.pair_world.specs.PairHeld.{Mode, calm, up_reads, IsSecondOf, InPairWorld}
+use Rattle.pair_world.specs.PairHeld.{PairMode, calm, up_reads, IsSecondOf, InPairWorld}
 use Rattle.replay_parts.specs.declared.stop.Stop.{Stop}
 use Rattle.replay_parts.specs.declared.stop.Stop.TheVariants.{Line}
 use Rattle.replay_parts.specs.Moments.{Moment, scene}
@@ -59,7 +59,7 @@ use Rattle.replay_parts.proofs.StopLemmas.{wrote-none, part-tells}
 -- ---- what was told
 
 -- what is told of the front ends says nothing else of a run
-world-told : (mode : Mode) (up0 down0 up down : Pipe) (w : PairRun) (frames : List (List ℕ)) (e : held.PairEnds) (told : PairAudience)
+world-told : (mode : PairMode) (up0 down0 up down : Pipe) (w : PairRun) (frames : List (List ℕ)) (e : held.PairEnds) (told : PairAudience)
     → told.panels ≡ w.told.panels → InPairWorld mode up0 down0 up down w frames e
     → InPairWorld mode up0 down0 up down (pair_telling told w) frames (record e { first_told = told.first; second_told = told.second })
 world-told mode up0 down0 up down w frames e told panels world =
@@ -91,7 +91,7 @@ world-told mode up0 down0 up down w frames e told panels world =
       second_told = refl;
     }
 
-pub run-told-so : {P : Type 0} {g : Ghosts P} (mode : Mode) (honest : Type 0) (up0 down0 up down : Pipe) (w : PairRun)
+pub run-told-so : {P : Type 0} {g : Ghosts P} (mode : PairMode) (honest : Type 0) (up0 down0 up down : Pipe) (w : PairRun)
     (e e1 : TwoFronts P g)
     (told : PairAudience)
     → told.panels ≡ w.told.panels → pair_ends_of e1 ≡ record (pair_ends_of e) { first_told = told.first; second_told = told.second }
@@ -111,9 +111,9 @@ run-told-so mode honest up0 down0 up down w e e1 told panels is same run = recor
 -- ---- a settle that came through
 
 -- the front ends are what the run's streams fold into
-pub run-front : {P : Type 0} {g : Ghosts P} (mode : Mode) (honest : Type 0) (up0 down0 up down : Pipe) (w : PairRun) (e : TwoFronts P g)
+pub run-front : {P : Type 0} {g : Ghosts P} (mode : PairMode) (honest : Type 0) (up0 down0 up down : Pipe) (w : PairRun) (e : TwoFronts P g)
     → (run : InPairRun mode honest up0 down0 up down w e)
-    → front_in pair_replay no_fronts w ≡ Ok (pair_value run.so_far.in_world.fronts_are.asked e.fronts.pair)
+    → front_in pair_runner no_fronts w ≡ Ok (pair_value run.so_far.in_world.fronts_are.asked e.fronts.pair)
 run-front mode honest up0 down0 up down w e run =
     let fold = run.so_far.in_world.fronts_are in
     let r = value_reads up_reads in
@@ -266,9 +266,9 @@ both-ways B at_false at_true true = at_true
 -- A line that shows something of a front end, of either: it settles, and prints what it shows then.
 pub record IsShow (form : LineForm) : Type 0 where
   pub after : (second : Bool) (w : PairRun)
-      → after_pair_line (line_on second form) w ≡ pair_telling (told_by second form (pair_settled w)) (pair_settled w)
+      → after_pair_line (line_on second form) w ≡ pair_telling (told_by_form second form (pair_settled w)) (pair_settled w)
   pub fresh : (second : Bool) (v : PairRun)
-      → fresh_pair_line (line_on second form) v ≡ pair_telling (told_by second form (pair_refreshes v)) (pair_refreshes v)
+      → fresh_pair_line (line_on second form) v ≡ pair_telling (told_by_form second form (pair_refreshes v)) (pair_refreshes v)
   pub deeds_are : (second : Bool) (v : PairRun) → deeds (line_on second form) v ≡ settle_deed ∷ []
   pub first : (second : Bool) → pair_settles_first (line_on second form) ≡ true
   pub text : (second : Bool) (number : ℕ) (w : PairRun)
@@ -279,10 +279,10 @@ pub is-show-front : IsShow show_front
 is-show-front = record {
   after = both-ways (λ b. (w : PairRun)
       → after_pair_line (line_on b show_front) w
-      ≡ pair_telling (told_by b show_front (pair_settled w)) (pair_settled w)) (λ w. refl) (λ w. refl);
+      ≡ pair_telling (told_by_form b show_front (pair_settled w)) (pair_settled w)) (λ w. refl) (λ w. refl);
   fresh = both-ways (λ b. (v : PairRun)
       → fresh_pair_line (line_on b show_front) v
-      ≡ pair_telling (told_by b show_front (pair_refreshes v)) (pair_refreshes v)) (λ v. refl) (λ v. refl);
+      ≡ pair_telling (told_by_form b show_front (pair_refreshes v)) (pair_refreshes v)) (λ v. refl) (λ v. refl);
   deeds_are = both-ways (λ b. (v : PairRun) → deeds (line_on b show_front) v ≡ settle_deed ∷ []) (λ v. refl) (λ v. refl);
   first = both-ways (λ b. pair_settles_first (line_on b show_front) ≡ true) refl refl;
   text = both-ways
@@ -295,9 +295,10 @@ pub is-show-sheets : IsShow show_sheets
 is-show-sheets = record {
   after = both-ways (λ b. (w : PairRun)
       → after_pair_line (line_on b show_sheets) w
-      ≡ pair_telling (told_by b show_sheets (pair_settled w)) (pair_settled w)) (λ w. refl) (λ w. refl);
+      ≡ pair_telling (told_by_form b show_sheets (pair_settled w)) (pair_settled w)) (λ w. refl) (λ w. refl);
   fresh = both-ways (λ b. (v : PairRun)
-      → fresh_pair_line (line_on b show_sheets) v ≡ pair_telling (told_by b show_sheets (pair_refreshes v)) (pair_refreshes v)) (λ v. refl)
+      → fresh_pair_line (line_on b show_sheets) v
+      ≡ pair_telling (told_by_form b show_sheets (pair_refreshes v)) (pair_refreshes v)) (λ v. refl)
       (λ v. refl);
   deeds_are = both-ways (λ b. (v : PairRun) → deeds (line_on b show_sheets) v ≡ settle_deed ∷ []) (λ v. refl) (λ v. refl);
   first = both-ways (λ b. pair_settles_first (line_on b show_sheets) ≡ true) refl refl;
@@ -310,11 +311,12 @@ is-show-sheets = record {
 pub is-show-replies : IsShow show_replies
 is-show-replies = record {
   after = both-ways (λ b. (w : PairRun)
-      → after_pair_line (line_on b show_replies) w ≡ pair_telling (told_by b show_replies (pair_settled w)) (pair_settled w)) (λ w. refl)
+      → after_pair_line (line_on b show_replies) w
+      ≡ pair_telling (told_by_form b show_replies (pair_settled w)) (pair_settled w)) (λ w. refl)
       (λ w. refl);
   fresh = both-ways (λ b. (v : PairRun)
       → fresh_pair_line (line_on b show_replies) v
-      ≡ pair_telling (told_by b show_replies (pair_refreshes v)) (pair_refreshes v)) (λ v. refl)
+      ≡ pair_telling (told_by_form b show_replies (pair_refreshes v)) (pair_refreshes v)) (λ v. refl)
       (λ v. refl);
   deeds_are = both-ways (λ b. (v : PairRun) → deeds (line_on b show_replies) v ≡ settle_deed ∷ []) (λ v. refl) (λ v. refl);
   first = both-ways (λ b. pair_settles_first (line_on b show_replies) ≡ true) refl refl;
@@ -328,9 +330,10 @@ pub is-show-pauses : IsShow show_pauses
 is-show-pauses = record {
   after = both-ways (λ b. (w : PairRun)
       → after_pair_line (line_on b show_pauses) w
-      ≡ pair_telling (told_by b show_pauses (pair_settled w)) (pair_settled w)) (λ w. refl) (λ w. refl);
+      ≡ pair_telling (told_by_form b show_pauses (pair_settled w)) (pair_settled w)) (λ w. refl) (λ w. refl);
   fresh = both-ways (λ b. (v : PairRun)
-      → fresh_pair_line (line_on b show_pauses) v ≡ pair_telling (told_by b show_pauses (pair_refreshes v)) (pair_refreshes v)) (λ v. refl)
+      → fresh_pair_line (line_on b show_pauses) v
+      ≡ pair_telling (told_by_form b show_pauses (pair_refreshes v)) (pair_refreshes v)) (λ v. refl)
       (λ v. refl);
   deeds_are = both-ways (λ b. (v : PairRun) → deeds (line_on b show_pauses) v ≡ settle_deed ∷ []) (λ v. refl) (λ v. refl);
   first = both-ways (λ b. pair_settles_first (line_on b show_pauses) ≡ true) refl refl;
@@ -343,10 +346,11 @@ is-show-pauses = record {
 pub is-show-styles : (ask : ℕ) → IsShow (show_styles ask)
 is-show-styles ask = record {
   after = both-ways (λ b. (w : PairRun)
-      → after_pair_line (line_on b (show_styles ask)) w ≡ pair_telling (told_by b (show_styles ask) (pair_settled w)) (pair_settled w))
+      → after_pair_line (line_on b (show_styles ask)) w ≡ pair_telling (told_by_form b (show_styles ask) (pair_settled w)) (pair_settled w))
       (λ w. refl) (λ w. refl);
   fresh = both-ways (λ b. (v : PairRun)
-      → fresh_pair_line (line_on b (show_styles ask)) v ≡ pair_telling (told_by b (show_styles ask) (pair_refreshes v)) (pair_refreshes v))
+      → fresh_pair_line (line_on b (show_styles ask)) v
+      ≡ pair_telling (told_by_form b (show_styles ask) (pair_refreshes v)) (pair_refreshes v))
       (λ v. refl) (λ v. refl);
   deeds_are = both-ways (λ b. (v : PairRun) → deeds (line_on b (show_styles ask)) v ≡ settle_deed ∷ []) (λ v. refl) (λ v. refl);
   first = both-ways (λ b. pair_settles_first (line_on b (show_styles ask)) ≡ true) refl refl;
@@ -439,8 +443,8 @@ pub record ShowSays {P : Type 0} {g : Ghosts P} (second : Bool) (form : LineForm
     (mid new : Moment (TwoFronts P g))
     (taken taken1 : Option (List ℕ)) (number : ℕ) (up0 down0 : Pipe) (more : ℕ) (w v : PairRun) : Type 0 where
   pub play : OnOk result (InPairPlay new.honest up0 down0 new.up new.down more
-      (pair_telling (told_by second form (pair_settled w)) (pair_settled w))
-      (pair_telling (told_by second form (pair_refreshes v)) (pair_refreshes v)) new.ends)
+      (pair_telling (told_by_form second form (pair_settled w)) (pair_settled w))
+      (pair_telling (told_by_form second form (pair_refreshes v)) (pair_refreshes v)) new.ends)
   pub took : PairRunTook result taken taken1
       (text_unless (styles_fault (came_to second (met_in w)) form) (show_text second form (pair_settled w)))
   pub tells : RunTells result (numbered_or number (styles_fault (came_to second (met_in w)) form) None)
@@ -464,7 +468,7 @@ show-carries second form result old mid new taken taken1 number show there steps
       subst (λ x. OnOk result (InPairPlay new.honest up0 down0 new.up new.down more x (fresh_pair_line (line_on second form) v) new.ends))
           (sym (show.after second w))
           (subst (λ x. OnOk result (InPairPlay new.honest up0 down0 new.up new.down more
-          (pair_telling (told_by second form (pair_settled w)) (pair_settled w)) x new.ends)) (sym (show.fresh second v)) said.play),
+          (pair_telling (told_by_form second form (pair_settled w)) (pair_settled w)) x new.ends)) (sym (show.fresh second v)) said.play),
       subst (λ o. PairRunTook result taken taken1 (text_unless o (pair_line_text number (line_on second form) w))) (sym lacking)
           (subst (λ t. PairRunTook result taken taken1 (text_unless fault t)) (sym (show.text second number w)) said.took),
       subst (λ o. RunTells result (numbered_or number o None)) (sym lacking) said.tells,

@@ -7,7 +7,7 @@ use Rattle.front_mirror.specs.declared.panels.PanelKind.{PanelKind}
 use Rattle.pipe_frames.specs.Pipe.{Pipe}
 use Rattle.replay_script.specs.PairLines.{PairForm, pair_line_form, pair_line_fault}
 use Rattle.replay_script.specs.declared.faults.LineFault.{LineFault}
-use Rattle.pair_world.specs.PairLinks.{LinkMoment, IsLater, AreInOrderTo, PairStarted, pair_started}
+use Rattle.pair_world.specs.PairLinks.{LinkMoment, IsLaterMoment, AreInOrderTo, PairStarted, pair_started}
 use Rattle.replay_parts.specs.declared.stop.Stop.{Stop}
 use Rattle.replay_parts.specs.declared.stop.Stop.TheVariants.{Line, TooLong, ReadFault, WriteFault, LinkFault, FrontRefused, NoRoom}
 use Rattle.replay_parts.specs.declared.stop.Stop.TheVariants.{Memory}
@@ -118,7 +118,7 @@ line-stops (Line n fault) start up0 down0 old new initial nth line more form c g
     let here : m ≡ last = judged.last (λ none. some-none f.0 (sym f.1 ∙ none)) in
     record {
       moments = c.moments ++ last ∷ [];
-      in_order = order-push c.moments now last last c.in_order (subst (IsLater now) here judged.from) (later-still last);
+      in_order = order-push c.moments now last last c.in_order (subst (IsLaterMoment now) here judged.from) (later-still last);
       judged = c.goes last (last ∷ []) (Some (n, fault))
           (line-refused last nth c.panels line more form f.0 (Some (n, fault)) good is
           (subst (λ x. fault_at x c.panels form ≡ Some f.0) here f.1) (sym f.2));
@@ -188,7 +188,7 @@ carried-all start up0 down0 new initial nth lines none c = (
 
 -- later moments do not change how lines were judged, where none is refused
 judged-later : {T U : Type 0} (value : T) (value1 : U) (panels : List (Option PanelKind)) (lines : List (List ℕ)) (now last : LinkMoment)
-    → PairLinesJudged now panels lines {T = T} (Ok value) → IsLater now last → PairLinesJudged last panels lines {T = U} (Ok value1)
+    → PairLinesJudged now panels lines {T = T} (Ok value) → IsLaterMoment now last → PairLinesJudged last panels lines {T = U} (Ok value1)
 judged-later value value1 panels lines now last judged later = record {
   moments = judged.moments;
   in_order = order-later judged.moments now last judged.in_order later;
@@ -227,7 +227,8 @@ judged-later value value1 panels lines now last judged later = record {
 pub closing-tells : {T : Type 0} (value : T) (result : Result (Unit {0}) Stop) (sink0 sink1 link0 link1 : ℕ)
     (panels : List (Option PanelKind))
     (lines : List (List ℕ)) (now last : LinkMoment)
-    → HasStopCause sink0 sink1 link0 link1 result → PairLinesJudged now panels lines {T = T} (Ok value) → OnOk result (IsLater now last)
+    → HasStopCause sink0 sink1 link0 link1 result → PairLinesJudged now panels lines {T = T} (Ok value)
+    → OnOk result (IsLaterMoment now last)
     → AtEnd (says_of result).phase (PairLinesJudged last panels lines result)
 closing-tells value (Ok done) sink0 sink1 link0 link1 panels lines now last cause judged later =
     judged-later value done panels lines now last judged later

@@ -42,7 +42,7 @@ use Rattle.back_end.proofs.StepLemmas.{Planned, script-well, with-page-is, turn-
 use Rattle.back_end.proofs.FrameLemmas.{asks-for}
 use Rattle.back_end.proofs.OutsideSteps.{side_after, CanMake, IsDone, asked-done}
 use Rattle.inspect_world.proofs.TurnLemmas.{TurnKeeps, turn-keeps}
-use Rattle.pair_world.specs.PairLinks.{ids_outside}
+use Rattle.back_end.specs.Guests.{drawn_by_outside}
 
 -- ---- edits of another client are well
 
@@ -177,7 +177,7 @@ asked-few (Ok a) state texts is =
 -- edits of the tree; it keeps no edit, and draws one number of a search at most.
 pub record DrawsOutside (trees : ℕ) (before : State) (done : Step) : Type 0 where
   pub ids : length done.state.client.session.pushed + tree_edits done.state
-      ≤ length before.client.session.pushed + tree_edits before + (most_ids + ids_outside * trees)
+      ≤ length before.client.session.pushed + tree_edits before + (most_ids + drawn_by_outside * trees)
   pub kept : tree_edits done.state ≤ tree_edits before
   pub edits : edits_kept done.state ≤ edits_kept before
   pub searches : done.state.client.searches.given ≤ before.client.searches.given + 1

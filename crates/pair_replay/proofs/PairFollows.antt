@@ -16,7 +16,7 @@ use Rattle.multi_replay.specs.Laws.{pair_value, IsFoldOfBoth}
 use Rattle.front_mirror.specs.Places.{closed_at}
 use Rattle.pair_world.specs.PairHeld.{up_reads}
 use Rattle.pair_world.specs.PairHeld as held
-use Rattle.pair_world.specs.PairLinks.{LinkMoment, IsLater, AreInOrderTo, PairStarted, pair_started, one_pair_line_more, SecondFew}
+use Rattle.pair_world.specs.PairLinks.{LinkMoment, IsLaterMoment, AreInOrderTo, PairStarted, pair_started, one_pair_line_more, SecondFew}
 use Rattle.pair_world.specs.PairLinks.{FollowsPair}
 use Rattle.pair_world.specs.PairLinks.{pair_fold_of, pair_replies_in, sent_when_pair_is_full}
 use Rattle.replay_parts.specs.declared.stop.Stop.{Stop}
@@ -31,11 +31,11 @@ use Rattle.pair_replay.specs.Following.{FollowsPairRun}
 -- ---- moments
 
 -- a moment is no earlier than itself
-pub later-still : (m : LinkMoment) → IsLater m m
+pub later-still : (m : LinkMoment) → IsLaterMoment m m
 later-still m = record { more_sent = []; more_given = []; sent_is = sym (append-nil m.sent_up); given_is = sym (append-nil m.given_down) }
 
 -- nor is one that is later than a later one
-pub later-on : (a b c : LinkMoment) → IsLater a b → IsLater b c → IsLater a c
+pub later-on : (a b c : LinkMoment) → IsLaterMoment a b → IsLaterMoment b c → IsLaterMoment a c
 later-on a b c first second = record {
   more_sent = first.more_sent ++ second.more_sent;
   more_given = first.more_given ++ second.more_given;
@@ -46,13 +46,13 @@ later-on a b c first second = record {
 }
 
 -- moments up to one are moments up to a later one
-pub order-later : (ms : List LinkMoment) (now last : LinkMoment) → AreInOrderTo now ms → IsLater now last → AreInOrderTo last ms
+pub order-later : (ms : List LinkMoment) (now last : LinkMoment) → AreInOrderTo now ms → IsLaterMoment now last → AreInOrderTo last ms
 order-later [] now last order later = tt
 order-later (m ∷ []) now last order later = later-on m now last order later
 order-later (m ∷ n ∷ ms) now last order later = (order.0, order-later (n ∷ ms) now last order.1 later)
 
 -- one moment more
-pub order-push : (ms : List LinkMoment) (now m last : LinkMoment) → AreInOrderTo now ms → IsLater now m → IsLater m last
+pub order-push : (ms : List LinkMoment) (now m last : LinkMoment) → AreInOrderTo now ms → IsLaterMoment now m → IsLaterMoment m last
     → AreInOrderTo last (ms ++ m ∷ [])
 order-push [] now m last order before later = later
 order-push (k ∷ []) now m last order before later = (later-on k now m order before, later)
@@ -98,13 +98,13 @@ module _ (start : PairStarted) (up0 down0 up down : Pipe) (waiting : List (List 
   pub moment-is : moment_of up0 down0 up down ≡ record { sent_up = f.sent_up; given_down = f.given_down }
   moment-is = λ i. record { sent_up = up-since i; given_down = down-since i }
 
-  pub later-than : IsLater start.from (moment_of up0 down0 up down)
-  later-than = subst (IsLater start.from) (sym moment-is) f.later
+  pub later-than : IsLaterMoment start.from (moment_of up0 down0 up down)
+  later-than = subst (IsLaterMoment start.from) (sym moment-is) f.later
 
   -- The same ends, of which no more is asked: fewer lines, another moment, other panels of the first front end, and told counts.
   pub follows-anew : (lines : ℕ) (panels : List (Option PanelKind)) (from : LinkMoment) (fronts : FrontsState)
       (first_told second_told : AlreadyTold)
-      → lines ≤ start.lines → IsLater from (record { sent_up = f.sent_up; given_down = f.given_down })
+      → lines ≤ start.lines → IsLaterMoment from (record { sent_up = f.sent_up; given_down = f.given_down })
       → IsFoldOfBoth up_reads f.sent_up f.given_down fronts → fronts.dead ≡ false → fronts.pair.one.dead ≡ false
       → fronts.pair.one.panels ≡ panels → fronts.pair.one.next + fronts.pair.one.fetches ≤ length f.sent_up + 1
       → SecondFew fronts.pair.two (length f.sent_up) → fronts.next ≤ 2 ^ 52 + length f.sent_up
@@ -148,7 +148,7 @@ module _ (start : PairStarted) (up0 down0 up down : Pipe) (waiting : List (List 
 
   -- with the same front ends
   pub follows-still : (lines : ℕ) (from : LinkMoment) (first_told second_told : AlreadyTold)
-      → lines ≤ start.lines → IsLater from (record { sent_up = f.sent_up; given_down = f.given_down })
+      → lines ≤ start.lines → IsLaterMoment from (record { sent_up = f.sent_up; given_down = f.given_down })
       → FollowsPair (pair_started start.pair lines start.panels from) up0 down0 up down waiting
       (record e { first_told = first_told; second_told = second_told })
   follows-still lines from first_told second_told fewer later =
@@ -182,16 +182,16 @@ module _ {P : Type 0} {g : Ghosts P} (start : PairStarted) (up0 down0 up down : 
   run-fold = pair-fold start up0 down0 up down e.ends.splitter.whole (pair_ends_of e) run.so_far
 
   -- nothing was taken back since the moment of the start
-  pub run-later : IsLater start.from (moment_of up0 down0 up down)
+  pub run-later : IsLaterMoment start.from (moment_of up0 down0 up down)
   run-later = later-than start up0 down0 up down e.ends.splitter.whole (pair_ends_of e) run.so_far
 
   -- so many lines may be left, and any moment that is no later may be looked back on
-  pub run-from : (lines : ℕ) (from : LinkMoment) → lines ≤ start.lines → IsLater from (moment_of up0 down0 up down)
+  pub run-from : (lines : ℕ) (from : LinkMoment) → lines ≤ start.lines → IsLaterMoment from (moment_of up0 down0 up down)
       → FollowsPairRun (pair_started start.pair lines start.panels from) up0 down0 up down e
   run-from lines from fewer later = record {
     so_far = follows-still start up0 down0 up down e.ends.splitter.whole (pair_ends_of e) run.so_far lines from (pair_ends_of e).first_told
         (pair_ends_of e).second_told fewer
-        (subst (IsLater from) (moment-is start up0 down0 up down e.ends.splitter.whole (pair_ends_of e) run.so_far) later);
+        (subst (IsLaterMoment from) (moment-is start up0 down0 up down e.ends.splitter.whole (pair_ends_of e) run.so_far) later);
     none_whole = run.none_whole;
   }
 

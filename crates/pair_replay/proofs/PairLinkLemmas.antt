@@ -44,7 +44,7 @@ use Rattle.inspect_world.proofs.StepSends.{frames-last, goes-start, goes-put, go
 use Rattle.pair_world.specs.PairHeld.{PairEnds, up_reads}
 use Rattle.pair_world.specs.PairLinks.{pair_fold_of, pair_happening_step, pair_happened, pair_commands_among, pair_replies_in, DrewOne}
 use Rattle.pair_world.specs.PairLinks.{DrewBoth}
-use Rattle.pair_world.specs.PairLinks.{LinkMoment, IsLater, PairStarted, pair_started, one_pair_line_more, SecondFew, FollowsPair}
+use Rattle.pair_world.specs.PairLinks.{LinkMoment, IsLaterMoment, PairStarted, pair_started, one_pair_line_more, SecondFew, FollowsPair}
 use Rattle.pair_world.proofs.PairNumbers.{pairs-same, whole-keeps}
 use Rattle.pair_world.proofs.PairDown.{one-taken}
 use Rattle.pair_replay.proofs.ReplyIds.{ids_down, ids_down-append}
@@ -57,8 +57,8 @@ use Rattle.pair_replay.proofs.PairSteps.{ids-enough}
 abbrev pub moment_by : (sent_up given_down : List ℕ) → LinkMoment
 moment_by sent_up given_down = record { sent_up = sent_up; given_down = given_down }
 
-later-sent : (from : LinkMoment) (sent given more : List ℕ) → IsLater from (moment_by sent given)
-    → IsLater from (moment_by (sent ++ more) given)
+later-sent : (from : LinkMoment) (sent given more : List ℕ) → IsLaterMoment from (moment_by sent given)
+    → IsLaterMoment from (moment_by (sent ++ more) given)
 later-sent from sent given more later = record {
   more_sent = later.more_sent ++ more;
   more_given = later.more_given;
@@ -66,8 +66,8 @@ later-sent from sent given more later = record {
   given_is = later.given_is;
 }
 
-later-given : (from : LinkMoment) (sent given more : List ℕ) → IsLater from (moment_by sent given)
-    → IsLater from (moment_by sent (given ++ more))
+later-given : (from : LinkMoment) (sent given more : List ℕ) → IsLaterMoment from (moment_by sent given)
+    → IsLaterMoment from (moment_by sent (given ++ more))
 later-given from sent given more later = record {
   more_sent = later.more_sent;
   more_given = later.more_given ++ more;
@@ -206,7 +206,7 @@ follows-start up0 down0 kinds start mux side first second up_within down_within 
       given_down = [];
       up_is = goes-start up0 up_within;
       down_is = goes-start down0 down_within;
-      later = subst (λ m. IsLater m (moment_by [] [])) (sym from)
+      later = subst (λ m. IsLaterMoment m (moment_by [] [])) (sym from)
           (record { more_sent = []; more_given = []; sent_is = refl; given_is = refl });
       fronts_are = both-begin up_reads kinds;
       alive = refl;

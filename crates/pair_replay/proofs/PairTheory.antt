@@ -29,10 +29,10 @@ use Rattle.inspect_world.specs.Fits.{kept_styles, most_bytes, most_sheets, most_
 use Rattle.pair_world.specs.Clients.{pair_reads, client_steps}
 use Rattle.pair_world.specs.PairFits.{PageSessions, PairFits}
 use Rattle.pair_world.specs.PairRuns.{PairPlainlySpent, PairSpent, PairRun, pair_plainly, none_more, pair_loaded_run, pair_settled}
-use Rattle.pair_world.specs.PairRuns.{client_on, state_on, asks_on, fetches_on}
+use Rattle.pair_world.specs.PairRuns.{client_meant, state_on, asks_on, fetches_on}
 use Rattle.pair_world.specs.PairRuns.{next_target}
 use Rattle.pair_world.specs.PairScripts.{pair_replies, pair_pauses, session_on}
-use Rattle.pair_world.specs.PairFresh.{FrontValues, pair_replay, no_fronts, PairIsFit, pair_unstyled, PairRoom, pair_refreshes}
+use Rattle.pair_world.specs.PairFresh.{FrontValues, pair_runner, no_fronts, PairIsFit, pair_unstyled, PairRoom, pair_refreshes}
 use Rattle.pair_world.specs.PairFresh.{RefreshHasRoom}
 use Rattle.pair_world.specs.PairFresh.{PairHasLeft, PairTogether, PairIsCalm, SettleHasRoom}
 use Rattle.pair_replay.specs.PairStarts.{may_ask_on}
@@ -79,7 +79,7 @@ pub record OneShown (second : Bool) (w : PairRun) (v : FrontValue) : Type 0 wher
   pub fresh : stale_of v.sheets ≡ []
   pub told : map reply_shown v.replies ≡ pair_replies second w
   pub pauses : v.pauses ≡ map seen_pause (pair_pauses second w)
-  pub styles : map kept_styles v.matched ≡ (client_on second w.state).styles
+  pub styles : map kept_styles v.matched ≡ (client_meant second w.state).styles
 
 -- so does the second, where a session is attached
 abbrev pub TwoShown : PairRun → Option (Second FrontValue (List ℕ)) → Option ℕ → Type 0
@@ -97,7 +97,7 @@ pub record FoldShown (w : PairRun) (p : FrontValues) : Type 0 where
 
 -- the runs go on together, whether an attach or a detach is on its way or none
 abbrev pub AreTogether : PairRun → PairRun → Type 0
-AreTogether w v = RunTogether pair_replay pair_plainly PairIsFit no_fronts pair_unstyled IsPlainOfPair w v
+AreTogether w v = RunTogether pair_runner pair_plainly PairIsFit no_fronts pair_unstyled IsPlainOfPair w v
 
 -- Both runs after a settle, with its fetches in the one: each front end has made one for each sheet of a page at most.
 pub record SettledRuns (w v : PairRun) : Type 0 where
@@ -107,7 +107,7 @@ pub record SettledRuns (w v : PairRun) : Type 0 where
   pub rests : IsAtRest (pair_refreshes v)
   pub fetches : (pair_refreshes v).spent.fetches ≤ v.spent.fetches + most_sheets
   pub second_fetches : (pair_refreshes v).spent.second_fetches ≤ v.spent.second_fetches + most_sheets
-  pub shown : (p : FrontValues) → front_in pair_replay no_fronts (pair_refreshes v) ≡ Ok p → FoldShown (pair_settled w) p
+  pub shown : (p : FrontValues) → front_in pair_runner no_fronts (pair_refreshes v) ≡ Ok p → FoldShown (pair_settled w) p
 
 -- sheets with their texts are not old
 none-stale : (ss : List ShownSheet) → stale_of (map known_fresh ss) ≡ []
@@ -115,7 +115,7 @@ none-stale [] = refl
 none-stale (s ∷ ss) = none-stale ss
 
 one-shown : (second : Bool) (w : PairRun) (v : FrontValue)
-    → FrontShows v w.state.side (client_on second w.state) (came_on second w) → OneShown second w v
+    → FrontShows v w.state.side (client_meant second w.state) (came_on second w) → OneShown second w v
 one-shown second w v shows = record {
   has = shows.has;
   fresh = ap stale_of shows.texts ∙ none-stale (sheets_shown (state_on second w.state));
@@ -140,7 +140,7 @@ settled-runs w v both left room =
     let s : SettledAs w v (pair_refreshes v) = settle-runs w v both (omega (arith, one)) (omega (arith, two)) room in
     record {
       runs = s.runs;
-      calm = calm-at-rest (pair_settled w) s.runs.fits (settled-rests pair_replay PairIsFit no_fronts w s.runs.fits);
+      calm = calm-at-rest (pair_settled w) s.runs.fits (settled-rests pair_runner PairIsFit no_fronts w s.runs.fits);
       calm_fresh = calm-at-rest (pair_refreshes v) s.runs.fits_fresh s.rests;
       rests = s.rests;
       fetches = s.fetches;

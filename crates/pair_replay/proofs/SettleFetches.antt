@@ -18,10 +18,10 @@ use Rattle.multi_replay.specs.Laws.{pair_value}
 use Rattle.inspect_world.specs.Fits.{most_sheets, most_fetches}
 use Rattle.pair_world.specs.Shown.{IsSessionNumber}
 use Rattle.pair_world.specs.PairRuns.{PairSpent, PairAudience, PairPlainlySpent, PairRun, pair_plainly, pair_settled, fetches_on}
-use Rattle.pair_world.specs.PairFresh.{FrontValues, pair_replay, no_fronts, first_fetcher, second_fetcher, second_fetched}
+use Rattle.pair_world.specs.PairFresh.{FrontValues, pair_runner, no_fronts, first_fetcher, second_fetcher, second_fetched}
 use Rattle.pair_world.specs.PairFresh.{pair_unstyled, PairIsCalm, PairIsFit, PairHasLeft, PairRoom, SettleHasRoom, WhereTrue}
-use Rattle.pair_world.specs.PairFresh.{FetchesHaveRoom, SecondHasRoom, RefreshHasRoom}
-use Rattle.pair_world.specs.PairHeld.{Mode, calm}
+use Rattle.pair_world.specs.PairFresh.{FetchesHaveRoom, SecondFetchesHaveRoom, RefreshHasRoom}
+use Rattle.pair_world.specs.PairHeld.{PairMode, calm}
 use Rattle.pair_world.proofs.FetchBoth.{NextOfPair, no_other_fetches, first_laws, second_laws}
 use Rattle.pair_world.proofs.FetchRuns.{fit_laws, attached-number, fetches-keep}
 use Rattle.pair_world.proofs.PairKnown.{ids-left}
@@ -42,10 +42,10 @@ use Rattle.pair_replay.proofs.LineRuns.{run-front}
 
 -- a run whose front end would fetch these sheets next
 record MayFetch (f : Fetcher FrontValues PairSpent) (numbers : List ℕ) (v : PairRun) : Type 0 where
-  fits : Fits pair_replay.take pair_replay.join PairIsFit no_fronts v
+  fits : Fits pair_runner.take pair_runner.join PairIsFit no_fronts v
   rests : IsAtRest v
   front : FrontValues
-  is : front_in pair_replay no_fronts v ≡ Ok front
+  is : front_in pair_runner no_fronts v ≡ Ok front
   stale : f.stale front ≡ numbers
   few : f.count v.spent + length numbers ≤ most_fetches
 
@@ -57,12 +57,12 @@ RoomWhereOld numbers v = (numbers ≡ [] → ⊥) → PairRoom v.state
 record OldFetched (f : Fetcher FrontValues PairSpent) (numbers : List ℕ) (v : PairRun) : Type 0 where
   need : RoomWhereOld numbers v → AllHaveRoom f numbers v
   back : AllHaveRoom f numbers v → RoomWhereOld numbers v
-  rests : RoomWhereOld numbers v → IsAtRest (all_fetched pair_replay f no_fronts numbers v)
-  counts : RoomWhereOld numbers v → f.count (all_fetched pair_replay f no_fronts numbers v).spent ≡ f.count v.spent + length numbers
+  rests : RoomWhereOld numbers v → IsAtRest (all_fetched pair_runner f no_fronts numbers v)
+  counts : RoomWhereOld numbers v → f.count (all_fetched pair_runner f no_fronts numbers v).spent ≡ f.count v.spent + length numbers
 
 -- a run agrees with itself
-abbrev agrees-self : (v : PairRun) (front : FrontValues) → front_in pair_replay no_fronts v ≡ Ok front
-    → RunsAgree pair_replay pair_plainly no_fronts pair_unstyled v v
+abbrev agrees-self : (v : PairRun) (front : FrontValues) → front_in pair_runner no_fronts v ≡ Ok front
+    → RunsAgree pair_runner pair_plainly no_fronts pair_unstyled v v
 agrees-self v front is = record {
   state = refl;
   up = record { flying = refl; held = refl };
@@ -76,27 +76,27 @@ agrees-self v front is = record {
 }
 
 module _ {R : Type 0} (f : Fetcher FrontValues PairSpent) (rest : FrontValues → R)
-    (laws : FetchLaws pair_replay PairRoom NextOfPair PairIsFit pair_plainly f pair_unstyled rest most_sheets most_fetches) where
+    (laws : FetchLaws pair_runner PairRoom NextOfPair PairIsFit pair_plainly f pair_unstyled rest most_sheets most_fetches) where
   -- the first of them is known
   first-known : (number : ℕ) (numbers : List ℕ) (v : PairRun) → (m : MayFetch f (number ∷ numbers) v) → f.knows m.front number ≡ true
   first-known number numbers v m = laws.known m.front number numbers m.stale
 
   -- so it is fetched
   first-fetched : (number : ℕ) (numbers : List ℕ) (v : PairRun) → MayFetch f (number ∷ numbers) v
-      → fetched_if pair_replay f (front_in pair_replay no_fronts v) number v ≡ fetched pair_replay f number v
+      → fetched_if pair_runner f (front_in pair_runner no_fronts v) number v ≡ fetched pair_runner f number v
   first-fetched number numbers v m =
-      ap (λ r. fetched_if pair_replay f r number v) m.is
-      ∙ ap (λ b. cond b (fetched pair_replay f number v) v) (first-known number numbers v m)
+      ap (λ r. fetched_if pair_runner f r number v) m.is
+      ∙ ap (λ b. cond b (fetched pair_runner f number v) v) (first-known number numbers v m)
 
   -- and there has to be room for it
   first-room : (number : ℕ) (numbers : List ℕ) (v : PairRun) → MayFetch f (number ∷ numbers) v → PairRoom v.state
-      → KnownHasRoom f number (front_in pair_replay no_fronts v) v
+      → KnownHasRoom f number (front_in pair_runner no_fronts v) v
   first-room number numbers v m room =
       subst (λ r. KnownHasRoom f number r v) (sym m.is)
       (subst (λ b. WhereTrue b (PairRoom v.state)) (sym (first-known number numbers v m)) room)
 
   room-first : (number : ℕ) (numbers : List ℕ) (v : PairRun) → MayFetch f (number ∷ numbers) v
-      → KnownHasRoom f number (front_in pair_replay no_fronts v) v → PairRoom v.state
+      → KnownHasRoom f number (front_in pair_runner no_fronts v) v → PairRoom v.state
   room-first number numbers v m room =
       subst (λ b. WhereTrue b (PairRoom v.state)) (first-known number numbers v m) (subst (λ r. KnownHasRoom f number r v) m.is room)
 
@@ -106,14 +106,14 @@ module _ {R : Type 0} (f : Fetcher FrontValues PairSpent) (rest : FrontValues �
     state_is : after.state ≡ v.state
 
   then-next : (number : ℕ) (numbers : List ℕ) (v : PairRun) → MayFetch f (number ∷ numbers) v → PairRoom v.state
-      → IsNext numbers v (fetched pair_replay f number v)
+      → IsNext numbers v (fetched pair_runner f number v)
   then-next number numbers v m room =
       let few : f.count v.spent + length (number ∷ numbers) ≤ most_fetches = m.few in
-      let one : IsFetched pair_replay PairRoom NextOfPair (λ n. IsTurn) PairIsFit fit_laws pair_plainly f pair_unstyled rest most_sheets
-      most_fetches laws no_fronts v v (fetched pair_replay f number v) m.front numbers =
-      one-fetched pair_replay PairRoom NextOfPair (λ n. IsTurn) PairIsFit fit_laws pair_plainly f pair_unstyled rest most_sheets
+      let one : IsFetched pair_runner PairRoom NextOfPair (λ n. IsTurn) PairIsFit fit_laws pair_plainly f pair_unstyled rest most_sheets
+      most_fetches laws no_fronts v v (fetched pair_runner f number v) m.front numbers =
+      one-fetched pair_runner PairRoom NextOfPair (λ n. IsTurn) PairIsFit fit_laws pair_plainly f pair_unstyled rest most_sheets
       most_fetches laws no_fronts v v number numbers m.fits m.rests (agrees-self v m.front m.is) m.stale (omega (arith, few)) room in
-      let spent : f.count (fetched pair_replay f number v).spent ≡ f.count v.spent + 1 = one.fetches in
+      let spent : f.count (fetched pair_runner f number v).spent ≡ f.count v.spent + 1 = one.fetches in
       record {
         may = record {
           fits = one.fits;
@@ -130,10 +130,10 @@ module _ {R : Type 0} (f : Fetcher FrontValues PairSpent) (rest : FrontValues �
   all-room : (numbers : List ℕ) (v : PairRun) → MayFetch f numbers v → PairRoom v.state → AllHaveRoom f numbers v
   all-room [] v m room = tt
   all-room (number ∷ numbers) v m room =
-      let then : IsNext numbers v (fetched pair_replay f number v) = then-next number numbers v m room in (
+      let then : IsNext numbers v (fetched pair_runner f number v) = then-next number numbers v m room in (
         first-room number numbers v m room,
         subst (λ u. AllHaveRoom f numbers u) (sym (first-fetched number numbers v m))
-            (all-room numbers (fetched pair_replay f number v) then.may (subst PairRoom (sym then.state_is) room)),
+            (all-room numbers (fetched pair_runner f number v) then.may (subst PairRoom (sym then.state_is) room)),
       )
 
   need-room : (numbers : List ℕ) (v : PairRun) → MayFetch f numbers v → RoomWhereOld numbers v → AllHaveRoom f numbers v
@@ -147,20 +147,20 @@ module _ {R : Type 0} (f : Fetcher FrontValues PairSpent) (rest : FrontValues �
 
   -- all of them, where there is room
   fetch-all : (numbers : List ℕ) (v : PairRun) → (m : MayFetch f numbers v) → PairRoom v.state
-      → AreFetched pair_replay PairRoom NextOfPair (λ n. IsTurn) PairIsFit fit_laws pair_plainly f pair_unstyled rest most_sheets
-      most_fetches laws no_fronts v v (all_fetched pair_replay f no_fronts numbers v) m.front numbers
+      → AreFetched pair_runner PairRoom NextOfPair (λ n. IsTurn) PairIsFit fit_laws pair_plainly f pair_unstyled rest most_sheets
+      most_fetches laws no_fronts v v (all_fetched pair_runner f no_fronts numbers v) m.front numbers
   fetch-all numbers v m room =
-      all-fetched pair_replay PairRoom NextOfPair (λ n. IsTurn) PairIsFit fit_laws pair_plainly f pair_unstyled rest most_sheets
+      all-fetched pair_runner PairRoom NextOfPair (λ n. IsTurn) PairIsFit fit_laws pair_plainly f pair_unstyled rest most_sheets
       most_fetches laws no_fronts numbers v v m.fits m.rests (agrees-self v m.front m.is) m.stale m.few room
 
   all-rest : (numbers : List ℕ) (v : PairRun) → MayFetch f numbers v → RoomWhereOld numbers v
-      → IsAtRest (all_fetched pair_replay f no_fronts numbers v)
+      → IsAtRest (all_fetched pair_runner f no_fronts numbers v)
   all-rest [] v m room = m.rests
   all-rest (number ∷ numbers) v m room =
       (fetch-all (number ∷ numbers) v m (room (λ none. let no : number ∷ numbers ≡ [] = none in absurd cc))).rests
 
   all-counted : (numbers : List ℕ) (v : PairRun) → MayFetch f numbers v → RoomWhereOld numbers v
-      → f.count (all_fetched pair_replay f no_fronts numbers v).spent ≡ f.count v.spent + length numbers
+      → f.count (all_fetched pair_runner f no_fronts numbers v).spent ≡ f.count v.spent + length numbers
   all-counted [] v m room = omega arith
   all-counted (number ∷ numbers) v m room =
       (fetch-all (number ∷ numbers) v m (room (λ none. let no : number ∷ numbers ≡ [] = none in absurd cc))).fetches
@@ -199,7 +199,7 @@ count-of true (Some k) f n is =
 -- the run with them
 abbrev StaleFetched : Option (Fetcher FrontValues PairSpent) → PairRun → PairRun
 StaleFetched o w =
-    by_fetcher o (λ fetcher v. all_fetched pair_replay fetcher no_fronts (stale_in fetcher (front_in pair_replay no_fronts v)) v) w
+    by_fetcher o (λ fetcher v. all_fetched pair_runner fetcher no_fronts (stale_in fetcher (front_in pair_runner no_fronts v)) v) w
 
 -- and room for them
 abbrev StaleHasRoom : Option (Fetcher FrontValues PairSpent) → PairRun → Type 0
@@ -211,12 +211,12 @@ module _ {P : Type 0} {g : Ghosts P} (old : Moment (TwoFronts P g)) (up0 down0 :
   abbrev values : FrontValues
   values = pair_value run.so_far.in_world.fronts_are.asked old.ends.fronts.pair
 
-  front-is : front_in pair_replay no_fronts w ≡ Ok values
+  front-is : front_in pair_runner no_fronts w ≡ Ok values
   front-is = run-front calm old.honest up0 down0 old.up old.down w old.ends run
 
-  calm-fits : Fits pair_replay.take pair_replay.join PairIsCalm no_fronts w
+  calm-fits : Fits pair_runner.take pair_runner.join PairIsCalm no_fronts w
   calm-fits =
-      subst (λ ws. FitsWith pair_replay.take pair_replay.join PairIsCalm no_fronts w (ws ++ awaited w.up)) run.none_whole
+      subst (λ ws. FitsWith pair_runner.take pair_runner.join PairIsCalm no_fronts w (ws ++ awaited w.up)) run.none_whole
       run.so_far.in_world.on_link.fits
 
   number-of : (k : ℕ) → w.state.attached ≡ Some k → IsSessionNumber k
@@ -244,7 +244,7 @@ module _ {P : Type 0} {g : Ghosts P} (old : Moment (TwoFronts P g)) (up0 down0 :
   few-meant : (second : Bool) (f : Fetcher FrontValues PairSpent) → fetcher_on second w.state.attached ≡ Some f
       → length (f.stale values) ≤ most_sheets
   few-meant second f is =
-      few-stale second w.spent values w.state f (fit-rests pair_replay PairIsCalm no_fronts w values calm-fits rests front-is) is
+      few-stale second w.spent values w.state f (fit-rests pair_runner PairIsCalm no_fronts w values calm-fits rests front-is) is
 
   -- where there is room for them, what the first front end fetches leaves nothing on its way, and ids
   record FirstMade (after : PairRun) : Type 0 where
@@ -254,8 +254,8 @@ module _ {P : Type 0} {g : Ghosts P} (old : Moment (TwoFronts P g)) (up0 down0 :
 
   -- as much was spent but for them
   plainly-same : (numbers : List ℕ)
-      → (pair_plainly (all_fetched pair_replay first_fetcher no_fronts numbers w).spent ≡ pair_plainly w.spent)
-      × ((all_fetched pair_replay first_fetcher no_fronts numbers w).spent.second_fetches ≡ w.spent.second_fetches)
+      → (pair_plainly (all_fetched pair_runner first_fetcher no_fronts numbers w).spent ≡ pair_plainly w.spent)
+      × ((all_fetched pair_runner first_fetcher no_fronts numbers w).spent.second_fetches ≡ w.spent.second_fetches)
   plainly-same numbers =
       fetches-keep (λ (n : PairSpent) (told : PairAudience). (pair_plainly n ≡ pair_plainly w.spent)
       × (n.second_fetches ≡ w.spent.second_fetches)) first_fetcher (λ n told h. h) numbers w (refl, refl)
@@ -270,10 +270,10 @@ module _ {P : Type 0} {g : Ghosts P} (old : Moment (TwoFronts P g)) (up0 down0 :
       (may-fetch first_fetcher numbers refl (omega (arith, few, left))) in
       let old_room : RoomWhereOld numbers w =
       subst (λ r. RoomWhereOld (stale_in first_fetcher r) w) front-is room in
-      let after : PairRun = all_fetched pair_replay first_fetcher no_fronts numbers w in
+      let after : PairRun = all_fetched pair_runner first_fetcher no_fronts numbers w in
       let same = plainly-same numbers in
       let spent : after.spent.fetches ≡ w.spent.fetches + length numbers = t.counts old_room in
-      subst (λ r. FirstMade (all_fetched pair_replay first_fetcher no_fronts (stale_in first_fetcher r) w)) (sym front-is) (record {
+      subst (λ r. FirstMade (all_fetched pair_runner first_fetcher no_fronts (stale_in first_fetcher r) w)) (sym front-is) (record {
         still = t.rests old_room;
         ids = record {
           asks = subst (λ (k : PairPlainlySpent). k.asks + 1 < first_fetch) (sym same.0) ids.asks;
@@ -314,13 +314,13 @@ module _ {P : Type 0} {g : Ghosts P} (old : Moment (TwoFronts P g)) (up0 down0 :
         fetched-by second w.state.attached f numbers w m.is number-of (may-fetch f numbers refl (omega (arith, few, left, counted))) in
         let made = subst (λ o. RoomTold result (room_by o (λ fetcher v. AllHaveRoom fetcher numbers v) w)
         × OnOk result (InPairRun calm new.honest up0 down0 new.up new.down
-        (by_fetcher o (λ fetcher v. all_fetched pair_replay fetcher no_fronts numbers v) w) new.ends)) m.is
+        (by_fetcher o (λ fetcher v. all_fetched pair_runner fetcher no_fronts numbers v) w) new.ends)) m.is
         (subst Fetched same fetches up0 down0 w ids (omega (arith, few, left)) (refl, rests) run) in
         subst Gone (sym m.is) (
           subst (λ r. RoomTold result (RoomWhereOld (stale_in f r) w)) (sym front-is)
               (room-iff result (AllHaveRoom f numbers w) (RoomWhereOld numbers w) t.need t.back made.0),
           subst (λ r. OnOk result (InPairRun calm new.honest up0 down0 new.up new.down
-              (all_fetched pair_replay f no_fronts (stale_in f r) w) new.ends)) (sym front-is) made.1,
+              (all_fetched pair_runner f no_fronts (stale_in f r) w) new.ends)) (sym front-is) made.1,
         )
 
     -- where it does not, nothing is fetched
@@ -332,7 +332,7 @@ module _ {P : Type 0} {g : Ghosts P} (old : Moment (TwoFronts P g)) (up0 down0 :
         let same : stale_meant second p ≡ [] = ap (λ b. cond b (stale_of (front_meant second p).value.sheets) []) alone in
         let made = subst (λ o. RoomTold result (room_by o (λ fetcher v. AllHaveRoom fetcher [] v) w)
         × OnOk result (InPairRun calm new.honest up0 down0 new.up new.down
-        (by_fetcher o (λ fetcher v. all_fetched pair_replay fetcher no_fronts [] v) w) new.ends)) none
+        (by_fetcher o (λ fetcher v. all_fetched pair_runner fetcher no_fronts [] v) w) new.ends)) none
         (subst Fetched same fetches up0 down0 w ids (omega (arith, left)) (refl, rests) run) in
         subst Gone (sym none) made
 
@@ -349,11 +349,11 @@ second-run : (o : Option ℕ) (w : PairRun) → StaleFetched (fetcher_on true o)
 second-run None w = refl
 second-run (Some k) w = refl
 
-room-second : (o : Option ℕ) (w : PairRun) → StaleHasRoom (fetcher_on true o) w → SecondHasRoom o w
+room-second : (o : Option ℕ) (w : PairRun) → StaleHasRoom (fetcher_on true o) w → SecondFetchesHaveRoom o w
 room-second None w room = room
 room-second (Some k) w room = room
 
-second-room : (o : Option ℕ) (w : PairRun) → SecondHasRoom o w → StaleHasRoom (fetcher_on true o) w
+second-room : (o : Option ℕ) (w : PairRun) → SecondFetchesHaveRoom o w → StaleHasRoom (fetcher_on true o) w
 second-room None w room = room
 second-room (Some k) w room = room
 
@@ -365,7 +365,7 @@ record IsDelivered {P : Type 0} {g : Ghosts P} (up0 down0 : Pipe) (w : PairRun) 
   ids : PairHasIds w.spent
 
 delivered : {P : Type 0} {g : Ghosts P} (old now : Moment (TwoFronts P g)) → PairGoes {T = Unit {0}} old now (Ok tt) delivers_all
-    → (mode : Mode) (up0 down0 : Pipe) (w : PairRun) → PairHasLeft w.spent 0
+    → (mode : PairMode) (up0 down0 : Pipe) (w : PairRun) → PairHasLeft w.spent 0
     → InPairRun mode old.honest up0 down0 old.up old.down w old.ends → IsDelivered up0 down0 w now
 delivered old now delivers mode up0 down0 w left run =
     let done = delivers mode up0 down0 w tt run in
@@ -393,7 +393,7 @@ module _ {P : Type 0} {g : Ghosts P} (old mid : Moment (TwoFronts P g)) where
   settle-goes result late new delivers one two = λ mode up0 down0 w left may run.
       let d : IsDelivered up0 down0 w mid = delivered old mid delivers mode up0 down0 w left run in
       let w1 : PairRun = pair_settled w in
-      let w2 : PairRun = refreshed pair_replay first_fetcher no_fronts w in
+      let w2 : PairRun = refreshed pair_runner first_fetcher no_fronts w in
       let fetches : w.spent.fetches + (0 + 1) * most_sheets ≤ most_fetches = left.fetches in
       let second_fetches : w.spent.second_fetches + (0 + 1) * most_sheets ≤ most_fetches = left.second_fetches in
       let few : w.spent.fetches + most_sheets ≤ most_fetches = omega (arith, fetches) in

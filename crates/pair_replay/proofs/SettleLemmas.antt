@@ -21,8 +21,8 @@ use Rattle.back_end.specs.States.{Side}
 use Rattle.pair_world.specs.Clients.{pair_reads, RunClient, client_steps}
 use Rattle.pair_world.specs.Shown.{IsSessionNumber, Shows}
 use Rattle.pair_world.specs.PairRuns.{PairRun, pair_settled}
-use Rattle.pair_world.specs.PairFresh.{FrontValues, pair_replay, no_fronts, PairIsCalm, PairIsFit, PairRoom, SettleHasRoom}
-use Rattle.pair_world.specs.PairHeld.{Mode, calm, targeted, IsSecondOf}
+use Rattle.pair_world.specs.PairFresh.{FrontValues, pair_runner, no_fronts, PairIsCalm, PairIsFit, PairRoom, SettleHasRoom}
+use Rattle.pair_world.specs.PairHeld.{PairMode, calm, targeted, IsSecondOf}
 use Rattle.pair_world.proofs.FetchBoth.{calm-alone}
 use Rattle.replay_parts.specs.declared.stop.Stop.{Stop}
 use Rattle.replay_parts.specs.Moments.{Moment}
@@ -65,18 +65,18 @@ second-known (Some w) (Some k) is = is
 
 module _ {P : Type 0} {g : Ghosts P} (honest : Type 0) (up0 down0 up down : Pipe) (w : PairRun) (e : TwoFronts P g) where
   -- after a settle both pipes are still
-  pub settled-still : (mode : Mode) → InPairRun mode honest up0 down0 up down (pair_settled w) e → IsAtRest (pair_settled w)
+  pub settled-still : (mode : PairMode) → InPairRun mode honest up0 down0 up down (pair_settled w) e → IsAtRest (pair_settled w)
   settled-still calm run =
-      settled-rests pair_replay PairIsCalm no_fronts w
-      (subst (λ ws. FitsWith pair_replay.take pair_replay.join PairIsCalm no_fronts (pair_settled w) (ws ++ awaited (pair_settled w).up))
+      settled-rests pair_runner PairIsCalm no_fronts w
+      (subst (λ ws. FitsWith pair_runner.take pair_runner.join PairIsCalm no_fronts (pair_settled w) (ws ++ awaited (pair_settled w).up))
       run.none_whole run.so_far.in_world.on_link.fits)
   settled-still targeted run =
-      settled-rests pair_replay PairIsFit no_fronts w
-      (subst (λ ws. FitsWith pair_replay.take pair_replay.join PairIsFit no_fronts (pair_settled w) (ws ++ awaited (pair_settled w).up))
+      settled-rests pair_runner PairIsFit no_fronts w
+      (subst (λ ws. FitsWith pair_runner.take pair_runner.join PairIsFit no_fronts (pair_settled w) (ws ++ awaited (pair_settled w).up))
       run.none_whole run.so_far.in_world.on_link.fits)
 
   -- and no attach and no detach is on its way
-  pub calm-run : (mode : Mode) → InPairRun mode honest up0 down0 up down (pair_settled w) e
+  pub calm-run : (mode : PairMode) → InPairRun mode honest up0 down0 up down (pair_settled w) e
       → InPairRun calm honest up0 down0 up down (pair_settled w) e
   calm-run calm run = run
   calm-run targeted run =
@@ -86,12 +86,12 @@ module _ {P : Type 0} {g : Ghosts P} (honest : Type 0) (up0 down0 up down : Pipe
       let rests : IsAtRest w1 = settled-still targeted run in
       let still : awaited w1.up ≡ [] = awaited-none w1.up rests.up.flying rests.up.held in
       let none : e.ends.splitter.whole ++ awaited w1.up ≡ [] = ap (λ ws. ws ++ awaited w1.up) run.none_whole ∙ still in
-      let fits : Fits pair_replay.take pair_replay.join PairIsFit no_fronts w1 =
-      subst (λ ws. FitsWith pair_replay.take pair_replay.join PairIsFit no_fronts w1 (ws ++ awaited w1.up)) run.none_whole link.fits in
+      let fits : Fits pair_runner.take pair_runner.join PairIsFit no_fronts w1 =
+      subst (λ ws. FitsWith pair_runner.take pair_runner.join PairIsFit no_fronts w1 (ws ++ awaited w1.up)) run.none_whole link.fits in
       let p : FrontValues = pair_value world.fronts_are.asked e.fronts.pair in
       let fit : PairIsCalm w1.spent p w1.state [] =
       calm-alone w1.spent p w1.state
-      (fit-rests pair_replay PairIsFit no_fronts w1 p fits rests (run-front targeted honest up0 down0 up down w1 e run)) in
+      (fit-rests pair_runner PairIsFit no_fronts w1 p fits rests (run-front targeted honest up0 down0 up down w1 e run)) in
       record {
         so_far = record {
           is_honest = run.so_far.is_honest;

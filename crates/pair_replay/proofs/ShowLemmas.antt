@@ -31,7 +31,7 @@ use Rattle.inspect_world.specs.SheetTexts.{known_lines}
 use Rattle.inspect_world.specs.PanelTexts.{panels_text}
 use Rattle.inspect_world.proofs.ShownSheets.{fresh-lines}
 use Rattle.pair_world.specs.PairRuns.{PairAudience, told_on, with_told, PairRun, pair_settled, state_on}
-use Rattle.pair_world.specs.PairScripts.{pair_telling, pair_replies, pair_pauses, told_by, heading_on, mark_on}
+use Rattle.pair_world.specs.PairScripts.{pair_telling, pair_replies, pair_pauses, told_by_form, heading_on, mark_on}
 use Rattle.pair_world.specs.PairScripts.{new_replies, new_pauses, styles_on, pair_panels, show_text, met_in}
 use Rattle.pair_world.specs.PairFresh.{pair_refreshes}
 use Rattle.replay_parts.specs.declared.stop.Stop.{Stop}
@@ -39,7 +39,7 @@ use Rattle.replay_parts.specs.Moments.{Moment, moment, scene}
 use Rattle.replay_parts.specs.Stops.{HasStopCause, GoesWell}
 use Rattle.replay_parts.specs.Answers.{RunTells, RunTook}
 use Rattle.pair_replay.specs.declared.two_fronts.TwoFronts.{TwoFronts}
-use Rattle.pair_replay.specs.declared.two_fronts.Told.{Told}
+use Rattle.pair_replay.specs.declared.two_fronts.ToldCounts.{ToldCounts}
 use Rattle.pair_replay.specs.Tellings.{told_seen}
 use Rattle.pair_replay.specs.PairStarts.{told_held, with_told_held, second_end_text}
 use Rattle.pair_replay.specs.PairAnswers.{PairRunTook}
@@ -113,7 +113,7 @@ module _ {P : Type 0} {g : Ghosts P} (second : Bool) (result : Result (Unit {0})
 -- ---- what is told
 
 -- as many came as were told of the front end that is meant
-ends-told : {P : Type 0} {g : Ghosts P} (second : Bool) (e e1 : TwoFronts P g) (t : Told) (told : PairAudience) (n : AlreadyTold)
+ends-told : {P : Type 0} {g : Ghosts P} (second : Bool) (e e1 : TwoFronts P g) (t : ToldCounts) (told : PairAudience) (n : AlreadyTold)
     → e1 ≡ with_told_held second t e → told_seen t ≡ n → ((b : Bool) → told_seen (told_held b e) ≡ told_on b told)
     → pair_ends_of e1
     ≡ record (pair_ends_of e) { first_told = (with_told second n told).first; second_told = (with_told second n told).second }
@@ -122,7 +122,7 @@ ends-told false e e1 t told n is same others =
 ends-told true e e1 t told n is same others =
     ap pair_ends_of is ∙ (λ i. record (pair_ends_of e) { first_told = others false i; second_told = same i })
 
-splitter-told : {P : Type 0} {g : Ghosts P} (second : Bool) (t : Told) (e : TwoFronts P g)
+splitter-told : {P : Type 0} {g : Ghosts P} (second : Bool) (t : ToldCounts) (e : TwoFronts P g)
     → (with_told_held second t e).ends.splitter ≡ e.ends.splitter
 splitter-told false t e = refl
 splitter-told true t e = refl
@@ -133,7 +133,7 @@ panels-told true n told = refl
 
 -- what was told of the front end that is meant says nothing of the link
 pub told-run : {P : Type 0} {g : Ghosts P} (second : Bool) (start : PairStarted) (up0 down0 up down : Pipe) (e e1 : TwoFronts P g)
-    (t : Told)
+    (t : ToldCounts)
     → e1 ≡ with_told_held second t e → FollowsPairRun start up0 down0 up down e → FollowsPairRun start up0 down0 up down e1
 told-run false start up0 down0 up down e e1 t is run =
     subst (λ x. FollowsPairRun start up0 down0 up down x) (sym is)
@@ -143,7 +143,7 @@ told-run true start up0 down0 up down e e1 t is run =
     (run-told start up0 down0 up down e (with_told_held true t e) refl refl run)
 
 -- nor does a call after which so much was told
-pub keeps-told : {P : Type 0} {g : Ghosts P} (second : Bool) (old mid : Moment (TwoFronts P g)) (e : TwoFronts P g) (t : Told)
+pub keeps-told : {P : Type 0} {g : Ghosts P} (second : Bool) (old mid : Moment (TwoFronts P g)) (e : TwoFronts P g) (t : ToldCounts)
     → e ≡ with_told_held second t mid.ends → KeepsPair {T = Unit {0}} old mid (Ok tt)
     → KeepsPair {T = Unit {0}} old (record mid { ends = e }) (Ok tt)
 keeps-told second old mid e t is keeps = λ start up0 down0 run.
@@ -152,7 +152,7 @@ keeps-told second old mid e t is keeps = λ start up0 down0 run.
 
 -- both runs go on, with so much told
 pub told-play : {P : Type 0} {g : Ghosts P} (second : Bool) (honest : Type 0) (up0 down0 up down : Pipe) (more : ℕ) (w v : PairRun)
-    (e e1 : TwoFronts P g) (t : Told) (n : AlreadyTold) (told1 : PairAudience)
+    (e e1 : TwoFronts P g) (t : ToldCounts) (n : AlreadyTold) (told1 : PairAudience)
     → Settled honest up0 down0 up down (more + 3) w v e → e1 ≡ with_told_held second t e → told_seen t ≡ n
     → InPairPlay honest up0 down0 up down more (pair_telling (with_told second n w.told) (pair_settled w))
     (pair_telling told1 (pair_refreshes v)) e1
@@ -165,7 +165,7 @@ told-play second honest up0 down0 up down more w v e e1 t n told1 s is same =
 -- ---- the replies
 
 module _ {P : Type 0} {g : Ghosts P} (second : Bool) (mid : Moment (TwoFronts P g)) (taken taken1 : Option (List ℕ))
-    (number sink0 sink1 link0 link1 : ℕ) (there : is_there second mid.ends.fronts.pair ≡ true) (heading : List ℕ) (told : Told)
+    (number sink0 sink1 link0 link1 : ℕ) (there : is_there second mid.ends.fronts.pair ≡ true) (heading : List ℕ) (told : ToldCounts)
     (told_is : told ≡ told_held second mid.ends) where
   -- those that are printed are new
   replies-new : (replies : List Kept) → heading ≡ cond second (codes "# replies 2") (codes "# replies")
@@ -176,7 +176,7 @@ module _ {P : Type 0} {g : Ghosts P} (second : Bool) (mid : Moment (TwoFronts P 
       let shows = s.shown second there in
       let came = pair_replies second (pair_settled w) in
       let count : told.replies ≡ (told_on second w.told).replies =
-      ap (λ (t : Told). t.replies) told_is
+      ap (λ (t : ToldCounts). t.replies) told_is
       ∙ ap (λ (n : AlreadyTold). n.replies) (settled-told mid.honest up0 down0 mid.up mid.down (more + 3) w v mid.ends s second) in
       let kept : map reply_shown (drop told.replies replies) ≡ new_replies second (pair_settled w) =
       sym (drop-map reply_shown told.replies replies)
@@ -204,11 +204,11 @@ module _ {P : Type 0} {g : Ghosts P} (second : Bool) (mid : Moment (TwoFronts P 
       let here : count ≡ n.replies =
       all ∙ ap length replies_are ∙ sym (length-map (front_meant second mid.ends.fronts.pair).value.replies reply_shown)
       ∙ ap length shows.told in
-      let pauses : told.pauses ≡ n.pauses = ap (λ (t : Told). t.pauses) told_is ∙ ap (λ (x : AlreadyTold). x.pauses) so_far in
+      let pauses : told.pauses ≡ n.pauses = ap (λ (t : ToldCounts). t.pauses) told_is ∙ ap (λ (x : AlreadyTold). x.pauses) so_far in
       record {
         play = told-play second mid.honest up0 down0 mid.up mid.down more w v mid.ends e1
             (record { replies = count; pauses = told.pauses }) n
-            (told_by second show_replies (pair_refreshes v)) s ends (λ i. record { replies = here i; pauses = pauses i });
+            (told_by_form second show_replies (pair_refreshes v)) s ends (λ i. record { replies = here i; pauses = pauses i });
         took = subst (λ t. Appends taken taken1 t) (replies-new replies heading_is replies_are up0 down0 more w v s) ok;
         tells = refl;
       }
@@ -232,7 +232,7 @@ module _ {P : Type 0} {g : Ghosts P} (second : Bool) (mid : Moment (TwoFronts P 
 -- ---- the pauses
 
 module _ {P : Type 0} {g : Ghosts P} (second : Bool) (mid : Moment (TwoFronts P g)) (taken taken1 : Option (List ℕ))
-    (number sink0 sink1 link0 link1 : ℕ) (there : is_there second mid.ends.fronts.pair ≡ true) (heading : List ℕ) (told : Told)
+    (number sink0 sink1 link0 link1 : ℕ) (there : is_there second mid.ends.fronts.pair ≡ true) (heading : List ℕ) (told : ToldCounts)
     (told_is : told ≡ told_held second mid.ends) where
   -- those that are printed are new
   pauses-new : (pauses : List SeenPause) → heading ≡ cond second (codes "# pauses 2") (codes "# pauses")
@@ -243,7 +243,7 @@ module _ {P : Type 0} {g : Ghosts P} (second : Bool) (mid : Moment (TwoFronts P 
       let shows = s.shown second there in
       let came = pair_pauses second (pair_settled w) in
       let count : told.pauses ≡ (told_on second w.told).pauses =
-      ap (λ (t : Told). t.pauses) told_is
+      ap (λ (t : ToldCounts). t.pauses) told_is
       ∙ ap (λ (n : AlreadyTold). n.pauses) (settled-told mid.honest up0 down0 mid.up mid.down (more + 3) w v mid.ends s second) in
       let lines : seen_pause_lines (drop told.pauses pauses) ≡ pause_lines (new_pauses second (pair_settled w)) =
       ap (λ ps. seen_pause_lines (drop told.pauses ps)) (pauses_are ∙ shows.pauses)
@@ -268,11 +268,11 @@ module _ {P : Type 0} {g : Ghosts P} (second : Bool) (mid : Moment (TwoFronts P 
       let came = pair_pauses second (pair_settled w) in
       let n : AlreadyTold = record { replies = (told_on second w.told).replies; pauses = length came } in
       let here : count ≡ n.pauses = all ∙ ap length (pauses_are ∙ shows.pauses) ∙ length-map came seen_pause in
-      let replies : told.replies ≡ n.replies = ap (λ (t : Told). t.replies) told_is ∙ ap (λ (x : AlreadyTold). x.replies) so_far in
+      let replies : told.replies ≡ n.replies = ap (λ (t : ToldCounts). t.replies) told_is ∙ ap (λ (x : AlreadyTold). x.replies) so_far in
       record {
         play = told-play second mid.honest up0 down0 mid.up mid.down more w v mid.ends e1
             (record { replies = told.replies; pauses = count }) n
-            (told_by second show_pauses (pair_refreshes v)) s ends (λ i. record { replies = replies i; pauses = here i });
+            (told_by_form second show_pauses (pair_refreshes v)) s ends (λ i. record { replies = replies i; pauses = here i });
         took = subst (λ t. Appends taken taken1 t) (pauses-new pauses heading_is pauses_are up0 down0 more w v s) ok;
         tells = refl;
       }

@@ -24,7 +24,7 @@ use Rattle.inspect_world.specs.Fits.{most_bytes, most_sheets, most_fetches}
 use Rattle.pair_world.specs.PairFits.{PageSessions}
 use Rattle.pair_world.specs.PairRuns.{PairSpent, PairPlainlySpent, PairAudience, PairRun, pair_plainly, pair_settled, one_attach}
 use Rattle.pair_world.specs.PairRuns.{one_detach}
-use Rattle.pair_world.specs.PairRuns.{next_target, with_told, after_deeds_by, Deed}
+use Rattle.pair_world.specs.PairRuns.{next_target, with_told, after_deeds_by, PairDeed}
 use Rattle.pair_world.specs.PairScripts.{deeds, detach_deeds, pair_telling, told_after, after_pair_line, pair_line_text, pair_lacking}
 use Rattle.pair_world.specs.PairFresh.{pair_refreshes, fresh_pair_line, PairTogether, PairHasLeft, RefreshHasRoom, DeedsHaveRoom, line_or}
 use Rattle.pair_world.specs.PairHeld.{calm, targeted}
@@ -35,7 +35,7 @@ use Rattle.replay_parts.specs.Moments.{Moment, scene}
 use Rattle.replay_parts.specs.Stops.{HasStopCause}
 use Rattle.replay_parts.specs.Answers.{RunTells}
 use Rattle.pair_replay.specs.declared.two_fronts.TwoFronts.{TwoFronts}
-use Rattle.pair_replay.specs.declared.two_fronts.Told.{Told}
+use Rattle.pair_replay.specs.declared.two_fronts.ToldCounts.{ToldCounts}
 use Rattle.pair_replay.specs.Tellings.{told_seen}
 use Rattle.pair_replay.specs.PairStarts.{with_told_held}
 use Rattle.pair_replay.specs.PairAnswers.{PairRunTook, RoomTold}
@@ -135,13 +135,14 @@ module _ {P : Type 0} {g : Ghosts P} (form : PairForm) (Right : Option ℕ → T
   after-is : after_pair_line form w
       ≡ pair_telling (retold w.told) (pair_settled (sent_up (mk (next_target w.spent)) count (pair_settled w)))
   after-is =
-      let of_deeds : List Deed → PairRun = λ ds. let done = after_deeds_by pair_settled ds w in pair_telling (told_after form done) done in
+      let of_deeds : List PairDeed → PairRun = λ ds.
+      let done = after_deeds_by pair_settled ds w in pair_telling (told_after form done) done in
       let done = pair_settled (sent_up (mk (next_target w.spent)) count (pair_settled w)) in
       ap of_deeds (targets.deeds_are w right) ∙ ap (λ t. pair_telling t done) (targets.told_is done)
 
   fresh-is : fresh_pair_line form v ≡ pair_telling (retold v.told) (pair_refreshes sent_first)
   fresh-is =
-      let of_deeds : List Deed → PairRun =
+      let of_deeds : List PairDeed → PairRun =
       λ ds. let done = after_deeds_by pair_refreshes ds v in pair_telling (told_after form done) done in
       let done = pair_refreshes sent_first in
       ap of_deeds (targets.deeds_are v right-fresh)
@@ -421,7 +422,7 @@ module _ {P : Type 0} {g : Ghosts P} (number : ℕ) (taken : Option (List ℕ)) 
         (with_told true nothing_told) attach-targets stop mid2 new sink0 sink1 link0 link1 cause steps1 steps2 up0 down0 more w v both s
         (none-of w.state.attached (sym s.stands ∙ there)))
 
-    pub attach-done : (mid2 mid3 : Moment (TwoFronts P g)) (e : TwoFronts P g) (t : Told)
+    pub attach-done : (mid2 mid3 : Moment (TwoFronts P g)) (e : TwoFronts P g) (t : ToldCounts)
         → PairSteps {T = Unit {0}} 0 mid mid2 (Ok tt) sending_attach → PairSteps {T = Unit {0}} 0 mid2 mid3 (Ok tt) refreshing
         → e ≡ with_told_held true t mid3.ends → told_seen t ≡ nothing_told
         → PairCarries {T = Unit {0}} (numbered_pair number attach_session) (scene old taken) (scene (record mid3 { ends = e }) taken)

@@ -5,7 +5,7 @@ use Rattle.front_mirror.specs.declared.panels.PanelKind.{PanelKind}
 use Rattle.pipe_frames.specs.Pipe.{Pipe}
 use Rattle.replay_script.specs.PairLines.{PairForm}
 use Rattle.replay_script.specs.Script.{numbered_or}
-use Rattle.pair_world.specs.PairLinks.{LinkMoment, IsLater, AreInOrderTo, PairStarted, pair_started, one_pair_line_more, FollowsPair}
+use Rattle.pair_world.specs.PairLinks.{LinkMoment, IsLaterMoment, AreInOrderTo, PairStarted, pair_started, one_pair_line_more, FollowsPair}
 use Rattle.pair_world.specs.PairLinks.{pair_fold_of, sent_when_pair_is_full}
 use Rattle.pair_world.specs.PairFresh.{FrontValues}
 use Rattle.replay_parts.specs.declared.stop.Stop.{Stop}
@@ -78,8 +78,8 @@ numbered_pair number form = record { number = number; form = form }
 pub record LineJudged {T : Type 0} (before after : LinkMoment) (panels : List (Option PanelKind)) (number : ℕ) (form : PairForm)
     (result : Result T Stop) : Type 0 where
   pub moment : LinkMoment
-  pub from : IsLater before moment
-  pub until : IsLater moment after
+  pub from : IsLaterMoment before moment
+  pub until : IsLaterMoment moment after
   pub tells : RunTells result (numbered_or number (fault_at moment panels form) None)
   pub last : (fault_at moment panels form ≡ None → ⊥) → moment ≡ after
 
@@ -121,5 +121,5 @@ abbrev pub PairClosesShown : {P : Type 0} {g : Ghosts P} {T : Type 0} → Scene 
 PairClosesShown old new result =
     (start : PairStarted) (up0 down0 : Pipe) → FollowsPairRun start up0 down0 old.now.up old.now.down old.now.ends
     → OnOk result (PairEndsShown old.taken new.taken (pair_since up0 down0 new.now.up new.now.down)
-    × PairAnswersInOrder up0 down0 new.now.up new.now.down × IsLater start.from (moment_of up0 down0 new.now.up new.now.down))
+    × PairAnswersInOrder up0 down0 new.now.up new.now.down × IsLaterMoment start.from (moment_of up0 down0 new.now.up new.now.down))
     × PairStopFolds result (pair_since up0 down0 new.now.up new.now.down)

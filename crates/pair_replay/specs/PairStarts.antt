@@ -14,7 +14,7 @@ use Rattle.replay_script.specs.PairLines.{PairForm, of_first, of_second}
 pub use Rattle.pair_world.specs.PairSendings.{may_ask_on}
 use Rattle.replay_parts.specs.LinkEnds.{unused_ends}
 use Rattle.pair_replay.specs.declared.two_fronts.TwoFronts.{TwoFronts}
-use Rattle.pair_replay.specs.declared.two_fronts.Told.{Told}
+use Rattle.pair_replay.specs.declared.two_fronts.ToldCounts.{ToldCounts}
 use Rattle.pair_replay.specs.Tellings.{told_seen}
 
 -- a new side of this page with two new seats, and the first front end with panels of these kinds: nothing was sent, given or told
@@ -26,12 +26,12 @@ pub record AreNewEnds {P : Type 0} {g : Ghosts P} (e : TwoFronts P g) (kinds : L
   pub second_told : told_seen e.second_told ≡ nothing_told
 
 -- what was told of the front end that is meant
-abbrev pub told_held : {P : Type 0} {g : Ghosts P} → Bool → TwoFronts P g → Told
+abbrev pub told_held : {P : Type 0} {g : Ghosts P} → Bool → TwoFronts P g → ToldCounts
 told_held false e = e.first_told
 told_held true e = e.second_told
 
 -- so much was told of it
-abbrev pub with_told_held : {P : Type 0} {g : Ghosts P} → Bool → Told → TwoFronts P g → TwoFronts P g
+abbrev pub with_told_held : {P : Type 0} {g : Ghosts P} → Bool → ToldCounts → TwoFronts P g → TwoFronts P g
 with_told_held false told e = record e { first_told = told }
 with_told_held true told e = record e { second_told = told }
 

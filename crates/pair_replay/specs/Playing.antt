@@ -15,7 +15,7 @@ use Rattle.replay_parts.specs.declared.stop.Stop.{Stop}
 use Rattle.replay_parts.specs.Answers.{RunTells}
 use Rattle.replay_parts.specs.Stops.{RunRose}
 use Rattle.replay_parts.specs.Moments.{Scene}
-pub use Rattle.replay_parts.specs.Manners.{Manner, Goes, Part, Plays}
+pub use Rattle.replay_parts.specs.Manners.{Manner, Goes, PrintManner, Plays}
 use Rattle.pair_replay.specs.declared.two_fronts.TwoFronts.{TwoFronts}
 use Rattle.pair_replay.specs.PairAnswers.{PairRunTook, RoomTold}
 use Rattle.pair_replay.specs.Running.{InPairPlay, Aim, PairSteps, PairGoes, PairAnswersAll, PairAnswersOne, PairFetches}
@@ -110,7 +110,7 @@ PairCloses old taken result =
     → PairRunTook result old.taken taken (pair_closing w) × RoomTold result (RefreshHasRoom v)
 
 -- any line
-abbrev pub pair_carrying : {P : Type 0} {g : Ghosts P} {T : Type 0} → NumberedPair → Part (TwoFronts P g) T
+abbrev pub pair_carrying : {P : Type 0} {g : Ghosts P} {T : Type 0} → NumberedPair → PrintManner (TwoFronts P g) T
 pair_carrying line = record {
   cause = λ c result. RunRose c result;
   follows = λ old new result. PairLinePasses line.form old new result;
@@ -118,7 +118,7 @@ pair_carrying line = record {
 }
 
 -- the lines after the load
-abbrev pub pair_running : {P : Type 0} {g : Ghosts P} {T : Type 0} → List (List ℕ) → Part (TwoFronts P g) T
+abbrev pub pair_running : {P : Type 0} {g : Ghosts P} {T : Type 0} → List (List ℕ) → PrintManner (TwoFronts P g) T
 pair_running lines = record {
   cause = λ c result. RunRose c result;
   follows = λ old new result. PairLinesFollow lines old new result;

@@ -15,10 +15,10 @@ use Rattle.session_runs.specs.Fetches.{Fetcher, front_in, fetched, fetched_if, a
 use Rattle.inspect_world.specs.Fits.{most_fetches}
 use Rattle.pair_world.specs.Clients.{pair_reads, client_steps}
 use Rattle.pair_world.specs.PairRuns.{PairSpent, PairRun, after_deed_by, pair_settled, fetches_on}
-use Rattle.pair_world.specs.PairFresh.{FrontValues, pair_replay, no_fronts, pair_refreshes}
+use Rattle.pair_world.specs.PairFresh.{FrontValues, pair_runner, no_fronts, pair_refreshes}
 use Rattle.pair_world.specs.PairFresh.{PairHasLeft, PairTogether, PairRoom, SettleHasRoom, WhereTrue}
 use Rattle.pair_world.specs.PairFresh.{RefreshHasRoom}
-use Rattle.pair_world.specs.PairHeld.{Mode, calm, targeted, InPairWorld}
+use Rattle.pair_world.specs.PairHeld.{PairMode, calm, targeted, InPairWorld}
 use Rattle.pair_world.specs.PairHeld as held
 use Rattle.replay_parts.specs.declared.stop.Stop.{Stop}
 use Rattle.replay_parts.specs.Moments.{Moment}
@@ -54,31 +54,31 @@ pair_ends_of e = record {
 
 -- Over an honest link the run, with the fetches of its settles, has come to w since the pipes were as `up0` and `down0`, with nothing left
 -- to give. The frames that `waiting` holds came up whole, and are not yet answered.
-abbrev pub HonestPair : Mode → Type 0 → (up0 down0 up down : Pipe) → PairRun → held.PairEnds → List (List ℕ) → Type 0
+abbrev pub HonestPair : PairMode → Type 0 → (up0 down0 up down : Pipe) → PairRun → held.PairEnds → List (List ℕ) → Type 0
 HonestPair mode honest up0 down0 up down w e waiting = OverHonest honest (InPairWorld mode up0 down0 up down w (waiting ++ awaited w.up) e)
 
 -- the ends are in a run, and the splitter may hold whole frames
-abbrev pub InPairRunWith : {P : Type 0} {g : Ghosts P} → Mode → Type 0 → (up0 down0 up down : Pipe) → PairRun → TwoFronts P g → Type 0
+abbrev pub InPairRunWith : {P : Type 0} {g : Ghosts P} → PairMode → Type 0 → (up0 down0 up down : Pipe) → PairRun → TwoFronts P g → Type 0
 InPairRunWith mode honest up0 down0 up down w e = HonestPair mode honest up0 down0 up down w (pair_ends_of e) e.ends.splitter.whole
 
 -- the ends are in a run, each frame that came up whole being answered
-abbrev pub InPairRun : {P : Type 0} {g : Ghosts P} → Mode → Type 0 → (up0 down0 up down : Pipe) → PairRun → TwoFronts P g → Type 0
+abbrev pub InPairRun : {P : Type 0} {g : Ghosts P} → PairMode → Type 0 → (up0 down0 up down : Pipe) → PairRun → TwoFronts P g → Type 0
 InPairRun mode honest up0 down0 up down w e =
     EachAnswered (HonestPair mode honest up0 down0 up down w (pair_ends_of e)) e.ends.splitter.whole
 
 -- Where a call takes a run, and for which steps there has to be room; when it may come, and whether an attach or a detach is on its
 -- way then.
 pub record Aim : Type 1 where
-  pub may : Mode → PairRun → Type 0
+  pub may : PairMode → PairRun → Type 0
   pub to : PairRun → PairRun
-  pub mode : Mode → Mode
+  pub mode : PairMode → PairMode
   pub room : PairRun → Type 0
 
 -- A call takes each run over an honest link, while lines of so many bytes more may come, to where it aims; unless a step meets no room.
 abbrev pub PairSteps : {P : Type 0} {g : Ghosts P} {T : Type 0} → ℕ → Moment (TwoFronts P g) → Moment (TwoFronts P g) → Result T Stop → Aim
     → Type 0
 PairSteps bytes old new result aim =
-    (mode : Mode) (up0 down0 : Pipe) (w : PairRun) → PairHasLeft w.spent bytes → aim.may mode w
+    (mode : PairMode) (up0 down0 : Pipe) (w : PairRun) → PairHasLeft w.spent bytes → aim.may mode w
     → InPairRun mode old.honest up0 down0 old.up old.down w old.ends
     → RoomTold result (aim.room w) × OnOk result (InPairRun (aim.mode mode) new.honest up0 down0 new.up new.down (aim.to w) new.ends)
 
@@ -86,7 +86,7 @@ PairSteps bytes old new result aim =
 abbrev pub PairGoes : {P : Type 0} {g : Ghosts P} {T : Type 0} → Moment (TwoFronts P g) → Moment (TwoFronts P g) → Result T Stop → Aim
     → Type 0
 PairGoes old new result aim =
-    (mode : Mode) (up0 down0 : Pipe) (w : PairRun) → aim.may mode w
+    (mode : PairMode) (up0 down0 : Pipe) (w : PairRun) → aim.may mode w
     → InPairRun mode old.honest up0 down0 old.up old.down w old.ends
     → RoomTold result (aim.room w) × OnOk result (InPairRun (aim.mode mode) new.honest up0 down0 new.up new.down (aim.to w) new.ends)
 
@@ -150,7 +150,7 @@ refreshing = record { may = λ mode w. ⊤; to = pair_refreshes; mode = λ mode.
 abbrev pub PairAnswersAll : {P : Type 0} {g : Ghosts P} {T : Type 0} → Moment (TwoFronts P g) → Moment (TwoFronts P g) → Result T Stop
     → Type 0
 PairAnswersAll old new result =
-    (mode : Mode) (up0 down0 : Pipe) (w : PairRun) → InPairRunWith mode old.honest up0 down0 old.up old.down w old.ends
+    (mode : PairMode) (up0 down0 : Pipe) (w : PairRun) → InPairRunWith mode old.honest up0 down0 old.up old.down w old.ends
     → RoomTold result (RoomThroughout (pair_step pair_reads client_steps) PairRoom w.state old.ends.ends.splitter.whole)
     × OnOk result (InPairRun mode new.honest up0 down0 new.up new.down
     (answered (pair_step pair_reads client_steps) old.ends.ends.splitter.whole w) new.ends)
@@ -159,7 +159,7 @@ PairAnswersAll old new result =
 abbrev pub PairAnswersOne : {P : Type 0} {g : Ghosts P} {T : Type 0} → List ℕ → Moment (TwoFronts P g) → Moment (TwoFronts P g)
     → Result T Stop → Type 0
 PairAnswersOne frame old new result =
-    (mode : Mode) (up0 down0 : Pipe) (w : PairRun) → old.honest
+    (mode : PairMode) (up0 down0 : Pipe) (w : PairRun) → old.honest
     → InPairWorld mode up0 down0 old.up old.down w (frame ∷ (old.ends.ends.splitter.whole ++ awaited w.up)) (pair_ends_of old.ends)
     → RoomTold result (PairRoom w.state)
     × OnOk result (InPairRunWith mode new.honest up0 down0 new.up new.down
@@ -187,7 +187,7 @@ abbrev pub fetching_known : Bool → ℕ → Aim
 fetching_known second number = record {
   may = λ mode w. (mode ≡ calm) × IsAtRest w;
   mode = λ mode. mode;
-  to = λ w. by_fetcher (fetcher_on second w.state.attached) (λ fetcher v. fetched pair_replay fetcher number v) w;
+  to = λ w. by_fetcher (fetcher_on second w.state.attached) (λ fetcher v. fetched pair_runner fetcher number v) w;
   room = λ w. PairRoom w.state;
 }
 
@@ -206,24 +206,24 @@ fetching second number = record {
   may = λ mode w. (mode ≡ calm) × IsAtRest w;
   mode = λ mode. mode;
   to = λ w. by_fetcher (fetcher_on second w.state.attached)
-      (λ fetcher v. fetched_if pair_replay fetcher (front_in pair_replay no_fronts v) number v) w;
+      (λ fetcher v. fetched_if pair_runner fetcher (front_in pair_runner no_fronts v) number v) w;
   room = λ w. room_by (fetcher_on second w.state.attached)
-      (λ fetcher v. KnownHasRoom fetcher number (front_in pair_replay no_fronts v) v) w;
+      (λ fetcher v. KnownHasRoom fetcher number (front_in pair_runner no_fronts v) v) w;
 }
 
 -- before each of these fetches that is made there is room
 abbrev pub AllHaveRoom : Fetcher FrontValues PairSpent → List ℕ → PairRun → Type 0
 AllHaveRoom fetcher [] w = ⊤
 AllHaveRoom fetcher (number ∷ numbers) w =
-    KnownHasRoom fetcher number (front_in pair_replay no_fronts w) w
-    × AllHaveRoom fetcher numbers (fetched_if pair_replay fetcher (front_in pair_replay no_fronts w) number w)
+    KnownHasRoom fetcher number (front_in pair_runner no_fronts w) w
+    × AllHaveRoom fetcher numbers (fetched_if pair_runner fetcher (front_in pair_runner no_fronts w) number w)
 
 -- these sheets are fetched, one after the other
 abbrev pub fetching_all : Bool → List ℕ → Aim
 fetching_all second numbers = record {
   may = λ mode w. (mode ≡ calm) × IsAtRest w;
   mode = λ mode. mode;
-  to = λ w. by_fetcher (fetcher_on second w.state.attached) (λ fetcher v. all_fetched pair_replay fetcher no_fronts numbers v) w;
+  to = λ w. by_fetcher (fetcher_on second w.state.attached) (λ fetcher v. all_fetched pair_runner fetcher no_fronts numbers v) w;
   room = λ w. room_by (fetcher_on second w.state.attached) (λ fetcher v. AllHaveRoom fetcher numbers v) w;
 }
 

@@ -13,7 +13,7 @@ ghost use Rattle.pair_replay.specs.Following.{PairLineTells};
 ghost use Rattle.pair_replay.specs.Playing.{Plays, pair_carrying, numbered_pair};
 
 use crate::reading::bad_session;
-use crate::two_fronts::{Told, TwoFronts};
+use crate::two_fronts::{ToldCounts, TwoFronts};
 use front_mirror::{Front, Panel};
 use pipe_frames::{Link, Sink};
 use replay_parts::{
@@ -134,7 +134,7 @@ pub(crate) fn show_replies<P: Panel, K: Sink, L: Link>(
         Ok(replies) => {
             ends.tell(
                 second,
-                Told {
+                ToldCounts {
                     replies,
                     pauses: told.pauses,
                 },
@@ -198,7 +198,7 @@ pub(crate) fn show_pauses<P: Panel, K: Sink, L: Link>(
         Ok(pauses) => {
             ends.tell(
                 second,
-                Told {
+                ToldCounts {
                     replies: told.replies,
                     pauses,
                 },

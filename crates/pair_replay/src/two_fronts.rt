@@ -31,7 +31,7 @@ use std::alloc::{AllocError, Global};
 
 /// How many of the replies and of the pauses of a front end were told.
 #[derive(Clone, Copy)]
-pub(crate) struct Told {
+pub(crate) struct ToldCounts {
     pub(crate) replies: usize,
     pub(crate) pauses: usize,
 }
@@ -45,16 +45,16 @@ pub(crate) struct TwoFronts<P: Panel> {
     pub(crate) mux: Mux,
     pub(crate) ends: Ends,
     pub(crate) fronts: Fronts<P>,
-    pub(crate) first_told: Told,
-    pub(crate) second_told: Told,
+    pub(crate) first_told: ToldCounts,
+    pub(crate) second_told: ToldCounts,
     ghost seated: { IsPairSeated mux side },
 }
 
 // Nothing was told.
-fn nothing_told() -> Told
+fn nothing_told() -> ToldCounts
     ensures { told_seen result ≡ nothing_told }
 {
-    Told {
+    ToldCounts {
         replies: 0,
         pauses: 0,
     }
@@ -123,7 +123,7 @@ impl<P: Panel> TwoFronts<P> {
     }
 
     /// What was told of a front end.
-    pub(crate) fn told(&self, second: bool) -> Told
+    pub(crate) fn told(&self, second: bool) -> ToldCounts
         ensures { result ≡ told_held second self.now }
     {
         if second {
@@ -134,7 +134,7 @@ impl<P: Panel> TwoFronts<P> {
     }
 
     /// So much was told of it.
-    pub(crate) fn tell(&mut self, second: bool, told: Told)
+    pub(crate) fn tell(&mut self, second: bool, told: ToldCounts)
         ensures { self.new ≡ with_told_held second told self.old }
     {
         if second {

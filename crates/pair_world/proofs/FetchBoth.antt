@@ -43,7 +43,7 @@ use Rattle.pair_world.specs.Shown.{IsSessionNumber, HasRoomFor, MaySend, Shows}
 use Rattle.pair_world.specs.FrameLaws.{IsCommand}
 use Rattle.pair_world.specs.PairFits.{PageSessions}
 use Rattle.pair_world.specs.PairRuns.{PairSpent, pair_plainly, none_more}
-use Rattle.pair_world.specs.PairFresh.{FrontValues, pair_replay, fetch_in, first_fetcher, of_session, second_fetcher}
+use Rattle.pair_world.specs.PairFresh.{FrontValues, pair_runner, fetch_in, first_fetcher, of_second_session, second_fetcher}
 use Rattle.pair_world.specs.PairFresh.{pair_unstyled, PairIsCalm, PairIsFit, PairRoom}
 use Rattle.pair_world.proofs.ClientLemmas.{read_laws}
 use Rattle.pair_world.proofs.TargetTexts.{texts-apart, number-read}
@@ -189,7 +189,7 @@ first-answer n p after s number numbers room due taken =
     }
 
 -- What the fetches of the first front end keep.
-pub first_laws : FetchLaws pair_replay PairRoom NextOfPair PairIsFit pair_plainly first_fetcher pair_unstyled no_other_fetches most_sheets
+pub first_laws : FetchLaws pair_runner PairRoom NextOfPair PairIsFit pair_plainly first_fetcher pair_unstyled no_other_fetches most_sheets
     most_fetches
 first_laws = record {
   counts = λ n. refl;
@@ -218,7 +218,7 @@ module _ (k : ℕ) (small : IsSessionNumber k) where
     stale : stale_of v.sheets ≡ numbers
 
   stands : (o : Option (Second FrontValue (List ℕ))) (number : ℕ) (numbers : List ℕ)
-      → of_session t (λ v. stale_of v.sheets) [] o ≡ number ∷ numbers → Stands o (number ∷ numbers)
+      → of_second_session t (λ v. stale_of v.sheets) [] o ≡ number ∷ numbers → Stands o (number ∷ numbers)
   stands None number numbers e = absurd cc
   stands (Some w) number numbers e =
       (elim (bytes_eq w.text t) as (λ (b : Bool). bytes_eq w.text t ≡ b → cond b (stale_of w.value.sheets) [] ≡ number ∷ numbers
@@ -253,7 +253,7 @@ module _ (k : ℕ) (small : IsSessionNumber k) where
 
   few-second : (side : Side) (second : RunClient) (next : ℕ) (asks : List Ask) (two : Option (Second FrontValue (List ℕ)))
       (attached : Option ℕ) → TwoFit pair_reads client_steps IsSessionNumber Shows side second next asks two attached
-      → length (of_session t (λ v. stale_of v.sheets) [] two) ≤ most_sheets
+      → length (of_second_session t (λ v. stale_of v.sheets) [] two) ≤ most_sheets
   few-second side second next asks _ _ neither = omega arith
   few-second side second next asks _ _ (both j v number few shows) =
       let all : length (stale_of v.sheets) ≤ most_sheets = few-known (state_of side second) v.sheets shows.is_state shows.has.sheets in
@@ -266,7 +266,7 @@ module _ (k : ℕ) (small : IsSessionNumber k) where
       → (second_fetcher k).knows p number ≡ true
   known-second p number numbers e =
       let s = stands p.two number numbers e in
-      ap (of_session t (λ v. has_sheet number v.sheets) false) s.is
+      ap (of_second_session t (λ v. has_sheet number v.sheets) false) s.is
       ∙ ap (λ b. cond b (has_sheet number s.v.sheets) false) (number_laws.same_all t)
       ∙ stale-known s.v.sheets number numbers s.stale
 
@@ -345,7 +345,7 @@ module _ (k : ℕ) (small : IsSessionNumber k) where
       record {
         state_is = answered.state_is;
         left =
-            ap (λ (q : FrontValues). of_session t (λ v. stale_of v.sheets) [] q.two) answered.front_is
+            ap (λ (q : FrontValues). of_second_session t (λ v. stale_of v.sheets) [] q.two) answered.front_is
             ∙ ap (λ b. cond b (stale_of told.leads.after.sheets) []) (number_laws.same_all t)
             ∙ told.left;
         same = ap pair_unstyled answered.front_is ∙ (λ i. front_pair (unstyled p.one) (two_is i) p.waiting (later_is i) p.top);
@@ -353,7 +353,7 @@ module _ (k : ℕ) (small : IsSessionNumber k) where
       }
 
   -- What the fetches of the second front end keep, in the session of that number: they leave what the first would fetch.
-  pub second_laws : FetchLaws pair_replay PairRoom NextOfPair PairIsFit pair_plainly (second_fetcher k) pair_unstyled first_fetcher.stale
+  pub second_laws : FetchLaws pair_runner PairRoom NextOfPair PairIsFit pair_plainly (second_fetcher k) pair_unstyled first_fetcher.stale
       most_sheets most_fetches
   second_laws = record {
     counts = λ n. refl;

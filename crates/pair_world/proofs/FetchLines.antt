@@ -29,10 +29,10 @@ use Rattle.pair_world.specs.Shown.{IsSessionNumber, MaySend}
 use Rattle.pair_world.specs.PairFits.{PageSessions}
 use Rattle.pair_world.specs.PairRuns.{PairSpent, PairPlainlySpent, pair_plainly}
 use Rattle.pair_world.specs.PairRuns.{one_ask_on}
-use Rattle.pair_world.specs.PairRuns.{next_target, one_attach, one_detach, none_more, PairRun, pair_settled, Deed}
+use Rattle.pair_world.specs.PairRuns.{next_target, one_attach, one_detach, none_more, PairRun, pair_settled, PairDeed}
 use Rattle.pair_world.specs.PairRuns.{after_deeds_by}
 use Rattle.pair_world.specs.PairScripts.{session_on, ask_deed, settle_deed, detach_deeds, deeds, told_after, after_pair_line}
-use Rattle.pair_world.specs.PairFresh.{no_fronts, pair_replay, pair_refreshes, fresh_pair_line}
+use Rattle.pair_world.specs.PairFresh.{no_fronts, pair_runner, pair_refreshes, fresh_pair_line}
 use Rattle.pair_world.specs.PairFresh.{PairIsFit, PairHasLeft, DeedHasRoom, DeedsHaveRoom}
 use Rattle.pair_world.specs.PairScriptsFit.{IsPairLater}
 use Rattle.pair_world.proofs.FetchRuns.{RunsTogether, SettledAs, attached-number}
@@ -172,7 +172,7 @@ targets-together bytes text more w v both counts go room =
     let s : SettledAs w2 v2 (pair_refreshes v2) = settle-runs w2 v2 sent few.0 few.1 room.1 in
     record {
       runs = s.runs;
-      calm = calm-at-rest (pair_settled w2) s.runs.fits (settled-rests pair_replay PairIsFit no_fronts w2 s.runs.fits);
+      calm = calm-at-rest (pair_settled w2) s.runs.fits (settled-rests pair_runner PairIsFit no_fronts w2 s.runs.fits);
       calm_fresh = calm-at-rest (pair_refreshes v2) s.runs.fits_fresh s.rests;
       left = target-left v.spent v1.spent (pair_refreshes v2).spent bytes more counts spent (settle-spent w2 v2 (pair_refreshes v2) sent s)
           both.left;
@@ -188,7 +188,7 @@ line-together bytes line w v later lacks both room =
     (told_after line (after_deeds_by pair_settled (deeds line w) w)) (told_after line (after_deeds_by pair_refreshes (deeds line v) v))
     (by line later lacks room)
   where
-    Done : List Deed → List Deed → Type 0
+    Done : List PairDeed → List PairDeed → Type 0
     Done ds es = Together bytes (after_deeds_by pair_settled ds w) (after_deeds_by pair_refreshes es v)
 
     spent : pair_plainly w.spent ≡ pair_plainly v.spent

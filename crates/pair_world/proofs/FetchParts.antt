@@ -48,7 +48,7 @@ use Rattle.pair_world.specs.PairFits.{PageSessions, PairFits, pair_loaded}
 use Rattle.pair_world.specs.PairRuns.{PairSpent, PairAudience, pair_plainly, pair_nothing_spent, pair_audience}
 use Rattle.pair_world.specs.PairRuns.{none_more, PairRun, pair_loaded_run}
 use Rattle.pair_world.specs.PairScripts.{session_on}
-use Rattle.pair_world.specs.PairFresh.{no_fronts, pair_replay, first_fetcher, pair_unstyled, PairIsCalm}
+use Rattle.pair_world.specs.PairFresh.{no_fronts, pair_runner, first_fetcher, pair_unstyled, PairIsCalm}
 use Rattle.pair_world.specs.PairFresh.{PairIsFit, PairHasLeft, PairTogether, PairRoom}
 use Rattle.pair_world.specs.FetchShown.{asks_in_way, IsPlainOfPair}
 use Rattle.pair_world.proofs.ClientLemmas.{shows-fresh}
@@ -148,7 +148,7 @@ loaded-together bytes kinds page can texts few =
     shows-fresh (loaded_side 1 1 page) (IsState-first page can texts) in
     record {
       runs =
-          together-first pair_replay PairRoom NextOfPair (λ n. IsTurn) PairIsFit fit_laws pair_plainly first_fetcher pair_unstyled
+          together-first pair_runner PairRoom NextOfPair (λ n. IsTurn) PairIsFit fit_laws pair_plainly first_fetcher pair_unstyled
           no_other_fetches most_sheets most_fetches first_laws IsPlainOfPair no_fronts pair_nothing_spent (pair_audience kinds)
           (pair_loaded page)
           (is_calm (record {
@@ -289,12 +289,12 @@ sent-together bytes k text more w v go spent left both =
     subst (λ a. IsCalm pair_reads client_steps MaySend a (frame_way text)) same go.may in
     record {
       runs =
-          together-sent_up pair_replay PairRoom NextOfPair (λ n. IsTurn) PairIsFit fit_laws pair_plainly first_fetcher pair_unstyled
+          together-sent_up pair_runner PairRoom NextOfPair (λ n. IsTurn) PairIsFit fit_laws pair_plainly first_fetcher pair_unstyled
           no_other_fetches most_sheets most_fetches first_laws IsPlainOfPair no_fronts text more w v go.letters go.plain spent
           (next_frame both.calm.fit.calm go.may) (next_frame both.calm_fresh.fit.calm may) both.runs;
-      calm = fits-sent_up pair_replay PairRoom NextWhileCalm (λ n. IsTurn) PairIsCalm still_laws no_fronts text more w go.letters go.may
+      calm = fits-sent_up pair_runner PairRoom NextWhileCalm (λ n. IsTurn) PairIsCalm still_laws no_fronts text more w go.letters go.may
           both.calm;
-      calm_fresh = fits-sent_up pair_replay PairRoom NextWhileCalm (λ n. IsTurn) PairIsCalm still_laws no_fronts text more v go.letters may
+      calm_fresh = fits-sent_up pair_runner PairRoom NextWhileCalm (λ n. IsTurn) PairIsCalm still_laws no_fronts text more v go.letters may
           both.calm_fresh;
       left = left;
     }
@@ -311,7 +311,7 @@ targeted-together text more w v go spent rests both =
       flying = both.agrees.up.flying ∙ rests.up.flying;
       held = both.agrees.up.held ∙ rests.up.held;
     } in
-    together-sent_up pair_replay PairRoom NextOfPair (λ n. IsTurn) PairIsFit fit_laws pair_plainly first_fetcher pair_unstyled
+    together-sent_up pair_runner PairRoom NextOfPair (λ n. IsTurn) PairIsFit fit_laws pair_plainly first_fetcher pair_unstyled
     no_other_fetches most_sheets most_fetches first_laws IsPlainOfPair no_fronts text more w v go.letters go.plain spent
     (next_target go.waiting (awaited-none w.up still.flying still.held) go.may)
     (next_target go.waiting (awaited-none v.up rests.up.flying rests.up.held) may) both
@@ -323,10 +323,10 @@ turned-together bytes x w v turn room both =
     let room_w : PairRoom w.state = subst PairRoom (sym both.runs.agrees.state) room in
     record {
       runs =
-          together-turned pair_replay PairRoom NextOfPair (λ n. IsTurn) PairIsFit fit_laws pair_plainly first_fetcher pair_unstyled
+          together-turned pair_runner PairRoom NextOfPair (λ n. IsTurn) PairIsFit fit_laws pair_plainly first_fetcher pair_unstyled
           no_other_fetches most_sheets most_fetches first_laws IsPlainOfPair no_fronts x w v room_w room turn turn both.runs;
-      calm = fits-turned pair_replay PairRoom NextWhileCalm (λ n. IsTurn) PairIsCalm still_laws no_fronts x w room_w turn both.calm;
-      calm_fresh = fits-turned pair_replay PairRoom NextWhileCalm (λ n. IsTurn) PairIsCalm still_laws no_fronts x v room turn
+      calm = fits-turned pair_runner PairRoom NextWhileCalm (λ n. IsTurn) PairIsCalm still_laws no_fronts x w room_w turn both.calm;
+      calm_fresh = fits-turned pair_runner PairRoom NextWhileCalm (λ n. IsTurn) PairIsCalm still_laws no_fronts x v room turn
           both.calm_fresh;
       left = both.left;
     }
@@ -339,10 +339,10 @@ up-together bytes n w v room both =
     let room_w = room-alike n w v both.runs room in
     record {
       runs =
-          together-delivered_up pair_replay PairRoom NextOfPair (λ n. IsTurn) PairIsFit fit_laws pair_plainly first_fetcher pair_unstyled
+          together-delivered_up pair_runner PairRoom NextOfPair (λ n. IsTurn) PairIsFit fit_laws pair_plainly first_fetcher pair_unstyled
           no_other_fetches most_sheets most_fetches first_laws IsPlainOfPair no_fronts n w v room_w room both.runs;
-      calm = fits-delivered_up pair_replay PairRoom NextWhileCalm (λ n. IsTurn) PairIsCalm still_laws no_fronts n w room_w both.calm;
-      calm_fresh = fits-delivered_up pair_replay PairRoom NextWhileCalm (λ n. IsTurn) PairIsCalm still_laws no_fronts n v room
+      calm = fits-delivered_up pair_runner PairRoom NextWhileCalm (λ n. IsTurn) PairIsCalm still_laws no_fronts n w room_w both.calm;
+      calm_fresh = fits-delivered_up pair_runner PairRoom NextWhileCalm (λ n. IsTurn) PairIsCalm still_laws no_fronts n v room
           both.calm_fresh;
       left = both.left;
     }
@@ -351,9 +351,9 @@ up-together bytes n w v room both =
 pub down-together : (bytes n : ℕ) (w v : PairRun) → Together bytes w v → Together bytes (delivered_down n w) (delivered_down n v)
 down-together bytes n w v both = record {
   runs =
-      together-delivered_down pair_replay PairRoom NextOfPair (λ n. IsTurn) PairIsFit fit_laws pair_plainly first_fetcher pair_unstyled
+      together-delivered_down pair_runner PairRoom NextOfPair (λ n. IsTurn) PairIsFit fit_laws pair_plainly first_fetcher pair_unstyled
       no_other_fetches most_sheets most_fetches first_laws IsPlainOfPair no_fronts n w v both.runs;
-  calm = fits-delivered_down pair_replay PairRoom NextWhileCalm (λ n. IsTurn) PairIsCalm still_laws no_fronts n w both.calm;
-  calm_fresh = fits-delivered_down pair_replay PairRoom NextWhileCalm (λ n. IsTurn) PairIsCalm still_laws no_fronts n v both.calm_fresh;
+  calm = fits-delivered_down pair_runner PairRoom NextWhileCalm (λ n. IsTurn) PairIsCalm still_laws no_fronts n w both.calm;
+  calm_fresh = fits-delivered_down pair_runner PairRoom NextWhileCalm (λ n. IsTurn) PairIsCalm still_laws no_fronts n v both.calm_fresh;
   left = both.left;
 }

@@ -20,9 +20,9 @@ use Rattle.pair_world.specs.Clients.{pair_reads, client_steps}
 use Rattle.pair_world.specs.Shown.{IsSessionNumber, HasRoomFor, MaySend, Shows}
 use Rattle.pair_world.specs.PairFits.{PageSessions, PairFits}
 use Rattle.pair_world.specs.PairRuns.{PairSpent, PairAudience, PairPlainlySpent, pair_plainly, none_more, PairRun, pair_settled}
-use Rattle.pair_world.specs.PairFresh.{FrontValues, no_fronts, pair_replay, first_fetcher, second_fetcher, second_fetched, pair_refreshes}
+use Rattle.pair_world.specs.PairFresh.{FrontValues, no_fronts, pair_runner, first_fetcher, second_fetcher, second_fetched, pair_refreshes}
 use Rattle.pair_world.specs.PairFresh.{pair_unstyled, PairIsCalm, PairIsFit, PairHasLeft, PairTogether, PairRoom, SettleHasRoom}
-use Rattle.pair_world.specs.PairFresh.{SecondHasRoom, RefreshHasRoom}
+use Rattle.pair_world.specs.PairFresh.{SecondFetchesHaveRoom, RefreshHasRoom}
 use Rattle.pair_world.specs.FetchShown.{IsPlainOfPair}
 use Rattle.pair_world.proofs.ClientLemmas.{read_laws, LeadsSide, client_laws}
 use Rattle.pair_world.proofs.DeedLemmas.{number-of}
@@ -31,7 +31,7 @@ use Rattle.pair_world.proofs.FetchBoth.{calm-alone, second-fit, NextOfPair, no_o
 -- ---- the laws of the run
 
 -- whether an attach or a detach waits or none
-pub fit_laws : Laws pair_replay PairRoom NextOfPair (λ n. IsTurn) PairIsFit
+pub fit_laws : Laws pair_runner PairRoom NextOfPair (λ n. IsTurn) PairIsFit
 fit_laws = pair_laws pair_reads client_steps read_laws HasRoomFor IsSessionNumber MaySend IsTurn LeadsSide Shows client_laws none_more
 
 -- what may be sent while none waits
@@ -39,12 +39,12 @@ abbrev pub NextWhileCalm : PairSpent → PageSessions → List (List ℕ) → Li
 NextWhileCalm = NextIsCalm pair_reads client_steps none_more IsSessionNumber HasRoomFor MaySend IsTurn
 
 -- while none waits
-pub still_laws : Laws pair_replay PairRoom NextWhileCalm (λ n. IsTurn) PairIsCalm
+pub still_laws : Laws pair_runner PairRoom NextWhileCalm (λ n. IsTurn) PairIsCalm
 still_laws = calm_laws pair_reads client_steps read_laws HasRoomFor IsSessionNumber MaySend IsTurn LeadsSide Shows client_laws none_more
 
 -- two runs of one script go together, but for what is left
 abbrev pub RunsTogether : PairRun → PairRun → Type 0
-RunsTogether w v = RunTogether pair_replay pair_plainly PairIsFit no_fronts pair_unstyled IsPlainOfPair w v
+RunsTogether w v = RunTogether pair_runner pair_plainly PairIsFit no_fronts pair_unstyled IsPlainOfPair w v
 
 -- ---- room, in both runs
 
@@ -67,30 +67,30 @@ settle-room-alike w v together room =
 module _ (P : PairSpent → PairAudience → Type 0) (fetcher : Fetcher FrontValues PairSpent)
     (keeps : (n : PairSpent) (told : PairAudience) → P n told → P (fetcher.one_more n) told) where
   if-known : (number : ℕ) (w : PairRun) (known : Bool) → P w.spent w.told
-      → P (cond known (fetched pair_replay fetcher number w) w).spent (cond known (fetched pair_replay fetcher number w) w).told
+      → P (cond known (fetched pair_runner fetcher number w) w).spent (cond known (fetched pair_runner fetcher number w) w).told
   if-known number w true holds = keeps w.spent w.told holds
   if-known number w false holds = holds
 
   if-there : (number : ℕ) (w : PairRun) (r : Result FrontValues FrontKind) → P w.spent w.told
-      → P (fetched_if pair_replay fetcher r number w).spent (fetched_if pair_replay fetcher r number w).told
+      → P (fetched_if pair_runner fetcher r number w).spent (fetched_if pair_runner fetcher r number w).told
   if-there number w (Ok p) holds = if-known number w (fetcher.knows p number) holds
   if-there number w (Err kind) holds = holds
 
   pub fetches-keep : (numbers : List ℕ) (w : PairRun) → P w.spent w.told
-      → P (all_fetched pair_replay fetcher no_fronts numbers w).spent (all_fetched pair_replay fetcher no_fronts numbers w).told
+      → P (all_fetched pair_runner fetcher no_fronts numbers w).spent (all_fetched pair_runner fetcher no_fronts numbers w).told
   fetches-keep [] w holds = holds
   fetches-keep (number ∷ numbers) w holds =
-      fetches-keep numbers (fetched_if pair_replay fetcher (front_in pair_replay no_fronts w) number w)
-      (if-there number w (front_in pair_replay no_fronts w) holds)
+      fetches-keep numbers (fetched_if pair_runner fetcher (front_in pair_runner no_fronts w) number w)
+      (if-there number w (front_in pair_runner no_fronts w) holds)
 
 -- the fetches of the first front end count for nothing of the second
-first-keeps : (w : PairRun) → (refreshed pair_replay first_fetcher no_fronts w).spent.second_fetches ≡ w.spent.second_fetches
+first-keeps : (w : PairRun) → (refreshed pair_runner first_fetcher no_fronts w).spent.second_fetches ≡ w.spent.second_fetches
 first-keeps w =
     fetches-keep (λ n told. n.second_fetches ≡ w.spent.second_fetches) first_fetcher (λ n told h. h)
-    (stale_in first_fetcher (front_in pair_replay no_fronts (pair_settled w))) (pair_settled w) refl
+    (stale_in first_fetcher (front_in pair_runner no_fronts (pair_settled w))) (pair_settled w) refl
 
 second-keeps : (k : ℕ) (numbers : List ℕ) (w : PairRun)
-    → (all_fetched pair_replay (second_fetcher k) no_fronts numbers w).spent.fetches ≡ w.spent.fetches
+    → (all_fetched pair_runner (second_fetcher k) no_fronts numbers w).spent.fetches ≡ w.spent.fetches
 second-keeps k numbers w = fetches-keep (λ n told. n.fetches ≡ w.spent.fetches) (second_fetcher k) (λ n told h. h) numbers w refl
 
 -- a settle tells nothing
@@ -98,16 +98,16 @@ pub refreshes-told : (w : PairRun) → (pair_refreshes w).told ≡ w.told
 refreshes-told w =
     by first.state.attached
     ∙ fetches-keep (λ n told. told ≡ w.told) first_fetcher (λ n told h. h)
-    (stale_in first_fetcher (front_in pair_replay no_fronts (pair_settled w))) (pair_settled w) refl
+    (stale_in first_fetcher (front_in pair_runner no_fronts (pair_settled w))) (pair_settled w) refl
   where
     first : PairRun
-    first = refreshed pair_replay first_fetcher no_fronts w
+    first = refreshed pair_runner first_fetcher no_fronts w
 
     by : (o : Option ℕ) → (second_fetched o first).told ≡ first.told
     by None = refl
     by (Some k) =
         fetches-keep (λ n told. told ≡ first.told) (second_fetcher k) (λ n told h. h)
-        (stale_in (second_fetcher k) (front_in pair_replay no_fronts first)) first refl
+        (stale_in (second_fetcher k) (front_in pair_runner no_fronts first)) first refl
 
 -- ---- a settle
 
@@ -124,7 +124,7 @@ pub record SettledAs (w v after : PairRun) : Type 0 where
 -- the settle of the first front end
 abbrev FirstRefreshed : PairRun → PairRun → PairRun → Type 0
 FirstRefreshed w v after =
-    OneRefreshed pair_replay PairRoom NextOfPair (λ n. IsTurn) PairIsFit fit_laws pair_plainly first_fetcher pair_unstyled no_other_fetches
+    OneRefreshed pair_runner PairRoom NextOfPair (λ n. IsTurn) PairIsFit fit_laws pair_plainly first_fetcher pair_unstyled no_other_fetches
     most_sheets most_fetches first_laws IsPlainOfPair no_fronts w v after
 
 -- the number of the attached session is one of a session
@@ -135,7 +135,8 @@ attached-number n p s frames k fit is = number-of s.side s.second s.next k _ p.t
 none-here : {P : Type 0} (a : Option ℕ) (k : ℕ) → a ≡ None → a ≡ Some k → P
 none-here a k none some = let no : ◌≡◌ {A = Option ℕ} None (Some k) = sym none ∙ some in absurd cc
 
-second-settles : (w v after : PairRun) → FirstRefreshed w v after → (o : Option ℕ) → after.state.attached ≡ o → SecondHasRoom o after
+second-settles : (w v after : PairRun) → FirstRefreshed w v after → (o : Option ℕ) → after.state.attached ≡ o
+    → SecondFetchesHaveRoom o after
     → after.spent.second_fetches ≡ v.spent.second_fetches → v.spent.second_fetches + most_sheets ≤ most_fetches
     → SettledAs w v (second_fetched o after)
 second-settles w v after first None is room same left =
@@ -151,12 +152,12 @@ second-settles w v after first None is room same left =
 second-settles w v after first (Some k) is room same left =
     let small : IsSessionNumber k = attached-number after.spent first.runs.fits_fresh.front after.state (awaited after.up) k
     first.runs.fits_fresh.fit is in
-    let numbers = stale_in (second_fetcher k) (front_in pair_replay no_fronts after) in
+    let numbers = stale_in (second_fetcher k) (front_in pair_runner no_fronts after) in
     let few : after.spent.second_fetches + most_sheets ≤ most_fetches = omega (arith, same, left) in
-    let last : PairRun = all_fetched pair_replay (second_fetcher k) no_fronts numbers after in
-    let two : TwoRefreshed pair_replay PairRoom NextOfPair (λ n. IsTurn) PairIsFit fit_laws pair_plainly first_fetcher pair_unstyled
+    let last : PairRun = all_fetched pair_runner (second_fetcher k) no_fronts numbers after in
+    let two : TwoRefreshed pair_runner PairRoom NextOfPair (λ n. IsTurn) PairIsFit fit_laws pair_plainly first_fetcher pair_unstyled
     no_other_fetches most_sheets most_fetches first_laws IsPlainOfPair (second_fetcher k) (second_laws k small) no_fronts w after last =
-    together-two pair_replay PairRoom NextOfPair (λ n. IsTurn) PairIsFit fit_laws pair_plainly first_fetcher pair_unstyled no_other_fetches
+    together-two pair_runner PairRoom NextOfPair (λ n. IsTurn) PairIsFit fit_laws pair_plainly first_fetcher pair_unstyled no_other_fetches
     most_sheets most_fetches first_laws IsPlainOfPair (second_fetcher k) (second_laws k small) no_fronts w v after first few room in
     let state_is : last.state ≡ after.state = sym two.runs.agrees.state ∙ first.runs.agrees.state in
     let one : after.spent.fetches ≤ v.spent.fetches + most_sheets = first.fetches in
@@ -180,9 +181,9 @@ second-settles w v after first (Some k) is room same left =
 pub settle-runs : (w v : PairRun) → RunsTogether w v → v.spent.fetches + most_sheets ≤ most_fetches
     → v.spent.second_fetches + most_sheets ≤ most_fetches → RefreshHasRoom v → SettledAs w v (pair_refreshes v)
 settle-runs w v together left left2 room =
-    let first : PairRun = refreshed pair_replay first_fetcher no_fronts v in
+    let first : PairRun = refreshed pair_runner first_fetcher no_fronts v in
     let one : FirstRefreshed w v first =
-    together-one pair_replay PairRoom NextOfPair (λ n. IsTurn) PairIsFit fit_laws pair_plainly first_fetcher pair_unstyled no_other_fetches
+    together-one pair_runner PairRoom NextOfPair (λ n. IsTurn) PairIsFit fit_laws pair_plainly first_fetcher pair_unstyled no_other_fetches
     most_sheets most_fetches first_laws IsPlainOfPair no_fronts w v left (settle-room-alike w v together room.0) room.0 room.1 together in
     second-settles w v first one first.state.attached refl room.2 (first-keeps v) left2
 
@@ -250,7 +251,7 @@ settle-together bytes w v together room =
     let s : SettledAs w v (pair_refreshes v) = settle-runs w v together.runs few.0 few.1 room in
     record {
       runs = s.runs;
-      calm = calm-at-rest (pair_settled w) s.runs.fits (settled-rests pair_replay PairIsFit no_fronts w s.runs.fits);
+      calm = calm-at-rest (pair_settled w) s.runs.fits (settled-rests pair_runner PairIsFit no_fronts w s.runs.fits);
       calm_fresh = calm-at-rest (pair_refreshes v) s.runs.fits_fresh s.rests;
       left = settle-left v.spent (pair_refreshes v).spent bytes (settle-spent w v (pair_refreshes v) together.runs s) together.left;
     }

@@ -11,51 +11,51 @@ use Rattle.session_runs.specs.World.{sent_up}
 use Rattle.session_runs.specs.Passages.{sending, turning, delivering_up, delivering_down, settling}
 use Rattle.session_runs.specs.Fetches.{Fetcher, front_in, fetched, fetched_if, all_fetched, stale_in, refreshed}
 use Rattle.session_runs.specs.PairRuns.{passing, targeting}
-use Rattle.pair_world.specs.PairRuns.{PairSpent, PairAudience, PairRun, pair_settled, Deed, after_deed_by, after_deeds_by}
+use Rattle.pair_world.specs.PairRuns.{PairSpent, PairAudience, PairRun, pair_settled, PairDeed, after_deed_by, after_deeds_by}
 use Rattle.pair_world.specs.PairScripts.{deeds, first_deeds, second_deeds, pair_telling, told_after, after_pair_line, pair_lacking}
-use Rattle.pair_world.specs.PairFresh.{FrontValues, no_fronts, pair_replay, first_fetcher, second_fetcher, second_fetched, pair_refreshes}
-use Rattle.pair_world.specs.PairFresh.{fresh_pair_line, SecondHasRoom, RefreshHasRoom, DeedHasRoom, DeedsHaveRoom, WhereTrue}
+use Rattle.pair_world.specs.PairFresh.{FrontValues, no_fronts, pair_runner, first_fetcher, second_fetcher, second_fetched, pair_refreshes}
+use Rattle.pair_world.specs.PairFresh.{fresh_pair_line, SecondFetchesHaveRoom, RefreshHasRoom, DeedHasRoom, DeedsHaveRoom, WhereTrue}
 use Rattle.pair_world.specs.PairFresh.{pair_settles_first, line_or, LinesHaveRoom}
 
 module _ (n : PairAudience) where
   -- ---- what is fetched
 
   if-retold : (fetcher : Fetcher FrontValues PairSpent) (number : ℕ) (r : Result FrontValues FrontKind) (w : PairRun)
-      → fetched_if pair_replay fetcher r number (pair_telling n w) ≡ pair_telling n (fetched_if pair_replay fetcher r number w)
+      → fetched_if pair_runner fetcher r number (pair_telling n w) ≡ pair_telling n (fetched_if pair_runner fetcher r number w)
   if-retold fetcher number (Err fault) w = refl
   if-retold fetcher number (Ok p) w = by (fetcher.knows p number) where
-    by : (known : Bool) → cond known (fetched pair_replay fetcher number (pair_telling n w)) (pair_telling n w)
-        ≡ pair_telling n (cond known (fetched pair_replay fetcher number w) w)
+    by : (known : Bool) → cond known (fetched pair_runner fetcher number (pair_telling n w)) (pair_telling n w)
+        ≡ pair_telling n (cond known (fetched pair_runner fetcher number w) w)
     by true = refl
     by false = refl
 
   all-retold : (fetcher : Fetcher FrontValues PairSpent) (numbers : List ℕ) (w : PairRun)
-      → all_fetched pair_replay fetcher no_fronts numbers (pair_telling n w)
-      ≡ pair_telling n (all_fetched pair_replay fetcher no_fronts numbers w)
+      → all_fetched pair_runner fetcher no_fronts numbers (pair_telling n w)
+      ≡ pair_telling n (all_fetched pair_runner fetcher no_fronts numbers w)
   all-retold fetcher [] w = refl
   all-retold fetcher (number ∷ numbers) w =
-      ap (all_fetched pair_replay fetcher no_fronts numbers) (if-retold fetcher number (front_in pair_replay no_fronts w) w)
-      ∙ all-retold fetcher numbers (fetched_if pair_replay fetcher (front_in pair_replay no_fronts w) number w)
+      ap (all_fetched pair_runner fetcher no_fronts numbers) (if-retold fetcher number (front_in pair_runner no_fronts w) w)
+      ∙ all-retold fetcher numbers (fetched_if pair_runner fetcher (front_in pair_runner no_fronts w) number w)
 
   first-retold : (w : PairRun)
-      → refreshed pair_replay first_fetcher no_fronts (pair_telling n w)
-      ≡ pair_telling n (refreshed pair_replay first_fetcher no_fronts w)
+      → refreshed pair_runner first_fetcher no_fronts (pair_telling n w)
+      ≡ pair_telling n (refreshed pair_runner first_fetcher no_fronts w)
   first-retold w =
-      all-retold first_fetcher (stale_in first_fetcher (front_in pair_replay no_fronts (pair_settled w))) (pair_settled w)
+      all-retold first_fetcher (stale_in first_fetcher (front_in pair_runner no_fronts (pair_settled w))) (pair_settled w)
 
   second-retold : (o : Option ℕ) (w : PairRun) → second_fetched o (pair_telling n w) ≡ pair_telling n (second_fetched o w)
   second-retold None w = refl
   second-retold (Some k) w =
-      all-retold (second_fetcher k) (stale_in (second_fetcher k) (front_in pair_replay no_fronts w)) w
+      all-retold (second_fetcher k) (stale_in (second_fetcher k) (front_in pair_runner no_fronts w)) w
 
   pub refreshes-retold : (w : PairRun) → pair_refreshes (pair_telling n w) ≡ pair_telling n (pair_refreshes w)
   refreshes-retold w =
-      let first = refreshed pair_replay first_fetcher no_fronts w in
+      let first = refreshed pair_runner first_fetcher no_fronts w in
       ap (λ (x : PairRun). second_fetched x.state.attached x) (first-retold w) ∙ second-retold first.state.attached first
 
   -- ---- parts of a run
 
-  deed-retold : (d : Deed) (w : PairRun)
+  deed-retold : (d : PairDeed) (w : PairRun)
       → after_deed_by pair_refreshes d (pair_telling n w) ≡ pair_telling n (after_deed_by pair_refreshes d w)
   deed-retold (passing (sending text more)) w = refl
   deed-retold (passing (turning x)) w = refl
@@ -65,7 +65,7 @@ module _ (n : PairAudience) where
   deed-retold (targeting text more) w =
       ap (λ x. pair_refreshes (sent_up text more x)) (refreshes-retold w) ∙ refreshes-retold (sent_up text more (pair_refreshes w))
 
-  deeds-retold : (ds : List Deed) (w : PairRun)
+  deeds-retold : (ds : List PairDeed) (w : PairRun)
       → after_deeds_by pair_refreshes ds (pair_telling n w) ≡ pair_telling n (after_deeds_by pair_refreshes ds w)
   deeds-retold [] w = refl
   deeds-retold (d ∷ ds) w = ap (after_deeds_by pair_refreshes ds) (deed-retold d w) ∙ deeds-retold ds (after_deed_by pair_refreshes d w)
@@ -74,17 +74,17 @@ module _ (n : PairAudience) where
 
   refresh-room : (w : PairRun) → RefreshHasRoom w → RefreshHasRoom (pair_telling n w)
   refresh-room w room =
-      let first = refreshed pair_replay first_fetcher no_fronts w in (
+      let first = refreshed pair_runner first_fetcher no_fronts w in (
         room.0,
         room.1,
-        subst (λ (x : PairRun). SecondHasRoom x.state.attached x) (sym (first-retold w)) (by first.state.attached first room.2),
+        subst (λ (x : PairRun). SecondFetchesHaveRoom x.state.attached x) (sym (first-retold w)) (by first.state.attached first room.2),
       )
     where
-      by : (o : Option ℕ) (x : PairRun) → SecondHasRoom o x → SecondHasRoom o (pair_telling n x)
+      by : (o : Option ℕ) (x : PairRun) → SecondFetchesHaveRoom o x → SecondFetchesHaveRoom o (pair_telling n x)
       by None x room = room
       by (Some k) x room = room
 
-  deed-room : (d : Deed) (w : PairRun) → DeedHasRoom d w → DeedHasRoom d (pair_telling n w)
+  deed-room : (d : PairDeed) (w : PairRun) → DeedHasRoom d w → DeedHasRoom d (pair_telling n w)
   deed-room (passing (sending text more)) w room = room
   deed-room (passing (turning x)) w room = room
   deed-room (passing (delivering_up k)) w room = room
@@ -96,7 +96,7 @@ module _ (n : PairAudience) where
         (refresh-room (sent_up text more (pair_refreshes w)) room.1),
   )
 
-  deeds-room : (ds : List Deed) (w : PairRun) → DeedsHaveRoom ds w → DeedsHaveRoom ds (pair_telling n w)
+  deeds-room : (ds : List PairDeed) (w : PairRun) → DeedsHaveRoom ds w → DeedsHaveRoom ds (pair_telling n w)
   deeds-room [] w room = room
   deeds-room (d ∷ ds) w room = (
     deed-room d w room.0,

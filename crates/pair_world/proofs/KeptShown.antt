@@ -20,7 +20,7 @@ use Rattle.pair_world.specs.Clients.{pair_reads, RunClient, state_of, client_ste
 use Rattle.pair_world.specs.Shown.{IsSessionNumber, Shows}
 use Rattle.pair_world.specs.PairFits.{PageSessions}
 use Rattle.pair_world.specs.PairRuns.{PairRun, pair_settled, attached_came, came_on}
-use Rattle.pair_world.specs.PairFresh.{FrontValues, pair_replay, no_fronts, of_session, second_fetcher, pair_refreshes, PairUnstyled}
+use Rattle.pair_world.specs.PairFresh.{FrontValues, pair_runner, no_fronts, of_second_session, second_fetcher, pair_refreshes, PairUnstyled}
 use Rattle.pair_world.specs.PairFresh.{pair_unstyled}
 use Rattle.pair_world.specs.PairFresh.{PairIsCalm, PairIsFit}
 use Rattle.pair_world.specs.FetchShown.{FrontShows, SecondShowsFresh, BothShowFresh, PairRefreshShows}
@@ -67,7 +67,7 @@ second-shows : (side : Side) (second : RunClient) (next : ℕ) (two : Option (Se
     → option_map (second_seen unstyled) plain ≡ option_map (second_seen unstyled) two
     → ((k : ℕ) (v : FrontValue) → IsSessionNumber k → plain ≡ Some (record { text = session_text k; value = v })
     → HasKept v (to_that (session_text k) (frames_of bytes).whole))
-    → ((k : ℕ) → attached ≡ Some k → of_session (session_text k) (λ v. stale_of v.sheets) [] two ≡ [])
+    → ((k : ℕ) → attached ≡ Some k → of_second_session (session_text k) (λ v. stale_of v.sheets) [] two ≡ [])
     → SecondShowsFresh two attached side second (attached_came attached bytes)
 second-shows side second next _ _ bytes plain neither same kept none = tt
 second-shows side second next _ _ bytes plain (both k v number few shows) same kept none =
@@ -80,15 +80,15 @@ second-shows side second next _ _ bytes plain (both k v number few shows) same k
 
 -- What two front ends show after a settle with its fetches, whether an attach or a detach waited before or none.
 pub shown-after : (w v : PairRun) (p : FrontValues) → SettledAs w v (pair_refreshes v)
-    → front_in pair_replay no_fronts (pair_refreshes v) ≡ Ok p → BothShowFresh (pair_settled w) p
+    → front_in pair_runner no_fronts (pair_refreshes v) ≡ Ok p → BothShowFresh (pair_settled w) p
 shown-after w v p s is =
     let w1 : PairRun = pair_settled w in
     let v1 : PairRun = pair_refreshes v in
     let plain : FrontValues = s.runs.agrees.plain in
-    let fresh_is : s.runs.agrees.fresh ≡ p = ok-one (front_in pair_replay no_fronts v1) s.runs.agrees.fresh p s.runs.agrees.fresh_is is in
+    let fresh_is : s.runs.agrees.fresh ≡ p = ok-one (front_in pair_runner no_fronts v1) s.runs.agrees.fresh p s.runs.agrees.fresh_is is in
     let same : pair_unstyled plain ≡ pair_unstyled p = s.runs.agrees.same ∙ ap pair_unstyled fresh_is in
     let c : PairIsCalm v1.spent p v1.state [] =
-    calm-alone v1.spent p v1.state (fit-rests pair_replay PairIsFit no_fronts v1 p s.runs.fits_fresh s.rests is) in
+    calm-alone v1.spent p v1.state (fit-rests pair_runner PairIsFit no_fronts v1 p s.runs.fits_fresh s.rests is) in
     let state_is : v1.state ≡ w1.state = sym s.runs.agrees.state in
     let sent_frames = (frames_of (sent w1.up)).whole in
     let frames = (frames_of w1.down.given).whole in

@@ -33,7 +33,7 @@ use Rattle.pair_world.specs.PairRuns.{PairSpent, PairRun, one_ask_on, one_fetch_
 use Rattle.pair_world.specs.PairScripts.{session_on}
 use Rattle.pair_world.specs.PairFresh.{fetch_in}
 use Rattle.pair_world.specs.PairHeld.{up_reads, PairEnds, SecondCounted, calm, IsSecondOf, InPairWorld}
-use Rattle.pair_world.specs.PairSendings.{may_ask_on, next_ask}
+use Rattle.pair_world.specs.PairSendings.{may_ask_on, next_ask_text}
 use Rattle.pair_world.proofs.WayLemmas.{asks-are-the-roots, asks-are-the-sessions, roots-are-usual, sessions-are-usual}
 use Rattle.pair_world.proofs.SendLemmas.{asks-may-be-sent, session-asks-may-be-sent, bare-frames-may-be-sent, bare-way}
 use Rattle.pair_world.proofs.DeedLemmas.{ask-id, ask-command, session-command, ask-alone, both-of, object-params}
@@ -67,17 +67,17 @@ none-attaches ws none =
 -- an ask of the second front end is sent
 pub pair-asked-second : (up0 down0 up down up1 : Pipe) (w : PairRun) (e : PairEnds) (a : AskForm) (there : ℕ)
     → InPairWorld calm up0 down0 up down w (awaited w.up) e → is_there true e.fronts.pair ≡ true → CanSend a → may_ask_second a ≡ true
-    → w.spent.second_asks + 1 < 2 ^ 30 → up1.sent ≡ up.sent ++ framed (next_ask true a w) → up1.given ≡ up.given
-    → there ≡ e.up_there + length (framed (next_ask true a w))
-    → InPairWorld calm up0 down0 up1 down (sent_up (next_ask true a w) (one_ask_on true) w)
-    (awaited (sent_up (next_ask true a w) (one_ask_on true) w).up)
+    → w.spent.second_asks + 1 < 2 ^ 30 → up1.sent ≡ up.sent ++ framed (next_ask_text true a w) → up1.given ≡ up.given
+    → there ≡ e.up_there + length (framed (next_ask_text true a w))
+    → InPairWorld calm up0 down0 up1 down (sent_up (next_ask_text true a w) (one_ask_on true) w)
+    (awaited (sent_up (next_ask_text true a w) (one_ask_on true) w).up)
     (record e { fronts = after_asked e.fronts true a.method; up_there = there })
 pair-asked-second up0 down0 up down up1 w e a there in_world stands can may small sent_is given_is left =
     let s = second-is up0 down0 up down w (awaited w.up) e in_world stands in
     let id = w.spent.second_asks + 1 in
     let k = s.number in
     let t = session_text k in
-    let text = next_ask true a w in
+    let text = next_ask_text true a w in
     let plain_text = command_text id a.method a.params None in
     let parts = both-of (may_ask a) (holds_of_some is_object a.params) may in
     let ids = ask-id id (omega (arith, small)) in
@@ -111,10 +111,10 @@ pair-asked-second up0 down0 up down up1 w e a there in_world stands can may smal
 pub pair-asked : (second : Bool) (up0 down0 up down up1 : Pipe) (w : PairRun) (e : PairEnds) (a : AskForm) (there : ℕ)
     → InPairWorld calm up0 down0 up down w (awaited w.up) e → is_there second e.fronts.pair ≡ true → CanSend a → may_ask_on second a ≡ true
     → w.spent.asks + 1 < 2 ^ 30 → w.spent.second_asks + 1 < 2 ^ 30
-    → up1.sent ≡ up.sent ++ framed (next_ask second a w) → up1.given ≡ up.given
-    → there ≡ e.up_there + length (framed (next_ask second a w))
-    → InPairWorld calm up0 down0 up1 down (sent_up (next_ask second a w) (one_ask_on second) w)
-    (awaited (sent_up (next_ask second a w) (one_ask_on second) w).up)
+    → up1.sent ≡ up.sent ++ framed (next_ask_text second a w) → up1.given ≡ up.given
+    → there ≡ e.up_there + length (framed (next_ask_text second a w))
+    → InPairWorld calm up0 down0 up1 down (sent_up (next_ask_text second a w) (one_ask_on second) w)
+    (awaited (sent_up (next_ask_text second a w) (one_ask_on second) w).up)
     (record e { fronts = after_asked e.fronts second a.method; up_there = there })
 pair-asked false up0 down0 up down up1 w e a there in_world stands can may small second_small sent_is given_is left =
     pair-asked-first up0 down0 up down up1 w e a there in_world can may small sent_is given_is left

@@ -33,8 +33,8 @@ use Rattle.pair_world.specs.PairRuns as runs
 use Rattle.pair_world.specs.PairRuns.{PairSpent, PairRun, one_ask_on, one_fetch_on, one_attach, one_detach, none_more, fetches_on}
 use Rattle.pair_world.specs.PairScripts.{session_on}
 use Rattle.pair_world.specs.PairFresh.{PairRoom, fetch_in}
-use Rattle.pair_world.specs.PairHeld.{PairEnds, Mode, calm, targeted, InPairWorld}
-use Rattle.pair_world.specs.PairSendings.{may_ask_on, next_ask, attached_text, fetcher_on, by_fetcher, PairHasIds}
+use Rattle.pair_world.specs.PairHeld.{PairEnds, PairMode, calm, targeted, InPairWorld}
+use Rattle.pair_world.specs.PairSendings.{may_ask_on, next_ask_text, attached_text, fetcher_on, by_fetcher, PairHasIds}
 use Rattle.pair_world.proofs.PairEndLemmas.{pair-answered, pair-turned, pair-given_up}
 use Rattle.pair_world.proofs.PairKnown.{second-is}
 use Rattle.pair_world.proofs.PairDown.{never-refused, pair-down}
@@ -44,12 +44,12 @@ use Rattle.pair_world.proofs.PairTargets.{pair-attached, pair-detached}
 -- ---- frames that came up whole
 
 -- where none is left, those on their way are all that wait
-unplaced : (mode : Mode) (up0 down0 up down : Pipe) (w : PairRun) (whole : List (List ℕ)) (e : PairEnds)
+unplaced : (mode : PairMode) (up0 down0 up down : Pipe) (w : PairRun) (whole : List (List ℕ)) (e : PairEnds)
     → InPairWorld mode up0 down0 up down w (whole ++ awaited w.up) e → whole ≡ [] → InPairWorld mode up0 down0 up down w (awaited w.up) e
 unplaced mode up0 down0 up down w whole e in_world none =
     subst (λ frames. InPairWorld mode up0 down0 up down w (frames ++ awaited w.up) e) none in_world
 
-placed : (mode : Mode) (up0 down0 up down down1 : Pipe) (w : PairRun) (whole : List (List ℕ)) (e : PairEnds)
+placed : (mode : PairMode) (up0 down0 up down down1 : Pipe) (w : PairRun) (whole : List (List ℕ)) (e : PairEnds)
     → InPairWorld mode up0 down0 up down w (awaited w.up) e → whole ≡ [] → down1 ≡ down
     → InPairWorld mode up0 down0 up down1 w (whole ++ awaited w.up) e
 placed mode up0 down0 up down down1 w whole e in_world none same =
@@ -73,7 +73,7 @@ second-fetch p v sheet stands =
 -- what a front end sends as its next ask is the run's
 pub ask-texts : (second : Bool) (up0 down0 up down : Pipe) (w : PairRun) (frames : List (List ℕ)) (e : PairEnds) (a : AskForm)
     → InPairWorld calm up0 down0 up down w frames e → is_there second e.fronts.pair ≡ true
-    → ask_text second e.fronts.pair a.method a.params ≡ next_ask second a w
+    → ask_text second e.fronts.pair a.method a.params ≡ next_ask_text second a w
 ask-texts false up0 down0 up down w frames e a in_world stands = ap (λ n. command_text n a.method a.params None) in_world.numbered.asks
 ask-texts true up0 down0 up down w frames e a in_world stands =
     let s = second-is up0 down0 up down w frames e in_world stands in
@@ -91,11 +91,11 @@ pub asked_in : (second : Bool) (up0 down0 up down up1 down1 : Pipe) (w : PairRun
     → InPairWorld calm up0 down0 up down w (whole ++ awaited w.up) e → whole ≡ []
     → frame ≡ framed (ask_text second e.fronts.pair a.method a.params) → fronts1 ≡ after_asked e.fronts second a.method
     → bytes ≡ frame → (up1.sent ≡ up.sent ++ bytes) × (up1.given ≡ up.given) → down1 ≡ down → there ≡ e.up_there + length frame
-    → InPairWorld calm up0 down0 up1 down1 (sent_up (next_ask second a w) (one_ask_on second) w)
-    (whole ++ awaited (sent_up (next_ask second a w) (one_ask_on second) w).up) (record e { fronts = fronts1; up_there = there })
+    → InPairWorld calm up0 down0 up1 down1 (sent_up (next_ask_text second a w) (one_ask_on second) w)
+    (whole ++ awaited (sent_up (next_ask_text second a w) (one_ask_on second) w).up) (record e { fronts = fronts1; up_there = there })
 asked_in second up0 down0 up down up1 down1 w e a whole frame bytes there fronts1 stands can may ids in_world none frame_is fronts_is
     same_bytes sent same_down left =
-    let text = next_ask second a w in
+    let text = next_ask_text second a w in
     let after : PairRun = sent_up text (one_ask_on second) w in
     let framed_is : frame ≡ framed text = frame_is ∙ ap framed
     (ask-texts second up0 down0 up down w (whole ++ awaited w.up) e a in_world stands) in
@@ -245,7 +245,7 @@ detached_in up0 down0 up down up1 down1 w e whole frame bytes there fronts1 stan
 -- ---- bytes come
 
 -- bytes come up, and are cut into frames
-pub given_in : (mode : Mode) (up0 down0 up down up1 down1 : Pipe) (w : PairRun) (e : PairEnds) (n there max : ℕ) (piece : List ℕ)
+pub given_in : (mode : PairMode) (up0 down0 up down up1 down1 : Pipe) (w : PairRun) (e : PairEnds) (n there max : ℕ) (piece : List ℕ)
     (s s1 : Frames)
     → InPairWorld mode up0 down0 up down w (s.whole ++ awaited w.up) e → s.whole ≡ [] → s.rest ≡ e.back_rest
     → max ≡ min n e.up_there → piece ≡ take max (waiting up)
@@ -276,7 +276,7 @@ given_in mode up0 down0 up down up1 down1 w e n there max piece s s1 in_world no
     )
 
 -- bytes come down
-pub delivered_in : (mode : Mode) (up0 down0 up down up1 down1 : Pipe) (w : PairRun) (frames : List (List ℕ)) (e : PairEnds)
+pub delivered_in : (mode : PairMode) (up0 down0 up down up1 down1 : Pipe) (w : PairRun) (frames : List (List ℕ)) (e : PairEnds)
     (n there max : ℕ) (piece : List ℕ) (fronts1 : FrontsState)
     → InPairWorld mode up0 down0 up down w frames e
     → max ≡ min n e.down_there → piece ≡ take max (waiting down)
@@ -296,7 +296,8 @@ delivered_in mode up0 down0 up down up1 down1 w frames e n there max piece front
     (sym fronts_is) all)
 
 -- the front ends are never at fault
-pub no_fault : (mode : Mode) (up0 down0 up down : Pipe) (w : PairRun) (frames : List (List ℕ)) (e : PairEnds) (n max : ℕ) (piece : List ℕ)
+pub no_fault : (mode : PairMode) (up0 down0 up down : Pipe) (w : PairRun) (frames : List (List ℕ)) (e : PairEnds) (n max : ℕ)
+    (piece : List ℕ)
     (fronts1 : FrontsState) (f : FrontFault)
     → InPairWorld mode up0 down0 up down w frames e → max ≡ min n e.down_there → piece ≡ take max (waiting down)
     → fronts1 ≡ after_taken e.fronts piece → fronts1.fault ≡ Some f → ⊥
@@ -311,7 +312,8 @@ no_fault mode up0 down0 up down w frames e n max piece fronts1 f in_world max_is
 -- ---- steps of the back end
 
 -- a frame that came up whole is answered
-pub answered_in : (mode : Mode) (up0 down0 up down up1 down1 : Pipe) (w : PairRun) (frame : List ℕ) (frames : List (List ℕ)) (e : PairEnds)
+pub answered_in : (mode : PairMode) (up0 down0 up down up1 down1 : Pipe) (w : PairRun) (frame : List ℕ) (frames : List (List ℕ))
+    (e : PairEnds)
     (mux : Mux) (side : PageSide) (old out bytes : List ℕ) (there : ℕ)
     → InPairWorld mode up0 down0 up down w (frame ∷ frames) e → PairRoom w.state
     → ((p : Pair) → PairStandsFor e.mux e.side p → PairStandsFor mux side (clients.pair_step false frame p).state)
@@ -330,7 +332,7 @@ answered_in mode up0 down0 up down up1 down1 w frame frames e mux side old out b
     (sent.0 ∙ ap (λ piece. down.sent ++ piece) same_out) sent.1 left)
 
 -- the script makes a step by itself
-pub turned_in : (mode : Mode) (up0 down0 up down up1 down1 : Pipe) (w : PairRun) (x : Turn) (whole : List (List ℕ)) (e : PairEnds)
+pub turned_in : (mode : PairMode) (up0 down0 up down up1 down1 : Pipe) (w : PairRun) (x : Turn) (whole : List (List ℕ)) (e : PairEnds)
     (mux : Mux) (side : PageSide) (old out bytes : List ℕ) (there : ℕ)
     → InPairWorld mode up0 down0 up down w (whole ++ awaited w.up) e → whole ≡ [] → PairRoom w.state → IsTurn x
     → ((p : Pair) → PairStandsFor e.mux e.side p → PairStandsFor mux side (pair_turn x p).state)

@@ -23,8 +23,8 @@ use Rattle.multi_replay.specs.Laws.{pair_value}
 use Rattle.multi_replay.proofs.PlaceLemmas.{from-folded}
 use Rattle.multi_replay.proofs.BothLemmas.{faults-are-of-fold}
 use Rattle.pair_world.specs.PairRuns.{PairRun}
-use Rattle.pair_world.specs.PairFresh.{FrontValues, pair_replay, PairRoom, no_fronts}
-use Rattle.pair_world.specs.PairHeld.{up_reads, PairEnds, Mode, calm, targeted, fit_in, KnowSession, InPairWorld}
+use Rattle.pair_world.specs.PairFresh.{FrontValues, pair_runner, PairRoom, no_fronts}
+use Rattle.pair_world.specs.PairHeld.{up_reads, PairEnds, PairMode, calm, targeted, fit_in, KnowSession, InPairWorld}
 use Rattle.pair_world.proofs.PairEndLemmas.{next_in, laws_in, pair-delivered_down}
 use Rattle.pair_world.proofs.PairNumbers.{pairs-same, numbered-taken}
 use Rattle.pair_world.proofs.PairSends.{session-taken}
@@ -133,16 +133,17 @@ one-taken s bytes = by s.fault where
 -- ---- no fault is met
 
 -- what comes down over an honest link is never refused
-pub never-refused : (mode : Mode) (up0 down0 up down : Pipe) (w : PairRun) (frames : List (List ℕ)) (e : PairEnds) (n : ℕ) (piece : List ℕ)
+pub never-refused : (mode : PairMode) (up0 down0 up down : Pipe) (w : PairRun) (frames : List (List ℕ)) (e : PairEnds) (n : ℕ)
+    (piece : List ℕ)
     → InPairWorld mode up0 down0 up down w frames e → piece ≡ take n w.down.flying → (after_taken e.fronts piece).fault ≡ None
 never-refused mode up0 down0 up down w frames e n piece in_world front_part = by (after_taken e.fronts piece).fault refl where
   begin : FrontValues
   begin = asks_joined (join_pair (value_reads up_reads)) (first_pair (value_reads up_reads)) (frames_of (sent w.up)).whole
 
-  more : TakesMore pair_replay PairRoom (next_in mode) (λ n. IsTurn) (fit_in mode) (laws_in mode) no_fronts w
+  more : TakesMore pair_runner PairRoom (next_in mode) (λ n. IsTurn) (fit_in mode) (laws_in mode) no_fronts w
       (pair_value in_world.fronts_are.asked e.fronts.pair) n
   more =
-      link-takes pair_replay PairRoom (next_in mode) (λ n. IsTurn) (fit_in mode) (laws_in mode) no_fronts
+      link-takes pair_runner PairRoom (next_in mode) (λ n. IsTurn) (fit_in mode) (laws_in mode) no_fronts
       (record { up = up0; down = down0 }) (record { up = up; down = down }) w frames
       (record { back_rest = e.back_rest; up_there = e.up_there; down_there = e.down_there })
       (pair_value in_world.fronts_are.asked e.fronts.pair) n in_world.on_link
@@ -161,13 +162,13 @@ never-refused mode up0 down0 up down w frames e n piece in_world front_part = by
 
 -- ---- bytes come down
 
-known-taken : (mode : Mode) (s : FrontsState) (bytes : List ℕ) (attached : Option ℕ) → KnowSession mode s.pair attached
+known-taken : (mode : PairMode) (s : FrontsState) (bytes : List ℕ) (attached : Option ℕ) → KnowSession mode s.pair attached
     → KnowSession mode (after_taken s bytes).pair attached
 known-taken calm s bytes attached known = session-taken s bytes attached known
 known-taken targeted s bytes attached known = tt
 
 -- the front ends take them
-pub pair-down : (mode : Mode) (up0 down0 up down down1 : Pipe) (w : PairRun) (frames : List (List ℕ)) (e : PairEnds) (n there : ℕ)
+pub pair-down : (mode : PairMode) (up0 down0 up down down1 : Pipe) (w : PairRun) (frames : List (List ℕ)) (e : PairEnds) (n there : ℕ)
     (piece : List ℕ)
     → InPairWorld mode up0 down0 up down w frames e → piece ≡ take n w.down.flying
     → down1.sent ≡ down.sent → down1.given ≡ down.given ++ piece → there ≡ e.down_there - length piece

@@ -35,8 +35,9 @@ use Rattle.pair_world.specs.PairFits.{PageSessions}
 use Rattle.pair_world.specs.FrameLaws.{IsUsual, sessions_of}
 use Rattle.pair_world.specs.SameSteps.{clients_of, AreSame}
 use Rattle.pair_world.specs.PairRuns.{PairSpent, PairRun, none_more}
-use Rattle.pair_world.specs.PairFresh.{FrontValues, pair_replay, no_fronts, PairRoom}
-use Rattle.pair_world.specs.PairHeld.{PairEnds, Mode, calm, targeted, fit_in, up_reads, AreNumbered, IsSecondOf, KnowSession, InPairWorld}
+use Rattle.pair_world.specs.PairFresh.{FrontValues, pair_runner, no_fronts, PairRoom}
+use Rattle.pair_world.specs.PairHeld.{PairEnds, PairMode, calm, targeted, fit_in, up_reads, NumberAsCounted, IsSecondOf, KnowSession}
+use Rattle.pair_world.specs.PairHeld.{InPairWorld}
 use Rattle.pair_world.proofs.FetchBoth.{NextOfPair}
 use Rattle.pair_world.proofs.FetchRuns.{NextWhileCalm, fit_laws, still_laws}
 use Rattle.pair_world.proofs.SameSteps.{frame-steps-are-same, turns-are-same}
@@ -44,11 +45,11 @@ use Rattle.pair_world.proofs.SameSteps.{frame-steps-are-same, turns-are-same}
 -- ---- the laws, whether an attach or a detach is on its way or none
 
 -- what may be sent next
-abbrev pub next_in : Mode → PairSpent → PageSessions → List (List ℕ) → List ℕ → PairSpent → Type 0
+abbrev pub next_in : PairMode → PairSpent → PageSessions → List (List ℕ) → List ℕ → PairSpent → Type 0
 next_in calm = NextWhileCalm
 next_in targeted = NextOfPair
 
-pub laws_in : (mode : Mode) → Laws pair_replay PairRoom (next_in mode) (λ n. IsTurn) (fit_in mode)
+pub laws_in : (mode : PairMode) → Laws pair_runner PairRoom (next_in mode) (λ n. IsTurn) (fit_in mode)
 laws_in calm = still_laws
 laws_in targeted = fit_laws
 
@@ -60,20 +61,20 @@ two-order : (side : Side) (second : RunClient) (next : ℕ) (asks : List Ask) (t
 two-order side second next asks _ _ neither = tt
 two-order side second next asks _ _ (both k v is_number few shows) = few
 
-in-order : (mode : Mode) (n : PairSpent) (p : FrontValues) (s : PageSessions) (frames : List (List ℕ)) → fit_in mode n p s frames
+in-order : (mode : PairMode) (n : PairSpent) (p : FrontValues) (s : PageSessions) (frames : List (List ℕ)) → fit_in mode n p s frames
     → AreInOrder (sessions_of s)
 in-order calm n p s frames fit = two-order s.side s.second s.next _ p.two s.attached fit.two
 in-order targeted n p s frames (is_calm c) = two-order s.side s.second s.next _ p.two s.attached c.two
 in-order targeted n p s frames (is_targeting t) = two-order s.side s.second s.next _ p.two s.attached t.so_far.two
 
 -- sessions are numbered from 1 on
-next-some : (mode : Mode) (n : PairSpent) (p : FrontValues) (s : PageSessions) (frames : List (List ℕ)) → fit_in mode n p s frames
+next-some : (mode : PairMode) (n : PairSpent) (p : FrontValues) (s : PageSessions) (frames : List (List ℕ)) → fit_in mode n p s frames
     → 0 < s.next
 next-some calm n p s frames fit = let top : p.top < s.next = fit.top in omega (arith, top)
 next-some targeted n p s frames (is_calm c) = let top : p.top < s.next = c.top in omega (arith, top)
 next-some targeted n p s frames (is_targeting t) = let top : p.top < s.next = t.so_far.top in omega (arith, top)
 
-module _ (mode : Mode) (up0 down0 up down : Pipe) (w : PairRun) (frames : List (List ℕ)) (e : PairEnds)
+module _ (mode : PairMode) (up0 down0 up down : Pipe) (w : PairRun) (frames : List (List ℕ)) (e : PairEnds)
     (in_world : InPairWorld mode up0 down0 up down w frames e) where
   -- both clients are such as can be
   pub world-pair : IsPair (clients_of w.state)
@@ -108,7 +109,8 @@ clients-room s room = record { root = room.0; second = room.1; number = room.2.1
 -- ---- the back end
 
 -- a step keeps which session the front ends know
-session-kept : (mode : Mode) (n : PairSpent) (p : FrontValues) (s : PageSessions) (frame : List ℕ) (frames : List (List ℕ)) (f : StatePair)
+session-kept : (mode : PairMode) (n : PairSpent) (p : FrontValues) (s : PageSessions) (frame : List ℕ) (frames : List (List ℕ))
+    (f : StatePair)
     → fit_in mode n p s (frame ∷ frames) → KnowSession mode f s.attached
     → KnowSession mode f (pair_step pair_reads client_steps s frame).state.attached
 session-kept calm n p s frame frames f fit known =
@@ -116,7 +118,8 @@ session-kept calm n p s frame frames f fit known =
 session-kept targeted n p s frame frames f fit known = tt
 
 -- a frame that came up whole is answered
-pub pair-answered : (mode : Mode) (up0 down0 up down down1 : Pipe) (w : PairRun) (frame : List ℕ) (frames : List (List ℕ)) (e : PairEnds)
+pub pair-answered : (mode : PairMode) (up0 down0 up down down1 : Pipe) (w : PairRun) (frame : List ℕ) (frames : List (List ℕ))
+    (e : PairEnds)
     (mux : Mux) (side : PageSide) (out : List ℕ) (there : ℕ)
     → InPairWorld mode up0 down0 up down w (frame ∷ frames) e → PairRoom w.state
     → PairStandsFor mux side (clients.pair_step false frame (clients_of w.state)).state
@@ -129,7 +132,7 @@ pair-answered mode up0 down0 up down down1 w frame frames e mux side out there i
     frame-steps-are-same frame w.state (All-head IsUsual frame frames in_world.usual)
     (world-pair mode up0 down0 up down w (frame ∷ frames) e in_world) (clients-room w.state room) in
     record {
-      on_link = link-answered pair_replay PairRoom (next_in mode) (λ n. IsTurn) (fit_in mode) (laws_in mode) no_fronts
+      on_link = link-answered pair_runner PairRoom (next_in mode) (λ n. IsTurn) (fit_in mode) (laws_in mode) no_fronts
           (record { up = up0; down = down0 }) (record { up = up; down = down }) down1 w frame frames
           (record { back_rest = e.back_rest; up_there = e.up_there; down_there = e.down_there }) out there in_world.on_link room
           (out_is ∙ sym same.sent) sent_is given_is left;
@@ -147,7 +150,7 @@ pair-answered mode up0 down0 up down down1 w frame frames e mux side out there i
     }
 
 -- the script makes a step by itself
-pub pair-turned : (mode : Mode) (up0 down0 up down down1 : Pipe) (w : PairRun) (x : Turn) (e : PairEnds) (mux : Mux) (side : PageSide)
+pub pair-turned : (mode : PairMode) (up0 down0 up down down1 : Pipe) (w : PairRun) (x : Turn) (e : PairEnds) (mux : Mux) (side : PageSide)
     (out : List ℕ) (there : ℕ)
     → InPairWorld mode up0 down0 up down w (awaited w.up) e → PairRoom w.state → IsTurn x
     → PairStandsFor mux side (pair_turn x (clients_of w.state)).state → out ≡ (pair_turn x (clients_of w.state)).sent
@@ -158,7 +161,7 @@ pair-turned mode up0 down0 up down down1 w x e mux side out there in_world room 
     let same : AreSame (pair_act pair_reads client_steps x w.state) (pair_turn x (clients_of w.state)) =
     turns-are-same x w.state is_turn (world-pair mode up0 down0 up down w (awaited w.up) e in_world) (clients-room w.state room) in
     record {
-      on_link = link-turned pair_replay PairRoom (next_in mode) (λ n. IsTurn) (fit_in mode) (laws_in mode) no_fronts
+      on_link = link-turned pair_runner PairRoom (next_in mode) (λ n. IsTurn) (fit_in mode) (laws_in mode) no_fronts
           (record { up = up0; down = down0 }) (record { up = up; down = down }) down1 w x
           (record { back_rest = e.back_rest; up_there = e.up_there; down_there = e.down_there }) out there in_world.on_link room is_turn
           (out_is ∙ sym same.sent) sent_is given_is left;
@@ -175,13 +178,13 @@ pair-turned mode up0 down0 up down down1 w x e mux side out there in_world room 
     }
 
 -- bytes come up
-pub pair-given_up : (mode : Mode) (up0 down0 up down up1 : Pipe) (w : PairRun) (e : PairEnds) (n there : ℕ) (piece rest : List ℕ)
+pub pair-given_up : (mode : PairMode) (up0 down0 up down up1 : Pipe) (w : PairRun) (e : PairEnds) (n there : ℕ) (piece rest : List ℕ)
     → InPairWorld mode up0 down0 up down w (awaited w.up) e → piece ≡ take n w.up.flying
     → up1.sent ≡ up.sent → up1.given ≡ up.given ++ piece → there ≡ e.up_there - length piece → rest ≡ held_after e.back_rest piece
     → InPairWorld mode up0 down0 up1 down (given_up n w) (arriving n w.up ++ awaited (passed n w.up))
     (record e { back_rest = rest; up_there = there })
 pair-given_up mode up0 down0 up down up1 w e n there piece rest in_world front_part sent_is given_is left rest_is = record {
-  on_link = link-given_up pair_replay PairRoom (next_in mode) (λ n. IsTurn) (fit_in mode) (laws_in mode) no_fronts
+  on_link = link-given_up pair_runner PairRoom (next_in mode) (λ n. IsTurn) (fit_in mode) (laws_in mode) no_fronts
       (record { up = up0; down = down0 }) (record { up = up; down = down }) up1 w
       (record { back_rest = e.back_rest; up_there = e.up_there; down_there = e.down_there }) n there piece rest in_world.on_link front_part
       sent_is given_is left rest_is;
@@ -200,11 +203,11 @@ pair-given_up mode up0 down0 up down up1 w e n there piece rest in_world front_p
 -- ---- the front ends
 
 -- A frame is sent: the front ends are the fold with it, and number what they send as the run counts it.
-pub pair-sent : (mode : Mode) (up0 down0 up down up1 : Pipe) (w : PairRun) (e : PairEnds) (text : List ℕ) (more : PairSpent → PairSpent)
+pub pair-sent : (mode : PairMode) (up0 down0 up down up1 : Pipe) (w : PairRun) (e : PairEnds) (text : List ℕ) (more : PairSpent → PairSpent)
     (fronts : FrontsState) (there : ℕ)
     → InPairWorld mode up0 down0 up down w (awaited w.up) e → IsText text → IsUsual text
     → next_in mode w.spent w.state (awaited w.up) text (more w.spent)
-    → IsFoldOfBoth up_reads (sent w.up ++ framed text) w.down.given fronts → AreNumbered (more w.spent) fronts
+    → IsFoldOfBoth up_reads (sent w.up ++ framed text) w.down.given fronts → NumberAsCounted (more w.spent) fronts
     → KnowSession mode fronts.pair w.state.attached
     → fronts.dead ≡ e.fronts.dead → fronts.pair.one.dead ≡ e.fronts.pair.one.dead → fronts.pair.one.panels ≡ e.fronts.pair.one.panels
     → up1.sent ≡ up.sent ++ framed text → up1.given ≡ up.given → there ≡ e.up_there + length (framed text)
@@ -213,7 +216,7 @@ pub pair-sent : (mode : Mode) (up0 down0 up down up1 : Pipe) (w : PairRun) (e : 
 pair-sent mode up0 down0 up down up1 w e text more fronts there in_world letters is_usual next fold numbered session alive first_alive
     panels
     sent_is given_is left = record {
-      on_link = link-sent_up pair_replay PairRoom (next_in mode) (λ n. IsTurn) (fit_in mode) (laws_in mode) no_fronts
+      on_link = link-sent_up pair_runner PairRoom (next_in mode) (λ n. IsTurn) (fit_in mode) (laws_in mode) no_fronts
           (record { up = up0; down = down0 }) (record { up = up; down = down }) up1 w
           (record { back_rest = e.back_rest; up_there = e.up_there; down_there = e.down_there }) text more there in_world.on_link letters
           next sent_is given_is left;
@@ -231,16 +234,18 @@ pair-sent mode up0 down0 up down up1 w e text more fronts there in_world letters
     }
 
 -- Bytes come down: the front ends take them, and meet no fault.
-pub pair-delivered_down : (mode : Mode) (up0 down0 up down down1 : Pipe) (w : PairRun) (frames : List (List ℕ)) (e : PairEnds) (n there : ℕ)
+pub pair-delivered_down : (mode : PairMode) (up0 down0 up down down1 : Pipe) (w : PairRun) (frames : List (List ℕ)) (e : PairEnds)
+    (n there : ℕ)
     (piece : List ℕ) (fronts : FrontsState)
     → InPairWorld mode up0 down0 up down w frames e → piece ≡ take n w.down.flying
-    → fronts ≡ after_taken e.fronts piece → fronts.fault ≡ None → AreNumbered w.spent fronts → KnowSession mode fronts.pair w.state.attached
+    → fronts ≡ after_taken e.fronts piece → fronts.fault ≡ None → NumberAsCounted w.spent fronts
+    → KnowSession mode fronts.pair w.state.attached
     → fronts.dead ≡ e.fronts.dead → fronts.pair.one.dead ≡ e.fronts.pair.one.dead → fronts.pair.one.panels ≡ e.fronts.pair.one.panels
     → down1.sent ≡ down.sent → down1.given ≡ down.given ++ piece → there ≡ e.down_there - length piece
     → InPairWorld mode up0 down0 up down1 (delivered_down n w) frames (record e { fronts = fronts; down_there = there })
 pair-delivered_down mode up0 down0 up down down1 w frames e n there piece fronts in_world front_part fronts_is well numbered session alive
     first_alive panels sent_is given_is left = record {
-      on_link = link-delivered_down pair_replay PairRoom (next_in mode) (λ n. IsTurn) (fit_in mode) (laws_in mode) no_fronts
+      on_link = link-delivered_down pair_runner PairRoom (next_in mode) (λ n. IsTurn) (fit_in mode) (laws_in mode) no_fronts
           (record { up = up0; down = down0 }) (record { up = up; down = down }) down1 w frames
           (record { back_rest = e.back_rest; up_there = e.up_there; down_there = e.down_there }) n there piece in_world.on_link front_part
           sent_is given_is left;

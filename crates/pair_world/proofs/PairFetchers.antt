@@ -11,7 +11,7 @@ use Rattle.session_runs.specs.Pairs.{Second}
 use Rattle.multi_replay.specs.States.{StatePair, is_there, front_meant}
 use Rattle.multi_replay.specs.Laws.{second_value, pair_value}
 use Rattle.pair_world.specs.PairRuns.{PairSpent, PairRun}
-use Rattle.pair_world.specs.PairFresh.{FrontValues, first_fetcher, second_fetcher, of_session}
+use Rattle.pair_world.specs.PairFresh.{FrontValues, first_fetcher, second_fetcher, of_second_session}
 use Rattle.pair_world.specs.PairHeld.{PairEnds, calm, InPairWorld}
 use Rattle.pair_world.specs.PairSendings.{fetcher_on}
 use Rattle.pair_world.proofs.PairKnown.{second-is}
@@ -25,9 +25,9 @@ pub record FetcherIs (second : Bool) (attached : Option ℕ) (values : FrontValu
 
 -- what is asked of the second front end in its session is asked of its value
 second-asked : {A : Type 0} (t : List ℕ) (f : FrontValue → A) (other : A) (p : StatePair) (v : Second FrontState (List ℕ)) → p.two ≡ Some v
-    → v.text ≡ t → of_session t f other (option_map second_value p.two) ≡ f (front_meant true p).value
+    → v.text ≡ t → of_second_session t f other (option_map second_value p.two) ≡ f (front_meant true p).value
 second-asked t f other p v stands text =
-    ap (λ o. of_session t f other (option_map second_value o)) stands
+    ap (λ o. of_second_session t f other (option_map second_value o)) stands
     ∙ ap (λ b. cond b (f v.value.value) other) ((bytes_eq-Decides v.text t).1 text)
     ∙ ap (λ o. f (unwrap_or (option_map (λ (x : Second FrontState (List ℕ)). x.value) o) p.one).value) (sym stands)
 

@@ -25,8 +25,8 @@ use Rattle.inspect_world.specs.Fits.{most_fetches}
 use Rattle.pair_world.specs.Clients.{pair_reads, RunClient, client_steps}
 use Rattle.pair_world.specs.Shown.{IsSessionNumber, Shows}
 use Rattle.pair_world.specs.PairRuns.{PairSpent, PairRun, one_fetch_on, fetches_on, pair_settled}
-use Rattle.pair_world.specs.PairFresh.{pair_replay, FrontValues, PairIsCalm, PairIsFit, no_fronts, PairHasLeft}
-use Rattle.pair_world.specs.PairHeld.{up_reads, PairEnds, SecondCounted, AreNumbered, Mode, calm, targeted, IsSecondOf}
+use Rattle.pair_world.specs.PairFresh.{pair_runner, FrontValues, PairIsCalm, PairIsFit, no_fronts, PairHasLeft}
+use Rattle.pair_world.specs.PairHeld.{up_reads, PairEnds, SecondCounted, NumberAsCounted, PairMode, calm, targeted, IsSecondOf}
 use Rattle.pair_world.specs.PairHeld.{InPairWorld}
 use Rattle.pair_world.specs.PairSendings.{PairHasIds}
 use Rattle.pair_world.proofs.DeedLemmas.{number-of}
@@ -113,7 +113,7 @@ ids-fetched true n few ids = record {
 }
 
 -- each front end has room then
-pub world-ids : (n : PairSpent) (s : FrontsState) → AreNumbered n s → PairHasIds n → HaveRoom s
+pub world-ids : (n : PairSpent) (s : FrontsState) → NumberAsCounted n s → PairHasIds n → HaveRoom s
 world-ids n s num ids =
     let next = num.asks in
     let few = ids.asks in
@@ -135,9 +135,9 @@ world-ids n s num ids =
 -- ---- the values of the front ends
 
 -- the front ends of the run are those of the ends
-pub world-fronts : (mode : Mode) (up0 down0 up down : Pipe) (w : PairRun) (frames : List (List ℕ)) (e : PairEnds)
+pub world-fronts : (mode : PairMode) (up0 down0 up down : Pipe) (w : PairRun) (frames : List (List ℕ)) (e : PairEnds)
     (in_world : InPairWorld mode up0 down0 up down w frames e)
-    → front_in pair_replay no_fronts w ≡ Ok (pair_value in_world.fronts_are.asked e.fronts.pair)
+    → front_in pair_runner no_fronts w ≡ Ok (pair_value in_world.fronts_are.asked e.fronts.pair)
 world-fronts mode up0 down0 up down w frames e in_world =
     as-folded (value_reads up_reads) (frames_of w.down.given).whole
     (asks_joined (join_pair (value_reads up_reads)) (first_pair (value_reads up_reads)) (frames_of (sent w.up)).whole)
@@ -195,7 +195,7 @@ second-fits side second next asks _ _ (Some u) (both k v is_number few shows) is
     same a b e = cc
 
 -- Once all has come, no attach and no detach is on its way, and the front ends know which session is attached.
-pub world-calm : (mode : Mode) (up0 down0 up down : Pipe) (w : PairRun) (frames : List (List ℕ)) (e : PairEnds)
+pub world-calm : (mode : PairMode) (up0 down0 up down : Pipe) (w : PairRun) (frames : List (List ℕ)) (e : PairEnds)
     → InPairWorld mode up0 down0 up down w frames e → frames ≡ [] → w.down.flying ≡ [] → InPairWorld calm up0 down0 up down w frames e
 world-calm calm up0 down0 up down w frames e in_world none still = in_world
 world-calm targeted up0 down0 up down w frames e in_world none still =
@@ -244,7 +244,7 @@ world-calm targeted up0 down0 up down w frames e in_world none still =
     ok-same a b e = cc
 
 -- where nothing is on its way, the run is at rest
-pub world-rests : (mode : Mode) (up0 down0 up down : Pipe) (w : PairRun) (frames : List (List ℕ)) (e : PairEnds)
+pub world-rests : (mode : PairMode) (up0 down0 up down : Pipe) (w : PairRun) (frames : List (List ℕ)) (e : PairEnds)
     → InPairWorld mode up0 down0 up down w frames e → w.up.flying ≡ [] → w.down.flying ≡ [] → IsAtRest w
 world-rests mode up0 down0 up down w frames e in_world up_still down_still =
     let fits = in_world.on_link.fits in
@@ -260,7 +260,7 @@ world-rests mode up0 down0 up down w frames e in_world up_still down_still =
     }
 
 -- so it is after all was delivered: no attach and no detach is on its way then
-pub settled-calm : (mode : Mode) (up0 down0 up down : Pipe) (w : PairRun) (e : PairEnds)
+pub settled-calm : (mode : PairMode) (up0 down0 up down : Pipe) (w : PairRun) (e : PairEnds)
     → InPairWorld mode up0 down0 up down (pair_settled w) (awaited (pair_settled w).up) e
     → InPairWorld calm up0 down0 up down (pair_settled w) (awaited (pair_settled w).up) e × IsAtRest (pair_settled w)
 settled-calm mode up0 down0 up down w e in_world =

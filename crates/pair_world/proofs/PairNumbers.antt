@@ -19,14 +19,14 @@ use Rattle.front_mirror.specs.declared.faults.FrontFault.{FrontFault}
 use Rattle.multi_replay.specs.States.{StatePair, FrontsState, is_there, after_target, after_asked, after_fetched}
 use Rattle.multi_replay.specs.States.{after_taken, after_down_bytes, unless_faulty}
 use Rattle.pair_world.specs.PairRuns.{PairSpent, one_ask_on, one_fetch_on, one_attach, one_detach}
-use Rattle.pair_world.specs.PairHeld.{SecondCounted, CountsNone, AreNumbered}
+use Rattle.pair_world.specs.PairHeld.{SecondCounted, CountsNone, NumberAsCounted}
 
 -- ---- what front ends send
 
 -- an ask of the front end that is meant
 pub numbered-asked : (second : Bool) (n : PairSpent) (s : FrontsState) (method : List ℕ) → is_there second s.pair ≡ true
     → (second ≡ true → All (λ (t : WaitingTarget). t.kind ≡ attach → ⊥) s.pair.waiting)
-    → AreNumbered n s → AreNumbered (one_ask_on second n) (after_asked s second method)
+    → NumberAsCounted n s → NumberAsCounted (one_ask_on second n) (after_asked s second method)
 numbered-asked false n s method there none num = record {
   asks = ap (λ k. k + 1) num.asks;
   fetches = num.fetches;
@@ -52,7 +52,7 @@ numbered-asked true n s method there none num = record {
 -- a fetch of it
 pub numbered-fetched : (second : Bool) (n : PairSpent) (s : FrontsState) (sheet : ℕ) → is_there second s.pair ≡ true
     → (second ≡ true → All (λ (t : WaitingTarget). t.kind ≡ attach → ⊥) s.pair.waiting)
-    → AreNumbered n s → AreNumbered (one_fetch_on second n) (after_fetched s second sheet)
+    → NumberAsCounted n s → NumberAsCounted (one_fetch_on second n) (after_fetched s second sheet)
 numbered-fetched false n s sheet there none num = record {
   asks = num.asks;
   fetches = ap (λ k. k + 1) num.fetches;
@@ -76,8 +76,8 @@ numbered-fetched true n s sheet there none num = record {
     by (Some w) counted = (counted.0, ap (λ k. k + 1) counted.1)
 
 -- an attach, where no second front end stands
-pub numbered-attach : (n : PairSpent) (s : FrontsState) → is_there true s.pair ≡ false → AreNumbered n s
-    → AreNumbered (one_attach n) (after_target s attach)
+pub numbered-attach : (n : PairSpent) (s : FrontsState) → is_there true s.pair ≡ false → NumberAsCounted n s
+    → NumberAsCounted (one_attach n) (after_target s attach)
 numbered-attach n s alone num = record {
   asks = num.asks;
   fetches = num.fetches;
@@ -94,7 +94,7 @@ numbered-attach n s alone num = record {
     by (Some w) alone = absurd cc
 
 -- a detach
-pub numbered-detach : (n : PairSpent) (s : FrontsState) → AreNumbered n s → AreNumbered (one_detach n) (after_target s detach)
+pub numbered-detach : (n : PairSpent) (s : FrontsState) → NumberAsCounted n s → NumberAsCounted (one_detach n) (after_target s detach)
 numbered-detach n s num = record {
   asks = num.asks;
   fetches = num.fetches;
@@ -280,7 +280,7 @@ folded-numbered n (frame ∷ frames) p taken num =
     by (Err kind) is next = num
 
 -- bytes that come down
-pub numbered-taken : (n : PairSpent) (s : FrontsState) (bytes : List ℕ) → AreNumbered n s → AreNumbered n (after_taken s bytes)
+pub numbered-taken : (n : PairSpent) (s : FrontsState) (bytes : List ℕ) → NumberAsCounted n s → NumberAsCounted n (after_taken s bytes)
 numbered-taken n s bytes num = by s.fault where
   so_far : PairNumbered n s.pair
   so_far = record { asks = num.asks; fetches = num.fetches; second = num.second; attaching = num.attaching }
@@ -288,7 +288,7 @@ numbered-taken n s bytes num = by s.fault where
   done : PairNumbered n (pair_folded state_reads s.pair s.taken (frames_from s.rest bytes)).pair
   done = folded-numbered n (frames_from s.rest bytes) s.pair s.taken so_far
 
-  by : (fault : Option FrontFault) → AreNumbered n (unless_faulty fault s (after_down_bytes s bytes))
+  by : (fault : Option FrontFault) → NumberAsCounted n (unless_faulty fault s (after_down_bytes s bytes))
   by None = record {
     asks = done.asks;
     fetches = done.fetches;

@@ -40,7 +40,8 @@ use Rattle.pair_world.specs.SessionWays.{frame_way}
 use Rattle.pair_world.specs.Clients.{pair_reads, client_steps}
 use Rattle.pair_world.specs.Shown.{IsSessionNumber, MaySend}
 use Rattle.pair_world.specs.PairFits.{PairFits, MayComeAll}
-use Rattle.pair_world.specs.PairRuns.{PairSpent, PairAudience, PairRun, Deed, pair_loaded_run, pair_settled, after_deed_by, after_deeds_by}
+use Rattle.pair_world.specs.PairRuns.{PairSpent, PairAudience, PairRun, PairDeed, pair_loaded_run, pair_settled, after_deed_by}
+use Rattle.pair_world.specs.PairRuns.{after_deeds_by}
 use Rattle.pair_world.specs.PairRuns.{none_more}
 use Rattle.pair_world.specs.PairRuns.{next_target}
 use Rattle.pair_world.specs.PairRuns.{one_attach, one_detach}
@@ -58,7 +59,7 @@ use Rattle.pair_world.proofs.DeedLemmas.{object-params, number-of}
 -- ---- one part of a run
 
 -- a part that may come keeps that both front ends show their sessions
-deed-fits : (d : Deed) (w : PairRun) → MayComeAll none_more (d ∷ []) w → PairFits w → PairFits (after_deed_by pair_settled d w)
+deed-fits : (d : PairDeed) (w : PairRun) → MayComeAll none_more (d ∷ []) w → PairFits w → PairFits (after_deed_by pair_settled d w)
 deed-fits (passing (sending text more)) w may fits = passages-fit-pairs none_more 1 (passing (sending text more) ∷ []) w may fits
 deed-fits (passing (turning x)) w may fits = passages-fit-pairs none_more 1 (passing (turning x) ∷ []) w may fits
 deed-fits (passing (delivering_up n)) w may fits = passages-fit-pairs none_more 1 (passing (delivering_up n) ∷ []) w may fits
@@ -159,7 +160,7 @@ line-may n line w later lacks small fits room = told-fits (after_deeds w line) (
     after_deeds : PairRun → PairForm → PairRun
     after_deeds w line = after_deeds_by pair_settled (deeds line w) w
 
-    one : (d : Deed) → MayComeAll none_more (d ∷ []) w → PairFits (after_deeds_by pair_settled (d ∷ []) w)
+    one : (d : PairDeed) → MayComeAll none_more (d ∷ []) w → PairFits (after_deeds_by pair_settled (d ∷ []) w)
     one d may = deed-fits d w may fits
 
     attached-number : (k : ℕ) → w.state.attached ≡ Some k → IsSessionNumber k

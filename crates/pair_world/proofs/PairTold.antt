@@ -20,8 +20,8 @@ use Rattle.inspect_world.specs.World.{AlreadyTold, nothing_told}
 use Rattle.pair_world.specs.FrameLaws.{IsUsual}
 use Rattle.pair_world.specs.PairFits.{pair_loaded}
 use Rattle.pair_world.specs.PairRuns.{PairRun, pair_nothing_spent, pair_audience, pair_loaded_run}
-use Rattle.pair_world.specs.PairFresh.{pair_replay, PairIsCalm, PairRoom, no_fronts}
-use Rattle.pair_world.specs.PairHeld.{up_reads, PairEnds, CountsNone, Mode, calm, targeted, fit_in, KnowSession, InPairWorld}
+use Rattle.pair_world.specs.PairFresh.{pair_runner, PairIsCalm, PairRoom, no_fronts}
+use Rattle.pair_world.specs.PairHeld.{up_reads, PairEnds, CountsNone, PairMode, calm, targeted, fit_in, KnowSession, InPairWorld}
 use Rattle.pair_world.proofs.ClientLemmas.{shows-fresh}
 use Rattle.pair_world.proofs.SameSteps.{starts-are-same}
 use Rattle.pair_world.proofs.PairEndLemmas.{next_in, laws_in}
@@ -29,7 +29,8 @@ use Rattle.pair_world.proofs.PairEndLemmas.{next_in, laws_in}
 -- ---- what was told
 
 -- so much was told of each front end, which says nothing of the link
-pub world-told : (mode : Mode) (up0 down0 up down : Pipe) (w : PairRun) (frames : List (List ℕ)) (e : PairEnds) (first second : AlreadyTold)
+pub world-told : (mode : PairMode) (up0 down0 up down : Pipe) (w : PairRun) (frames : List (List ℕ)) (e : PairEnds)
+    (first second : AlreadyTold)
     → InPairWorld mode up0 down0 up down w frames e
     → InPairWorld mode up0 down0 up down (record w { told = record { first = first; second = second; panels = w.told.panels } }) frames
     (record e { first_told = first; second_told = second })
@@ -69,7 +70,7 @@ abbrev pub panels_on : List (Option PanelKind) → FrontsState → FrontsState
 panels_on panels s = record s { pair = record s.pair { one = record s.pair.one { panels = panels } } }
 
 -- panels say nothing of the link either
-pub world-panels : (mode : Mode) (up0 down0 up down : Pipe) (w : PairRun) (frames : List (List ℕ)) (e : PairEnds)
+pub world-panels : (mode : PairMode) (up0 down0 up down : Pipe) (w : PairRun) (frames : List (List ℕ)) (e : PairEnds)
     (panels : List (Option PanelKind))
     → InPairWorld mode up0 down0 up down w frames e
     → InPairWorld mode up0 down0 up down (record w { told = record w.told { panels = panels } }) frames
@@ -121,7 +122,7 @@ world-panels mode up0 down0 up down w frames e panels in_world =
       second_told = in_world.second_told;
     }
   where
-    known : (mode : Mode) → KnowSession mode e.fronts.pair w.state.attached
+    known : (mode : PairMode) → KnowSession mode e.fronts.pair w.state.attached
         → KnowSession mode (panels_on panels e.fronts).pair w.state.attached
     known calm k = k
     known targeted k = tt
@@ -143,7 +144,7 @@ pub world-first : (up0 down0 : Pipe) (kinds : List PanelKind) (page : LoadedPage
       second_told = nothing_told;
     })
 world-first up0 down0 kinds page mux side can texts up_level down_level new = record {
-  on_link = link-first pair_replay PairRoom (next_in calm) (λ n. IsTurn) (fit_in calm) (laws_in calm) no_fronts
+  on_link = link-first pair_runner PairRoom (next_in calm) (λ n. IsTurn) (fit_in calm) (laws_in calm) no_fronts
       (record { up = up0; down = down0 }) pair_nothing_spent (pair_audience kinds) (pair_loaded page) up_level down_level
       begins;
   usual = All-nil IsUsual;

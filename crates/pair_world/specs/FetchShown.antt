@@ -23,7 +23,7 @@ use Rattle.pair_world.specs.Clients.{RunClient, state_of}
 use Rattle.pair_world.specs.PairRuns.{PairRun, pair_loaded_run, pair_settled, came_on}
 use Rattle.pair_world.specs.PairScripts.{deeds, after_pair_lines, pair_shown_lines}
 use Rattle.pair_world.specs.PairScriptsFit.{IsPairLater}
-use Rattle.pair_world.specs.PairFresh.{FrontValues, pair_replay, no_fronts, pair_refreshes, fresh_pair_line, fresh_pair_lines, PairTogether}
+use Rattle.pair_world.specs.PairFresh.{FrontValues, pair_runner, no_fronts, pair_refreshes, fresh_pair_line, fresh_pair_lines, PairTogether}
 use Rattle.pair_world.specs.PairFresh.{RefreshHasRoom, DeedsHaveRoom}
 
 -- ---- frames that fetch nothing
@@ -68,7 +68,7 @@ pub record BothShowFresh (w : PairRun) (p : FrontValues) : Type 0 where
 -- The run with fetches has given both front ends all that they show, beside the run that the report tells.
 pub record PairShowsFresh (w v : PairRun) : Type 0 where
   pub fronts : FrontValues
-  pub is_fold : front_in pair_replay no_fronts v ≡ Ok fronts
+  pub is_fold : front_in pair_runner no_fronts v ≡ Ok fronts
   pub shown : BothShowFresh w fronts
 
 -- Two runs of one script, one with fetches and one without: after a settle of both, each front end shows its client, with each text.

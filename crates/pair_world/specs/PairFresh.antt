@@ -36,7 +36,7 @@ use Rattle.pair_world.specs.Clients.{pair_reads, client_steps}
 use Rattle.pair_world.specs.Shown.{IsSessionNumber, HasRoomFor, MaySend, Shows}
 use Rattle.pair_world.specs.PairFits.{PageSessions, PairFits}
 use Rattle.pair_world.specs.PairRuns.{PairSpent, pair_plainly, one_fetch_on, none_more, PairRun, pair_loaded_run}
-use Rattle.pair_world.specs.PairRuns.{Deed, pair_settled, after_deed_by}
+use Rattle.pair_world.specs.PairRuns.{PairDeed, pair_settled, after_deed_by}
 use Rattle.pair_world.specs.PairScripts.{deeds, after_pair_line, after_pair_line_by, after_pair_lines_by, pair_lacking}
 use Rattle.pair_world.specs.PairScripts.{pair_page}
 
@@ -49,8 +49,8 @@ abbrev pub no_fronts : FrontValues
 no_fronts = first_pair pair_reads
 
 -- how the run of two sessions goes on
-abbrev pub pair_replay : Machine PageSessions FrontValues FrontKind Turn PairSpent
-pair_replay = pair_machine pair_reads client_steps none_more
+abbrev pub pair_runner : Machine PageSessions FrontValues FrontKind Turn PairSpent
+pair_runner = pair_machine pair_reads client_steps none_more
 
 -- ---- fetches
 
@@ -70,15 +70,15 @@ first_fetcher = record {
 }
 
 -- a value of the second front end, where it stands and has the session of that text
-abbrev pub of_session : {A : Type 0} → List ℕ → (FrontValue → A) → A → Option (Second FrontValue (List ℕ)) → A
-of_session text f other None = other
-of_session text f other (Some w) = cond (bytes_eq w.text text) (f w.value) other
+abbrev pub of_second_session : {A : Type 0} → List ℕ → (FrontValue → A) → A → Option (Second FrontValue (List ℕ)) → A
+of_second_session text f other None = other
+of_second_session text f other (Some w) = cond (bytes_eq w.text text) (f w.value) other
 
 -- the fetches of the second front end, in the session of that number
 abbrev pub second_fetcher : ℕ → Fetcher FrontValues PairSpent
 second_fetcher k = record {
-  stale = λ p. of_session (session_text k) (λ v. stale_of v.sheets) [] p.two;
-  knows = λ p number. of_session (session_text k) (λ v. has_sheet number v.sheets) false p.two;
+  stale = λ p. of_second_session (session_text k) (λ v. stale_of v.sheets) [] p.two;
+  knows = λ p number. of_second_session (session_text k) (λ v. has_sheet number v.sheets) false p.two;
   text = fetch_in (Some (string (session_text k)));
   count = λ n. n.second_fetches;
   one_more = one_fetch_on true;
@@ -88,12 +88,12 @@ second_fetcher k = record {
 abbrev pub second_fetched : Option ℕ → PairRun → PairRun
 second_fetched None w = w
 second_fetched (Some k) w =
-    all_fetched pair_replay (second_fetcher k) no_fronts (stale_in (second_fetcher k) (front_in pair_replay no_fronts w)) w
+    all_fetched pair_runner (second_fetcher k) no_fronts (stale_in (second_fetcher k) (front_in pair_runner no_fronts w)) w
 
 -- a settle with its fetches: those of the first front end, and then those of the second
 abbrev pub pair_refreshes : PairRun → PairRun
 pair_refreshes w =
-    let first = refreshed pair_replay first_fetcher no_fronts w in
+    let first = refreshed pair_runner first_fetcher no_fronts w in
     second_fetched first.state.attached first
 
 -- the run after a line
@@ -134,7 +134,7 @@ pub record PairHasLeft (n : PairSpent) (bytes : ℕ) : Type 0 where
 -- w is the run that the report tells, and v the same with fetches; in neither an attach or a detach waits, as between two lines; lines of
 -- so many bytes more may be carried out
 pub record PairTogether (IsPlain : List ℕ → Type 0) (bytes : ℕ) (w v : PairRun) : Type 0 where
-  pub runs : RunTogether pair_replay pair_plainly PairIsFit no_fronts pair_unstyled IsPlain w v
+  pub runs : RunTogether pair_runner pair_plainly PairIsFit no_fronts pair_unstyled IsPlain w v
   pub calm : PairFits w
   pub calm_fresh : PairFits v
   pub left : PairHasLeft v.spent bytes
@@ -147,23 +147,23 @@ PairRoom s = BothHaveRoom pair_reads client_steps IsSessionNumber HasRoomFor s
 
 -- there is room for the steps on all that is on its way up
 abbrev pub SettleHasRoom : PairRun → Type 0
-SettleHasRoom w = RoomToSettle pair_replay PairRoom w
+SettleHasRoom w = RoomToSettle pair_runner PairRoom w
 
 -- Where some text is old that this front end would fetch, once all has come, there is room for a step. A fetch leaves the state as it is,
 -- so there is for each.
 abbrev pub FetchesHaveRoom : Fetcher FrontValues PairSpent → PairRun → Type 0
-FetchesHaveRoom fetcher w = (stale_in fetcher (front_in pair_replay no_fronts w) ≡ [] → ⊥) → PairRoom w.state
+FetchesHaveRoom fetcher w = (stale_in fetcher (front_in pair_runner no_fronts w) ≡ [] → ⊥) → PairRoom w.state
 
 -- the same of the second front end, where a session is attached
-abbrev pub SecondHasRoom : Option ℕ → PairRun → Type 0
-SecondHasRoom None w = ⊤
-SecondHasRoom (Some k) w = FetchesHaveRoom (second_fetcher k) w
+abbrev pub SecondFetchesHaveRoom : Option ℕ → PairRun → Type 0
+SecondFetchesHaveRoom None w = ⊤
+SecondFetchesHaveRoom (Some k) w = FetchesHaveRoom (second_fetcher k) w
 
 -- there is room for a settle and its fetches
 abbrev pub RefreshHasRoom : PairRun → Type 0
 RefreshHasRoom w =
-    let first = refreshed pair_replay first_fetcher no_fronts w in
-    SettleHasRoom w × FetchesHaveRoom first_fetcher (pair_settled w) × SecondHasRoom first.state.attached first
+    let first = refreshed pair_runner first_fetcher no_fronts w in
+    SettleHasRoom w × FetchesHaveRoom first_fetcher (pair_settled w) × SecondFetchesHaveRoom first.state.attached first
 
 -- there is room for a part of a run
 abbrev pub PassageHasRoom : Passage Turn PairSpent → PairRun → Type 0
@@ -174,12 +174,12 @@ PassageHasRoom (delivering_down n) w = ⊤
 PassageHasRoom settling w = RefreshHasRoom w
 
 -- for one that may be an attach or a detach
-abbrev pub DeedHasRoom : Deed → PairRun → Type 0
+abbrev pub DeedHasRoom : PairDeed → PairRun → Type 0
 DeedHasRoom (passing p) w = PassageHasRoom p w
 DeedHasRoom (targeting text more) w = RefreshHasRoom w × RefreshHasRoom (sent_up text more (pair_refreshes w))
 
 -- for some of them
-abbrev pub DeedsHaveRoom : List Deed → PairRun → Type 0
+abbrev pub DeedsHaveRoom : List PairDeed → PairRun → Type 0
 DeedsHaveRoom [] w = ⊤
 DeedsHaveRoom (d ∷ ds) w = DeedHasRoom d w × DeedsHaveRoom ds (after_deed_by pair_refreshes d w)
 

@@ -19,7 +19,7 @@ use Rattle.pair_world.specs.SessionWays.{frame_way}
 use Rattle.pair_world.specs.FrameLaws.{IsUsual}
 use Rattle.pair_world.specs.SameSteps.{clients_of}
 use Rattle.pair_world.specs.PairRuns.{PairSpent, PairRun, next_target}
-use Rattle.pair_world.specs.PairFresh.{pair_replay, FrontValues, PairIsCalm, PairIsFit, no_fronts}
+use Rattle.pair_world.specs.PairFresh.{pair_runner, FrontValues, PairIsCalm, PairIsFit, no_fronts}
 use Rattle.pair_world.specs.PairFits.{PageSessions}
 
 -- the frames that go up, as the fold of two front ends reads them
@@ -48,7 +48,7 @@ abbrev pub CountsNone : PairSpent → WaitingTarget → Type 0
 CountsNone n t = t.kind ≡ attach → (n.second_asks ≡ 0) × (n.second_fetches ≡ 0)
 
 -- front ends number what they send as the run counts it
-pub record AreNumbered (n : PairSpent) (s : FrontsState) : Type 0 where
+pub record NumberAsCounted (n : PairSpent) (s : FrontsState) : Type 0 where
   pub asks : s.pair.one.next ≡ n.asks + 1
   pub fetches : s.pair.one.fetches ≡ n.fetches
   pub second : SecondCounted n s.pair.two
@@ -56,12 +56,12 @@ pub record AreNumbered (n : PairSpent) (s : FrontsState) : Type 0 where
   pub targets : s.next ≡ next_target n
 
 -- Whether an attach or a detach is on its way, as it is between the two settles of its line alone.
-pub data Mode : Type 0 where
-  calm : Mode
-  targeted : Mode
+pub data PairMode : Type 0 where
+  calm : PairMode
+  targeted : PairMode
 
 -- what ties the front ends to the sessions meanwhile
-abbrev pub fit_in : Mode → PairSpent → FrontValues → PageSessions → List (List ℕ) → Type 0
+abbrev pub fit_in : PairMode → PairSpent → FrontValues → PageSessions → List (List ℕ) → Type 0
 fit_in calm = PairIsCalm
 fit_in targeted = PairIsFit
 
@@ -73,19 +73,19 @@ IsSecondOf (Some w) None = ⊥
 IsSecondOf (Some w) (Some k) = w.text ≡ session_text k
 
 -- while no attach and no detach is on its way, the front ends wait for none, and know which session is attached
-abbrev pub KnowSession : Mode → StatePair → Option ℕ → Type 0
+abbrev pub KnowSession : PairMode → StatePair → Option ℕ → Type 0
 KnowSession calm p attached = (p.waiting ≡ []) × IsSecondOf p.two attached
 KnowSession targeted p attached = ⊤
 
 -- Since the pipes were as `up0` and `down0`, the link and the ends have come to where the run is, the fetches of its settles included;
 -- `frames` are whole at the back end and not yet answered, or on their way to it; all are frames as front ends send them.
-pub record InPairWorld (mode : Mode) (up0 down0 up down : Pipe) (w : PairRun) (frames : List (List ℕ)) (e : PairEnds) : Type 0 where
-  pub on_link : OnLink pair_replay (fit_in mode) no_fronts (record { up = up0; down = down0 }) (record { up = up; down = down }) w frames
+pub record InPairWorld (mode : PairMode) (up0 down0 up down : Pipe) (w : PairRun) (frames : List (List ℕ)) (e : PairEnds) : Type 0 where
+  pub on_link : OnLink pair_runner (fit_in mode) no_fronts (record { up = up0; down = down0 }) (record { up = up; down = down }) w frames
       (record { back_rest = e.back_rest; up_there = e.up_there; down_there = e.down_there })
   pub usual : All IsUsual frames
   pub stands : PairStandsFor e.mux e.side (clients_of w.state)
   pub fronts_are : IsFoldOfBoth up_reads (sent w.up) w.down.given e.fronts
-  pub numbered : AreNumbered w.spent e.fronts
+  pub numbered : NumberAsCounted w.spent e.fronts
   pub session : KnowSession mode e.fronts.pair w.state.attached
   pub alive : e.fronts.dead ≡ false
   pub first_alive : e.fronts.pair.one.dead ≡ false

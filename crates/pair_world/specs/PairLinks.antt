@@ -4,6 +4,7 @@ use Rattle.std.specs.Prelude.{Result, Ok, Err, ⊤}
 use Rattle.std.specs.List.{flat_map}
 use Rattle.pipe_frames.specs.Pipe.{Pipe}
 use Rattle.pipe_frames.specs.Frames.{frames_of}
+use Rattle.node_tree.specs.Numbers.{fetch_limit}
 use Rattle.page_tree.specs.Forms.{max_nodes}
 use Rattle.page_forms.specs.Sheets.{max_sheets}
 use Rattle.front_mirror.specs.declared.faults.FrontFault.{FrontFault}
@@ -23,6 +24,7 @@ use Rattle.multi_replay.specs.Folds.{fold_both}
 use Rattle.multi_replay.specs.Laws.{IsFoldOfBoth}
 use Rattle.back_end.specs.States.{State}
 use Rattle.back_end.specs.Laws.{most_ids, tree_edits, edits_kept}
+use Rattle.back_end.specs.Guests.{drawn_by_outside}
 use Rattle.back_end.specs.Pairs.{Pair, pair_step, pair_turn, root_state, second_state}
 use Rattle.back_end.specs.PairSeats.{PairStandsFor}
 use Rattle.replay_script.specs.PairLines.{Met}
@@ -108,15 +110,11 @@ pair_commands_among [] = 0
 pair_commands_among (came frame ∷ hs) = pair_commands_among hs + commands_in (asked_of_either frame (request_of frame))
 pair_commands_among (made x ∷ hs) = pair_commands_among hs
 
--- ids that one edit may draw for another client: a pause makes two nodes known, each with up to all nodes of the page, and the edit one
-abbrev pub ids_outside : ℕ
-ids_outside = 2 * max_nodes + 1
-
 -- How much was drawn for one client by so many commands and steps of the script, and by frames of so many bytes: each command keeps two
 -- edits of the tree at most, and an undo of the other client's may come to all of these.
 pub record DrewOne (state : State) (commands made bytes : ℕ) : Type 0 where
   pub ids : length state.client.session.pushed + tree_edits state
-      ≤ (commands + made) * (most_ids + 2) + ids_outside * (commands * commands)
+      ≤ (commands + made) * (most_ids + 2) + drawn_by_outside * (commands * commands)
   pub trees : tree_edits state ≤ commands * 2
   pub edits : edits_kept state ≤ bytes
 
@@ -137,7 +135,7 @@ pub record LinkMoment : Type 0 where
   pub given_down : List ℕ
 
 -- no less was sent and given by a later moment
-pub record IsLater (before after : LinkMoment) : Type 0 where
+pub record IsLaterMoment (before after : LinkMoment) : Type 0 where
   pub more_sent : List ℕ
   pub more_given : List ℕ
   pub sent_is : after.sent_up ≡ before.sent_up ++ more_sent
@@ -146,8 +144,8 @@ pub record IsLater (before after : LinkMoment) : Type 0 where
 -- each of some moments is no earlier than the one before it, and the last one of all is this
 abbrev pub AreInOrderTo : LinkMoment → List LinkMoment → Type 0
 AreInOrderTo last [] = ⊤
-AreInOrderTo last (m ∷ []) = IsLater m last
-AreInOrderTo last (m ∷ n ∷ ms) = IsLater m n × AreInOrderTo last (n ∷ ms)
+AreInOrderTo last (m ∷ []) = IsLaterMoment m last
+AreInOrderTo last (m ∷ n ∷ ms) = IsLaterMoment m n × AreInOrderTo last (n ∷ ms)
 
 -- ---- the ends over a link
 
@@ -184,7 +182,7 @@ pub record FollowsPair (start : PairStarted) (up0 down0 up down : Pipe) (waiting
   pub given_down : List ℕ
   pub up_is : PipeGoesOn up0 up sent_up given_up
   pub down_is : PipeGoesOn down0 down sent_down given_down
-  pub later : IsLater start.from (record { sent_up = sent_up; given_down = given_down })
+  pub later : IsLaterMoment start.from (record { sent_up = sent_up; given_down = given_down })
   pub fronts_are : IsFoldOfBoth up_reads sent_up given_down e.fronts
   pub alive : e.fronts.dead ≡ false
   pub first_alive : e.fronts.pair.one.dead ≡ false
@@ -202,7 +200,7 @@ pub record FollowsPair (start : PairStarted) (up0 down0 up down : Pipe) (waiting
   pub down_left : e.down_there + length given_down ≡ length sent_down
   pub few_asked : e.fronts.pair.one.next + e.fronts.pair.one.fetches ≤ length sent_up + 1
   pub few_second : SecondFew e.fronts.pair.two (length sent_up)
-  pub few_targets : e.fronts.next ≤ 2 ^ 52 + length sent_up
+  pub few_targets : e.fronts.next ≤ fetch_limit + length sent_up
   pub few_made : made_among events + start.lines ≤ most_bytes
   pub drew : DrewBoth pair (pair_commands_among events) (made_among events) (bytes_among (frames_among events))
   pub few_serials : pair.side.page.next ≤ (length events + 1) * (max_nodes + 1)

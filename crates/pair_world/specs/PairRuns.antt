@@ -109,8 +109,8 @@ abbrev pub pair_settled : PairRun → PairRun
 pair_settled w = settled (pair_step pair_reads client_steps) w
 
 -- one part of a run, as lines have them
-abbrev pub Deed : Type 0
-Deed = PairPassage Turn PairSpent
+abbrev pub PairDeed : Type 0
+PairDeed = PairPassage Turn PairSpent
 
 -- a part that is none of an attach or a detach, by what a settle does to a run
 abbrev pub after_passage_by : (PairRun → PairRun) → Passage Turn PairSpent → PairRun → PairRun
@@ -121,25 +121,25 @@ after_passage_by settles (delivering_down n) w = after_passage (pair_machine pai
 after_passage_by settles settling w = settles w
 
 -- The run after a part, by what a settle does: an attach and a detach are sent between two settles.
-abbrev pub after_deed_by : (PairRun → PairRun) → Deed → PairRun → PairRun
+abbrev pub after_deed_by : (PairRun → PairRun) → PairDeed → PairRun → PairRun
 after_deed_by settles (passing p) w = after_passage_by settles p w
 after_deed_by settles (targeting text more) w = settles (sent_up text more (settles w))
 
 -- the run after some parts, one after the other
-abbrev pub after_deeds_by : (PairRun → PairRun) → List Deed → PairRun → PairRun
+abbrev pub after_deeds_by : (PairRun → PairRun) → List PairDeed → PairRun → PairRun
 after_deeds_by settles [] w = w
 after_deeds_by settles (d ∷ ds) w = after_deeds_by settles ds (after_deed_by settles d w)
 
 -- ---- the two clients
 
 -- the client that is meant: the root's, or that of the attached session
-abbrev pub client_on : Bool → PageSessions → RunClient
-client_on false s = s.root
-client_on true s = s.second
+abbrev pub client_meant : Bool → PageSessions → RunClient
+client_meant false s = s.root
+client_meant true s = s.second
 
 -- the page as that client has it
 abbrev pub state_on : Bool → PageSessions → State
-state_on second s = state_of s.side (client_on second s)
+state_on second s = state_of s.side (client_meant second s)
 
 -- ---- what came to each
 
@@ -159,13 +159,13 @@ in_session session (bare id) = []
 in_session session (of_session text stripped) = cond (bytes_eq text session) (stripped ∷ []) []
 
 -- the frames of that session, in their order
-abbrev pub session_came : List ℕ → List ℕ → List (List ℕ)
-session_came session bytes = flat_map (λ frame. in_session session (frame_down frame)) (frames_of bytes).whole
+abbrev pub session_frames_came : List ℕ → List ℕ → List (List ℕ)
+session_frames_came session bytes = flat_map (λ frame. in_session session (frame_down frame)) (frames_of bytes).whole
 
 -- those of the session that is attached: as no number comes twice, all came to the front end that stands
 abbrev pub attached_came : Option ℕ → List ℕ → List (List ℕ)
 attached_came None bytes = []
-attached_came (Some k) bytes = session_came (session_text k) bytes
+attached_came (Some k) bytes = session_frames_came (session_text k) bytes
 
 -- the frames that came to the front end that is meant
 abbrev pub came_on : Bool → PairRun → List (List ℕ)

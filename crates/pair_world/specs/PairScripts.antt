@@ -32,8 +32,8 @@ use Rattle.inspect_world.specs.ActTexts.{act_text}
 use Rattle.inspect_world.specs.SheetTexts.{sheet_lines}
 use Rattle.inspect_world.specs.PanelTexts.{panels_text}
 use Rattle.inspect_world.specs.Scripts.{page_outline, styles_shown_headed}
-use Rattle.pair_world.specs.PairRuns.{PairAudience, told_on, with_told, PairRun, pair_loaded_run, pair_settled, Deed, after_deeds_by}
-use Rattle.pair_world.specs.PairRuns.{one_ask_on, one_attach, one_detach, none_more, asks_on, next_target, client_on, state_on, came_on}
+use Rattle.pair_world.specs.PairRuns.{PairAudience, told_on, with_told, PairRun, pair_loaded_run, pair_settled, PairDeed, after_deeds_by}
+use Rattle.pair_world.specs.PairRuns.{one_ask_on, one_attach, one_detach, none_more, asks_on, next_target, client_meant, state_on, came_on}
 
 -- ---- what a line does
 
@@ -43,21 +43,21 @@ session_on false attached = None
 session_on true attached = option_map (λ k. string (session_text k)) attached
 
 -- the k-th ask of a front end is sent with the id k
-abbrev pub ask_deed : Bool → AskForm → PairRun → Deed
+abbrev pub ask_deed : Bool → AskForm → PairRun → PairDeed
 ask_deed second a w =
     passing (sending (command_text (asks_on second w.spent + 1) a.method a.params (session_on second w.state.attached)) (one_ask_on second))
 
 -- all is delivered
-abbrev pub settle_deed : Deed
+abbrev pub settle_deed : PairDeed
 settle_deed = passing settling
 
 -- a detach is sent where a session is attached; between two lines no attach and no detach is on its way
-abbrev pub detach_deeds : Option ℕ → ℕ → List Deed
+abbrev pub detach_deeds : Option ℕ → ℕ → List PairDeed
 detach_deeds None id = []
 detach_deeds (Some k) id = targeting (detach_text id (session_text k)) one_detach ∷ []
 
 -- what a line of any script does, where it is the first front end's
-abbrev pub first_deeds : LineForm → PairRun → List Deed
+abbrev pub first_deeds : LineForm → PairRun → List PairDeed
 first_deeds (load page) w = passing (turning (loads page)) ∷ []
 first_deeds (forms.act a) w = passing (turning (acts a)) ∷ []
 first_deeds (ask a) w = ask_deed false a w ∷ []
@@ -75,7 +75,7 @@ first_deeds (show_styles k) w = settle_deed ∷ []
 first_deeds (close k) w = []
 
 -- what one of the second front end does: only an ask and the shows of a front end may be its
-abbrev pub second_deeds : LineForm → PairRun → List Deed
+abbrev pub second_deeds : LineForm → PairRun → List PairDeed
 second_deeds (load page) w = []
 second_deeds (forms.act a) w = []
 second_deeds (ask a) w = ask_deed true a w ∷ []
@@ -93,7 +93,7 @@ second_deeds (show_styles k) w = settle_deed ∷ []
 second_deeds (close k) w = []
 
 -- what a line does, as parts of a run
-abbrev pub deeds : PairForm → PairRun → List Deed
+abbrev pub deeds : PairForm → PairRun → List PairDeed
 deeds attach_session w = targeting (attach_text (next_target w.spent)) one_attach ∷ []
 deeds detach_session w = detach_deeds w.state.attached (next_target w.spent)
 deeds (of_first form) w = first_deeds form w
@@ -124,30 +124,30 @@ pauses_told_on second w =
     with_told second (record { replies = (told_on second w.told).replies; pauses = length (pair_pauses second w) }) w.told
 
 -- who was told what after a line of any script that names this front end; only the first has panels
-abbrev pub told_by : Bool → LineForm → PairRun → PairAudience
-told_by second (load page) w = w.told
-told_by second (forms.act a) w = w.told
-told_by second (ask a) w = w.told
-told_by second (forms.raw text) w = w.told
-told_by second (up n) w = w.told
-told_by second (down n) w = w.told
-told_by second settle w = w.told
-told_by second show_front w = w.told
-told_by second show_page w = w.told
-told_by second show_sheets w = w.told
-told_by second show_replies w = replies_told_on second w
-told_by second show_pauses w = pauses_told_on second w
-told_by second show_panels w = w.told
-told_by second (show_styles k) w = w.told
-told_by false (close k) w = record w.told { panels = dropped k w.told.panels }
-told_by true (close k) w = w.told
+abbrev pub told_by_form : Bool → LineForm → PairRun → PairAudience
+told_by_form second (load page) w = w.told
+told_by_form second (forms.act a) w = w.told
+told_by_form second (ask a) w = w.told
+told_by_form second (forms.raw text) w = w.told
+told_by_form second (up n) w = w.told
+told_by_form second (down n) w = w.told
+told_by_form second settle w = w.told
+told_by_form second show_front w = w.told
+told_by_form second show_page w = w.told
+told_by_form second show_sheets w = w.told
+told_by_form second show_replies w = replies_told_on second w
+told_by_form second show_pauses w = pauses_told_on second w
+told_by_form second show_panels w = w.told
+told_by_form second (show_styles k) w = w.told
+told_by_form false (close k) w = record w.told { panels = dropped k w.told.panels }
+told_by_form true (close k) w = w.told
 
 -- after a line; a second front end that was just made was told nothing
 abbrev pub told_after : PairForm → PairRun → PairAudience
 told_after attach_session w = with_told true nothing_told w.told
 told_after detach_session w = w.told
-told_after (of_first form) w = told_by false form w
-told_after (of_second form) w = told_by true form w
+told_after (of_first form) w = told_by_form false form w
+told_after (of_second form) w = told_by_form true form w
 
 -- ---- the run after lines
 
@@ -199,7 +199,7 @@ new_pauses second w = drop (told_on second w.told).pauses (pair_pauses second w)
 
 -- the matched styles that answered the ask with that id, by the page as it was when the ask came to the back end
 abbrev pub styles_on : Bool → PairRun → ℕ → Option Matched
-styles_on second w k = styles_under k (client_on second w.state).styles
+styles_on second w k = styles_under k (client_meant second w.state).styles
 
 -- what the panels show that stand open: they are told of the first front end
 abbrev pub pair_panels : PairRun → List ℕ

@@ -10,7 +10,7 @@ use Rattle.replay_script.specs.PairScript.{pair_script_forms}
 use Rattle.inspect_world.specs.Fits.{most_bytes}
 use Rattle.pair_world.specs.Clients.{pair_reads, client_steps}
 use Rattle.pair_world.specs.PairFits.{PairFits, BothShown}
-use Rattle.pair_world.specs.PairRuns.{PairRun, Deed, pair_loaded_run}
+use Rattle.pair_world.specs.PairRuns.{PairRun, PairDeed, pair_loaded_run}
 use Rattle.pair_world.specs.PairFresh.{PairRoom}
 use Rattle.pair_world.specs.PairScripts.{deeds, after_pair_line, after_pair_lines, pair_shown_lines}
 use Rattle.session_runs.specs.Stream.{arriving}
@@ -39,12 +39,12 @@ PassageRoom (delivering_down n) w = ⊤
 PassageRoom settling w = SettleHasRoom w
 
 -- for one that may be an attach or a detach
-abbrev pub DeedRoom : Deed → PairRun → Type 0
+abbrev pub DeedRoom : PairDeed → PairRun → Type 0
 DeedRoom (passing p) w = PassageRoom p w
 DeedRoom (targeting text more) w = SettleHasRoom w × SettleHasRoom (sent_up text more (pair_settled w))
 
 -- for some of them
-abbrev pub DeedsRoom : List Deed → PairRun → Type 0
+abbrev pub DeedsRoom : List PairDeed → PairRun → Type 0
 DeedsRoom [] w = ⊤
 DeedsRoom (d ∷ ds) w = DeedRoom d w × DeedsRoom ds (after_deed_by pair_settled d w)
 

@@ -17,8 +17,8 @@ may_ask_on false a = may_ask a
 may_ask_on true a = may_ask_second a
 
 -- its next ask, in its session if it has one
-abbrev pub next_ask : Bool → AskForm → PairRun → List ℕ
-next_ask second a w = command_text (asks_on second w.spent + 1) a.method a.params (session_on second w.state.attached)
+abbrev pub next_ask_text : Bool → AskForm → PairRun → List ℕ
+next_ask_text second a w = command_text (asks_on second w.spent + 1) a.method a.params (session_on second w.state.attached)
 
 -- the text of the session that is attached; none has the empty one
 abbrev pub attached_text : Option ℕ → List ℕ

@@ -1,4 +1,4 @@
-ghost use Rattle.std.specs.Prelude.{◌≡◌, ◌≤◌, ◌<◌, length, take, IfSome, IfNone, IfOk, OnOk};
+ghost use Rattle.std.specs.Prelude.{◌≡◌, ◌≤◌, ◌<◌, length, take, IfSome, IfNone, IsNone, IfOk, IsErr, OnOk};
 ghost use Rattle.std.specs.Io.{WritesAtMost};
 ghost use Rattle.std.specs.Io.KnownBytes.{Appends, Keeps, WriteAppends};
 ghost use Rattle.pipe_frames.specs.Fault.{HasCause};
@@ -83,6 +83,8 @@ impl<W: Write> StdSink<W> {
             (handed_on self.new.kept (W.contents self.new.writer))) }
         // nothing that the writer took stays with it
         ensures whole { IfSome result (λ n. self.new.kept ≡ 0) }
+        // what stays with it stays
+        ensures refuses { 0 < self.old.kept → IsNone result × (self.new.kept ≡ self.old.kept) }
         ensures faults { self.new.faults ≡ self.old.faults }
     {
         if self.kept > 0 {
@@ -114,6 +116,8 @@ impl<W: Write> Sink for StdSink<W> {
         ensures cause { HasCause self.old.faults self.new.faults result }
         // what it took, it let go: nothing is with the writer still
         ensures whole { OnOk result (self.new.kept ≡ 0) }
+        // where bytes are with it from an earlier write, they stay, and this write fails
+        ensures refuses { 0 < self.old.kept → IsErr result × (self.new.kept ≡ self.old.kept) }
     {
         match self.pass_on(piece) {
             Some(count) => Ok(count),

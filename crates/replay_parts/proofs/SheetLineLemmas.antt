@@ -1,12 +1,12 @@
 -- The lines of the sheets that a front end knows, one after the other.
 use Rattle.std.proofs.Common.{◌≡◌, ℕ, zero, suc, ◌+◌, List, [], ◌∷◌, ◌++◌, drop, slice_get, Option, Some, None, option_map, refl, sym, ◌∙◌}
 use Rattle.std.proofs.Common.{ap, append_assoc, arith}
-use Rattle.css_objects.specs.declared.sheets.SheetOrigin.{SheetOrigin}
+use Rattle.node_tree.specs.declared.origins.Origin.{Origin}
 use Rattle.front_mirror.specs.declared.sheets.KnownSheet.{KnownSheet}
 use Rattle.inspect_world.specs.SheetTexts.{sheet_line, known_line, known_lines}
 
 -- a sheet by its parts
-pub line-of : (o : Option KnownSheet) (number : ℕ) (origin : SheetOrigin) (text : Option (List ℕ)) (old : List ℕ)
+pub line-of : (o : Option KnownSheet) (number : ℕ) (origin : Origin) (text : Option (List ℕ)) (old : List ℕ)
     → option_map (λ (s : KnownSheet). s.number) o ≡ Some number → option_map (λ (s : KnownSheet). s.origin) o ≡ Some origin
     → option_map (λ (s : KnownSheet). s.text) o ≡ Some text
     → option_map (λ (s : KnownSheet). old ++ known_line s) o ≡ Some (old ++ sheet_line number origin text)

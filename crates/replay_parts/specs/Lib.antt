@@ -2,7 +2,6 @@ pub mod Statuses
 pub mod Says
 pub mod Answers
 pub mod Stops
-pub mod Moved
 pub mod Moments
 pub mod LinkEnds
 pub mod LinkFolds

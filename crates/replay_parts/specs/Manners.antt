@@ -25,13 +25,13 @@ pub record Goes {E T : Type 0} (manner : Manner E T) (old new : Moment E)
 -- ---- calls that print
 
 -- how such a call goes: what a fault says, what it keeps over every link, and over an honest one where it takes both runs
-pub record Part (E T : Type 0) : Type 1 where
+pub record PrintManner (E T : Type 0) : Type 1 where
   pub cause : Counts → Result T Stop → Type 0
   pub follows : Moment E → Moment E → Result T Stop → Type 0
   pub runs : Scene E → Scene E → Result T Stop → Type 0
 
 -- The same four facts of a call that prints; and what it printed.
-pub record Plays {E T : Type 0} (part : Part E T) (old new : Scene E) (result : Result T Stop) : Type 0 where
+pub record Plays {E T : Type 0} (part : PrintManner E T) (old new : Scene E) (result : Result T Stop) : Type 0 where
   pub honest : old.now.honest → new.now.honest
   pub cause : part.cause (counts_between old new) result
   pub follows : part.follows old.now new.now result

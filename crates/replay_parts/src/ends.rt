@@ -5,9 +5,8 @@ ghost use Rattle.pipe_frames.specs.Frames.{IsText, framed};
 ghost use Rattle.replay_parts.specs.Stops.{StopRose, two_counts, GoesWell};
 
 use crate::moments::Watched;
-use crate::pipes::{receive_down, receive_up, send_down, send_up};
 use crate::stop::Stop;
-use pipe_frames::{Link, Splitter};
+use pipe_frames::{Link, OutErr, Splitter};
 use std::alloc::{AllocError, Global};
 use std::marker::Model;
 
@@ -68,7 +67,7 @@ impl Ends {
         self.down_there
     }
 
-    /// Sends bytes up: all of them, or none where it does not go well.
+    /// Sends bytes up: all of them, or none where it does not go well. What waits is in memory, so the count has room.
     pub fn send_up<L: Link>(&mut self, link: &mut L, bytes: &[u8]) -> Result<(), Stop>
         ensures up { OnOk result ((L.up link.new).sent ≡ (L.up link.old).sent ++ bytes.now) }
         ensures given { (L.up link.new).given ≡ (L.up link.old).given }
@@ -81,12 +80,13 @@ impl Ends {
         ensures never { GoesWell result }
         ensures cause { StopRose (two_counts 0 0 (L.faults link.old) (L.faults link.new)) result }
     {
-        match send_up(link, self.up_there, bytes) {
-            Ok(there) => {
-                self.up_there = there;
+        match link.put_up(bytes) {
+            Ok(()) => {
+                self.up_there = self.up_there.saturating_add(bytes.len() as u64);
                 Ok(())
             }
-            Err(stop) => Err(stop),
+            Err(OutErr::Failed) => Err(Stop::LinkFault),
+            Err(OutErr::Memory) => Err(Stop::Memory),
         }
     }
 
@@ -107,7 +107,7 @@ impl Ends {
         self.send_up(link, &frame)
     }
 
-    /// Sends bytes down: all of them, or none where it does not go well.
+    /// Sends bytes down: all of them, or none where it does not go well. What waits is in memory, so the count has room.
     pub fn send_down<L: Link>(&mut self, link: &mut L, bytes: &[u8]) -> Result<(), Stop>
         ensures down { OnOk result ((L.down link.new).sent ≡ (L.down link.old).sent ++ bytes.now) }
         ensures given { (L.down link.new).given ≡ (L.down link.old).given }
@@ -120,12 +120,13 @@ impl Ends {
         ensures never { GoesWell result }
         ensures cause { StopRose (two_counts 0 0 (L.faults link.old) (L.faults link.new)) result }
     {
-        match send_down(link, self.down_there, bytes) {
-            Ok(there) => {
-                self.down_there = there;
+        match link.put_down(bytes) {
+            Ok(()) => {
+                self.down_there = self.down_there.saturating_add(bytes.len() as u64);
                 Ok(())
             }
-            Err(stop) => Err(stop),
+            Err(OutErr::Failed) => Err(Stop::LinkFault),
+            Err(OutErr::Memory) => Err(Stop::Memory),
         }
     }
 
@@ -139,13 +140,15 @@ impl Ends {
         ensures never { GoesWell result }
         ensures cause { StopRose (two_counts 0 0 (L.faults link.old) (L.faults link.new)) result }
     {
-        match receive_up(self.alloc, link, n.min(self.up_there) as usize) {
-            Ok(piece) => {
+        let mut piece = Vec::new(self.alloc);
+        match link.get_up(n.min(self.up_there) as usize, &mut piece) {
+            Ok(_) => {
                 self.up_there = self.up_there.saturating_sub(piece.len() as u64);
                 self.splitter.take(&piece)?;
                 Ok(())
             }
-            Err(stop) => Err(stop),
+            Err(OutErr::Failed) => Err(Stop::LinkFault),
+            Err(OutErr::Memory) => Err(Stop::Memory),
         }
     }
 
@@ -176,12 +179,14 @@ impl Ends {
         ensures never { GoesWell result }
         ensures cause { StopRose (two_counts 0 0 (L.faults link.old) (L.faults link.new)) result }
     {
-        match receive_down(self.alloc, link, n.min(self.down_there) as usize) {
-            Ok(piece) => {
+        let mut piece = Vec::new(self.alloc);
+        match link.get_down(n.min(self.down_there) as usize, &mut piece) {
+            Ok(_) => {
                 self.down_there = self.down_there.saturating_sub(piece.len() as u64);
                 Ok(piece)
             }
-            Err(stop) => Err(stop),
+            Err(OutErr::Failed) => Err(Stop::LinkFault),
+            Err(OutErr::Memory) => Err(Stop::Memory),
         }
     }
 }

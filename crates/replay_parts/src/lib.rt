@@ -15,7 +15,6 @@ mod moments;
 mod page_lines;
 mod panel_lines;
 mod pause_lines;
-mod pipes;
 mod sheet_lines;
 mod show;
 mod status;

@@ -1,23 +1,12 @@
 // The lines of a show of the sheets.
 ghost use Rattle.std.specs.Prelude.{◌≡◌, ◌<◌, ◌++◌, ◌∷◌, length, slice_get, option_map, Some, OnOk, IfOk};
-ghost use Rattle.css_objects.specs.Sheets.{origin_name};
 ghost use Rattle.front_mirror.specs.Outline.{quoted};
 ghost use Rattle.inspect_world.specs.SheetTexts.{text_shown, sheet_line, known_line, known_lines};
 
-use cdp_messages::SheetOrigin;
+use cdp_messages::Origin;
 use front_mirror::{Front, Panel};
 use serde_json::Value;
 use std::alloc::{AllocError, Global};
-
-/// The name of an origin.
-pub(crate) fn origin_word(origin: SheetOrigin) -> &'static str
-    ensures { result.now ≡ origin_name origin }
-{
-    match origin {
-        SheetOrigin::UserAgent => "user-agent",
-        SheetOrigin::Regular => "regular",
-    }
-}
 
 /// Appends a text as a JSON string.
 pub(crate) fn write_quoted(alloc: Global, text: &str, out: &mut Vec<u8>) -> Result<(), AllocError>
@@ -44,7 +33,7 @@ fn write_text(alloc: Global, text: Option<&str>, out: &mut Vec<u8>) -> Result<()
 fn write_line(
     alloc: Global,
     number: u64,
-    origin: SheetOrigin,
+    origin: Origin,
     text: Option<&str>,
     out: &mut Vec<u8>,
 ) -> Result<(), AllocError>
@@ -53,7 +42,7 @@ fn write_line(
     out.push(b's')?;
     out.extend_from_slice(number.to_string(alloc)?.as_bytes())?;
     out.push(b' ')?;
-    out.extend_from_slice(origin_word(origin).as_bytes())?;
+    out.extend_from_slice(origin.as_str().as_bytes())?;
     out.push(b' ')?;
     write_text(alloc, text, out)?;
     out.push(b'\n')?;

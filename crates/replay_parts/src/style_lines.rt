@@ -1,13 +1,12 @@
 // The lines of a show of matched styles.
 ghost use Rattle.std.specs.Prelude.{◌≡◌, ◌++◌, ◌∷◌, [], List, map, drop, option_map, option_to_list, OnOk, IfOk};
-ghost use Rattle.back_end.specs.Sheets.{origin_in_book};
 ghost use Rattle.inspect_world.specs.StylesTexts.{ShownBlock, rule_heading, rule_block, inline_block, blocks_shown, declared, competing};
 ghost use Rattle.inspect_world.specs.StylesTexts.{win_mark, important_text, property_line, property_lines, block_lines};
 ghost use Rattle.inspect_world.specs.StylesTexts.{styles_headed};
 
-use crate::sheet_lines::{origin_word, write_quoted};
+use crate::sheet_lines::write_quoted;
 use cascade_match::{Block, Decl, Declarations, winners};
-use cdp_messages::{Matched, RuleMatch, SheetOrigin, Style, StyleProperty};
+use cdp_messages::{Matched, RuleMatch, Style, StyleProperty};
 use node_tree::Text;
 use sheet_reader::Origin;
 use std::alloc::{AllocError, Global};
@@ -33,20 +32,11 @@ fn declarations_of(alloc: Global, properties: &[StyleProperty]) -> Result<Declar
     Ok(Declarations::new(declarations))
 }
 
-fn origin_of(origin: SheetOrigin) -> Origin
-    ensures { result ≡ origin_in_book origin }
-{
-    match origin {
-        SheetOrigin::UserAgent => Origin::UserAgent,
-        SheetOrigin::Regular => Origin::Regular,
-    }
-}
-
 fn rule_block(alloc: Global, found: &RuleMatch) -> Result<Block, AllocError>
     ensures { IfOk result (λ b. b ≡ competing (rule_block found.now)) }
 {
     Ok(Block {
-        origin: origin_of(found.rule.origin),
+        origin: found.rule.origin,
         declarations: declarations_of(alloc, found.rule.style.properties.as_slice())?,
     })
 }
@@ -158,7 +148,7 @@ fn write_heading(alloc: Global, found: &RuleMatch, out: &mut Vec<u8>) -> Result<
     out.push(b's')?;
     out.extend_from_slice(found.rule.sheet.to_string(alloc)?.as_bytes())?;
     out.push(b' ')?;
-    out.extend_from_slice(origin_word(found.rule.origin).as_bytes())?;
+    out.extend_from_slice(found.rule.origin.as_str().as_bytes())?;
     out.push(b' ')?;
     write_quoted(alloc, found.rule.selectors.text.as_str(), out)?;
     out.push(b'\n')?;

@@ -3,7 +3,8 @@ use Rattle.std.specs.Prelude.{ℕ, List, codes}
 use Rattle.page_tree.specs.declared.faults.LoadFault.{LoadFault}
 use Rattle.page_tree.specs.declared.faults.LoadFault.TheVariants as load
 use Rattle.replay_script.specs.declared.faults.LineFault.{LineFault}
-use Rattle.replay_script.specs.declared.faults.LineFault.TheVariants.{NotJson, NotLoad, BadForm, BadLoad, BadRaw, BadSession, NoPanel, NoStyles}
+use Rattle.replay_script.specs.declared.faults.LineFault.TheVariants.{NotJson, NotLoad, BadForm, BadLoad, BadRaw, BadSession}
+use Rattle.replay_script.specs.declared.faults.LineFault.TheVariants.{NoPanel, NoStyles}
 
 -- how a status line names the fault of a load
 abbrev pub load_fault_name : LoadFault → List ℕ

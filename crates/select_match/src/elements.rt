@@ -15,7 +15,7 @@ use selectors::NthKind;
 pub fn is_element(node: &NodeRef<'_>) -> bool
     ensures { result ≡ is_element_node node.now }
 {
-    node.kind() == Kind::Element
+    node.kind().is_element()
 }
 
 /// Whether the node is an element right below the document: `:root`.

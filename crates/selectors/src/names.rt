@@ -60,7 +60,7 @@ pub(crate) fn pseudo_class(name: &str) -> Option<Test>
 }
 
 #[tactic(auto, unfolding(crate::specs::Reading::is_pseudo_element))]
-pub(crate) fn is_element(name: &str) -> bool
+pub(crate) fn is_pseudo_element(name: &str) -> bool
     ensures { result ≡ is_pseudo_element name.now }
 {
     name == "before" || name == "after" || name == "first-line" || name == "first-letter"

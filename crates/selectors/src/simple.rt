@@ -12,7 +12,7 @@ ghost use Rattle.selectors.specs.Reading.{plain_from, nth_at, lang_at, function_
 ghost use Rattle.selectors.specs.Reading.{compound_item_seen, element_at, colon_named, colon_called, colon_at, item_from, compound_item_at};
 ghost use Rattle.selectors.specs.Reading.{first_part_at, first_from};
 
-use crate::names::{is_element, nth_kind, pseudo_class};
+use crate::names::{is_pseudo_element, nth_kind, pseudo_class};
 use crate::nth::nth_of;
 use crate::selector::{AttrOp, NthKind, SelErr, Simple, Test};
 use crate::values::{
@@ -238,7 +238,7 @@ fn element_at(alloc: Global, words: &mut Words) -> Result<Option<Simple>, SelErr
 {
     let mut name = tight_ident_at(alloc, words)?;
     name.make_ascii_lowercase();
-    if is_element(name.as_str()) {
+    if is_pseudo_element(name.as_str()) {
         Ok(None)
     } else {
         Err(SelErr::Invalid)
@@ -251,7 +251,7 @@ fn colon_named(alloc: Global, words: &Words, word: Word) -> Result<Option<Simple
     ensures { GivesRead (λ s. (compound_item_seen s, words.now)) result (colon_named word words.now) }
 {
     let name = lower_of(alloc, words.text(), word)?;
-    if is_element(name.as_str()) {
+    if is_pseudo_element(name.as_str()) {
         return Ok(None);
     }
     let Some(test) = pseudo_class(name.as_str()) else {

@@ -94,7 +94,8 @@ sent-framed text s = sym (append_assoc s.given s.flying (framed text))
 module _ {S F E X N L : Type 0} (machine : Machine S F E X N) (HasRoom : S → Type 0) (IsNext : N → S → List (List ℕ) → List ℕ → N → Type 0)
     (IsTurn : N → X → Type 0) (Fit : N → F → S → List (List ℕ) → Type 0) (laws : Laws machine HasRoom IsNext IsTurn Fit) (first : F) where
   -- what the ends count waits in the link
-  pub link-waits : (start now : Pipes) (w : World S N L) (frames : List (List ℕ)) (c : LinkCounts) → OnLink machine Fit first start now w frames c
+  pub link-waits : (start now : Pipes) (w : World S N L) (frames : List (List ℕ)) (c : LinkCounts)
+      → OnLink machine Fit first start now w frames c
       → (c.up_there ≤ length (waiting now.up)) × (c.down_there ≤ length (waiting now.down))
   link-waits start now w frames c on =
       let above : length (waiting now.up) ≡ length w.up.flying = ap length (waiting-is start.up now.up w.up on.up_is) in
@@ -102,7 +103,8 @@ module _ {S F E X N L : Type 0} (machine : Machine S F E X N) (HasRoom : S → T
       (omega (arith, above, on.up_left), omega (arith, below, on.down_left))
 
   -- before anything was sent
-  pub link-first : (start : Pipes) (nothing : N) (told : L) (state : S) → start.up.given ≡ start.up.sent → start.down.given ≡ start.down.sent
+  pub link-first : (start : Pipes) (nothing : N) (told : L) (state : S) → start.up.given ≡ start.up.sent
+      → start.down.given ≡ start.down.sent
       → Fit nothing first state []
       → OnLink machine Fit first start start (first_world nothing told state) [] (record { back_rest = []; up_there = 0; down_there = 0 })
   unfolding frames_of

@@ -1,5 +1,5 @@
--- A run over a link: what the pipes carry of it, and what the ends count. Of the ends themselves nothing is said here: which seats stand for
--- the state, and which front ends are the fold of what was given, is what those who use it add.
+-- A run over a link: what the pipes carry of it, and what the ends count. Of the ends themselves nothing is said here: which seats stand
+-- for the state, and which front ends are the fold of what was given, is what those who use it add.
 use Rattle.std.specs.Prelude.{◌≡◌, ◌++◌, ℕ, List, length}
 use Rattle.pipe_frames.specs.Pipe.{Pipe}
 use Rattle.session_runs.specs.Stream.{Stream, sent, held}
@@ -23,8 +23,8 @@ pub record LinkCounts : Type 0 where
   pub up_there : ℕ
   pub down_there : ℕ
 
--- Since the pipes were as at the start, they carry the run, the ends count what is on its way, and the whole streams, folded, fit the state;
--- `frames` are whole at the back end and not yet answered, or on their way to it.
+-- Since the pipes were as at the start, they carry the run, the ends count what is on its way, and the whole streams, folded, fit the
+-- state; `frames` are whole at the back end and not yet answered, or on their way to it.
 pub record OnLink {S F E X N L : Type 0} (machine : Machine S F E X N) (Fit : N → F → S → List (List ℕ) → Type 0) (first : F)
     (start now : Pipes) (w : World S N L) (frames : List (List ℕ)) (c : LinkCounts) : Type 0 where
   pub up_is : Carries start.up now.up w.up

@@ -322,7 +322,8 @@ anew g c ps to k from d rules before inside late can (up_to_own next own at) =
     rules_back (StandsBehind g) (moved_place c) rest (subst (All (EachPlace (StandsBehind g))) behind_is can.behind) in
     let lately : All (EachPlace (IsLate c)) rest = subst (λ (n : ℕ). AreLate c n rules) next late in
     let both : All (EachPlace (λ b. IsLate c b × StandsBehind g (moved_place c b))) rest =
-    rules_both (IsLate c) (λ b. StandsBehind g (moved_place c b)) (λ b. IsLate c b × StandsBehind g (moved_place c b)) (λ b x y. (x, y)) rest
+    rules_both (IsLate c) (λ b. StandsBehind g (moved_place c b)) (λ b. IsLate c b × StandsBehind g (moved_place c b))
+    (λ b x y. (x, y)) rest
     lately seen in
     record {
       front = seam.front ∙ part.front;

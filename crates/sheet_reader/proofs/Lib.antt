@@ -39,6 +39,7 @@ pub mod ClearBodies
 pub mod JoinForms
 pub mod JoinedLaw
 pub mod ShutForms
+pub mod SeamForms
 pub mod RepairSeams
 pub mod RepairBounds
 pub mod RepairLaw

@@ -126,8 +126,11 @@ ending_shut : (front : List Token) (ending : EndingForm) (rest : List Token) (cl
     → ShutBehind front ending rest
 unfolding opens ShutBehind
 ending_shut front _ rest close more none (at_text_end over) total = (tt, inl over)
-ending_shut front _ rest close more none (at_semicolon t kind) total =
-    (tt, inr (opens_append front (t ∷ []) [] ∙ ap (λ (bs : List Bracket). open_after bs t.kind) (none t rest refl) ∙ ap (open_after []) kind))
+ending_shut front _ rest close more none (at_semicolon t kind) total = (
+  tt,
+  inr (opens_append front (t ∷ []) [] ∙ ap (λ (bs : List Bracket). open_after bs t.kind) (none t rest refl)
+      ∙ ap (open_after []) kind),
+)
 ending_shut front _ rest close more none (in_block first last within is values closes) total =
     let n = until_is stops.BlockEnd within (last ∷ rest) values (ap (stops_at stops.BlockEnd) closes) in
     let inside = opened_under front within (last ∷ rest) first (none first ((within ++ last ∷ []) ++ rest) refl) is (omega (arith, n)) in (

@@ -1,5 +1,6 @@
 -- A sheet that is taken apart, and a body of it that is made another text.
-use Rattle.std.proofs.Common.{◌≡◌, ℕ, ◌+◌, ◌<◌, ◌≤◌, true, All, List, ◌++◌, map, take, drop, length, Option, Some, None, refl, sym, ap, subst}
+use Rattle.std.proofs.Common.{◌≡◌, ℕ, ◌+◌, ◌<◌, ◌≤◌, true, All, List, ◌++◌, map, take, drop, length}
+use Rattle.std.proofs.Common.{Option, Some, None, refl, sym, ap, subst}
 use Rattle.std.proofs.Common.{◌∙◌, arith, length-append}
 use Rattle.std.specs.Prelude.{slice_get, IsSomeAnd}
 use Rattle.std.specs.Str.{IsUtf8}
@@ -81,7 +82,8 @@ body_of text put k r e text_is read own there new_utf8 short sealed =
         entry = record { read = refl; some = own.entry.some; id = own.entry.id; short = short };
         utf8 = new_utf8;
       };
-      own = subst (λ (s : Sheet). IsSomeAnd (slice_get (moved_rules c ps k s.rules) k) (HasBody (range c.start (c.start + c.size)))) (sym read)
+      own = subst (λ (s : Sheet). IsSomeAnd (slice_get (moved_rules c ps k s.rules) k) (HasBody (range c.start (c.start + c.size))))
+          (sym read)
           (subst (λ (o : Option RuleForm). IsSomeAnd o (HasBody (range c.start (c.start + c.size))))
           (sym (new_rule c ps k (sheet_of text).rules r there)) refl);
     }

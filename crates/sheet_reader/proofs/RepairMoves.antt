@@ -1,5 +1,5 @@
 -- The rules of a part further back, and lists of which a share makes way for others.
-use Rattle.std.proofs.Common.{◌≡◌, ℕ, ◌+◌, ◌-◌, ◌<◌, List, [], ◌∷◌, ◌++◌, map, All}
+use Rattle.std.proofs.Common.{◌≡◌, ℕ, suc, ◌+◌, ◌-◌, ◌<◌, ◌≤◌, Bool, true, false, cond, length, drop, List, [], ◌∷◌, ◌++◌, map, All}
 use Rattle.std.proofs.Common.{refl, sym, ap, subst, ◌∙◌, arith}
 use Rattle.std.proofs.lemmas.List.Elements.{All-nil, All-cons, All-head, All-tail}
 use Rattle.node_tree.specs.Numbers.{number_limit}
@@ -9,6 +9,11 @@ use Rattle.selectors.specs.Moves.{placed_selector}
 use Rattle.sheet_reader.specs.declared.sheet.StyleRule.{StyleRule}
 use Rattle.sheet_reader.specs.Forms.{RuleForm, rule_seen}
 use Rattle.sheet_reader.specs.Moves.{IsWithin}
+use Rattle.sheet_reader.specs.Repairs.{IsShareOf, body_starts}
+use Rattle.css_tokens.specs.declared.token.Range.{Range}
+use Rattle.sheet_reader.specs.declared.repairs.Share.{Share}
+use Rattle.std.specs.List.{prefix_len}
+use Rattle.std.specs.Prelude.{nat_le}
 use Rattle.sheet_reader.proofs.PartMoves.{map_append}
 
 pub can_shift : (start size : ℕ) (ss : List SelectorForm) → start + size < number_limit → All (λ s. IsWithin size s.range) ss
@@ -42,3 +47,31 @@ among P front r back all e holds = by front (subst (λ (rs : List StyleRule). Al
     by : (front : List StyleRule) → All P (map rule_seen (front ++ r ∷ back)) → P (rule_seen r)
     by [] holds = All-head P (rule_seen r) (map rule_seen back) holds
     by (x ∷ front) holds = by front (All-tail P (rule_seen x) (map rule_seen (front ++ r ∷ back)) holds)
+
+-- where the bodies of rules start that are seen so
+starts_seen : (rules : List StyleRule) → map (λ r. r.body.start) rules ≡ body_starts (map rule_seen rules)
+starts_seen [] = refl
+starts_seen (r ∷ rules) = ap (λ (xs : List ℕ). r.body.start ∷ xs) (starts_seen rules)
+
+pub share_seen : (rules : List StyleRule) (all : List RuleForm) (stretch : Range) (share : Share) → map rule_seen rules ≡ all
+    → IsShareOf (map (λ r. r.body.start) rules) stretch share → IsShareOf (body_starts all) stretch share
+share_seen rules all stretch share seen s = subst (λ (xs : List ℕ). IsShareOf xs stretch share) (starts_seen rules ∙ ap body_starts seen) s
+
+-- how many of a list do not stand behind a place, by the places alone
+pub count_of : {X : Type 0} (key : X → ℕ) (place : ℕ) (xs : List X)
+    → prefix_len (λ x. nat_le (key x) place) xs ≡ prefix_len (λ x. nat_le x place) (map key xs)
+count_of key place [] = refl
+count_of key place (x ∷ xs) = ap (λ (n : ℕ). cond (nat_le (key x) place) (1 + n) 0) (count_of key place xs)
+
+pub count_inside : {X : Type 0} (key : X → ℕ) (place : ℕ) (xs : List X) → prefix_len (λ x. nat_le (key x) place) xs ≤ length xs
+count_inside key place [] = omega arith
+count_inside key place (x ∷ xs) = by (nat_le (key x) place) (count_inside key place xs)
+  where
+    by : (b : Bool) → prefix_len (λ x. nat_le (key x) place) xs ≤ length xs
+        → cond b (1 + prefix_len (λ x. nat_le (key x) place) xs) 0 ≤ suc (length xs)
+    by true more = omega (arith, more)
+    by false more = omega arith
+
+pub all_behind : (n : ℕ) (xs : List ℕ) → All (λ place. place ≤ n) xs → All (λ place. place ≤ n) (drop 1 xs)
+all_behind n [] all = all
+all_behind n (x ∷ xs) all = All-tail (λ (place : ℕ). place ≤ n) x xs all

@@ -1,23 +1,24 @@
 -- A text taken apart at the seams around a part of it.
 use Rattle.std.proofs.Common.{◌≡◌, ◌⊎◌, inl, inr, ℕ, zero, suc, ◌+◌, ◌-◌, ◌<◌, ◌≤◌, true, List, [], ◌∷◌, ◌++◌, map, take, drop}
 use Rattle.std.proofs.Common.{length, Option, Some, None, refl, sym, ap, subst, ◌∙◌, length-append, arith}
-use Rattle.std.specs.Prelude.{slice_get, slice_range, option_map}
-use Rattle.std.proofs.lemmas.List.{append-nil, length-map, take-append-drop, length-take-le, drop-drop}
+use Rattle.std.specs.Prelude.{slice_get, slice_range}
+use Rattle.std.proofs.lemmas.List.{append-nil, take-append-drop, length-take-le, drop-drop}
 use Rattle.std.proofs.lemmas.List.{take-append-le}
+use Rattle.std.proofs.lemmas.Option.{slice_get_within}
 use Rattle.std.proofs.Math.Seq.{drop-append_seam, take-append_seam}
 use Rattle.css_tokens.specs.declared.token.Range.{Range}
-use Rattle.css_tokens.specs.Pieces.{pieces_after}
-use Rattle.sheet_reader.specs.declared.repairs.Stretch.{Stretch}
+use Rattle.css_tokens.specs.Pieces.{pieces, pieces_after}
+use Rattle.sheet_reader.specs.declared.parts.Level.TheVariants.{Top}
 use Rattle.sheet_reader.specs.declared.sheet.Sheet.{Sheet}
-use Rattle.sheet_reader.specs.Forms.{RuleForm}
-use Rattle.sheet_reader.specs.Parts.{parts_after}
+use Rattle.sheet_reader.specs.Parts.{parts, parts_after}
 use Rattle.sheet_reader.specs.Layout.{media_in, laid_to}
 use Rattle.sheet_reader.specs.Joins.{is_shut_text, behind_rule, behind_media, joined}
-use Rattle.sheet_reader.specs.Repairs.{IsSeam, at_start, behind_rule as seam_rule, IsSecondSeam, at_end, behind_other, IsStretch}
+use Rattle.sheet_reader.specs.Repairs.{IsShutPlace, IsSeam, IsSecondSeam}
 use Rattle.sheet_reader.specs.Moves.{replaced}
 use Rattle.sheet_reader.specs.Sheets.{rules_in, places_in, sheet_of}
 use Rattle.sheet_reader.proofs.JoinedLaw.{joined_holds}
-use Rattle.sheet_reader.proofs.ShutForms.{shut_at}
+use Rattle.sheet_reader.proofs.RepairBounds.{AreFrom, places_from}
+use Rattle.sheet_reader.proofs.SeamForms.{SeamAt, seam_at, no_element, got_behind}
 
 -- ---- an empty text says nothing
 pub empty_rules : (sheet_of []).rules ≡ []
@@ -37,32 +38,14 @@ unfolding pieces_after parts_after
 empty_shut = refl
 
 -- ---- a text taken apart at a seam
-pub record Apart (text : List ℕ) (place count : ℕ) : Type 0 where
-  pub front : List ℕ
-  pub behind : List ℕ
-  pub is : text ≡ front ++ behind
-  pub size : length front ≡ place
-  pub shut : is_shut_text front ≡ true
-  pub number : length (sheet_of front).rules ≡ count
-
-pub apart : (text : List ℕ) (place count : ℕ) → IsSeam (sheet_of text).rules (length text) place count → Apart text place count
-apart text _ _ at_start =
-    record { front = []; behind = text; is = refl; size = refl; shut = empty_shut; number = ap length empty_rules }
-apart text _ _ (seam_rule k r e none closed) =
-    let s = shut_at text k r e none closed in
-    record {
-      front = s.front;
-      behind = s.behind;
-      is = s.is;
-      size = omega (arith, s.size);
-      shut = s.shut;
-      number = omega (arith, s.number);
-    }
+pub apart : (text : List ℕ) (place : ℕ) → IsSeam text (sheet_of text).places place → SeamAt text place
+apart text place (inl start) = record { front = []; behind = text; is = refl; size = sym start; shut = empty_shut }
+apart text place (inr s) = seam_at text s.number place s.there s.some s.shut
 
 -- a text that a seam ends
-pub ends_there : (text : List ℕ) (count : ℕ) → IsSeam (sheet_of text).rules (length text) (length text) count → is_shut_text text ≡ true
-ends_there text count seam =
-    let a = apart text (length text) count seam in
+pub ends_there : (text : List ℕ) → IsShutPlace text (sheet_of text).places (length text) → is_shut_text text ≡ true
+ends_there text s =
+    let a = seam_at text s.number (length text) s.there s.some s.shut in
     let none : a.behind ≡ [] = nothing a.behind (omega (arith, ap length a.is, length-append a.front a.behind, a.size)) in
     let same : a.front ≡ text = sym (append-nil a.front) ∙ sym (ap (λ (x : List ℕ). a.front ++ x) none) ∙ sym a.is in
     sym (ap is_shut_text same) ∙ a.shut
@@ -92,7 +75,7 @@ joined_or text other (inr none) =
     })
 
 -- ---- and at two seams
-pub record Between (text : List ℕ) (start end before to : ℕ) : Type 0 where
+pub record Between (text : List ℕ) (start end : ℕ) : Type 0 where
   pub front : List ℕ
   pub own : List ℕ
   pub behind : List ℕ
@@ -101,26 +84,12 @@ pub record Between (text : List ℕ) (start end before to : ℕ) : Type 0 where
   pub stop : start + length own ≡ end
   pub front_shut : is_shut_text front ≡ true
   pub own_shut : (is_shut_text own ≡ true) ⊎ (behind ≡ [])
-  pub some : (0 < length own) ⊎ (behind ≡ [])
-  pub front_rules : length (sheet_of front).rules ≡ before
-  pub own_rules : before + length (sheet_of own).rules ≡ to
-
--- the element of a second list
-got_behind : {X : Type 0} (xs ys : List X) (k : ℕ) → length xs ≤ k → slice_get (xs ++ ys) k ≡ slice_get ys (k - length xs)
-got_behind [] ys k fits = let same : k ≡ k - 0 = omega arith in ap (slice_get ys) same
-got_behind (x ∷ xs) ys zero fits = absurd (omega (arith, fits))
-got_behind (x ∷ xs) ys (suc k) fits =
-    let same : suc k - suc (length xs) ≡ k - length xs = omega arith in
-    got_behind xs ys k (omega (arith, fits)) ∙ ap (slice_get ys) (sym same)
+  pub some : (0 < length front + length own) ⊎ (behind ≡ [])
 
 record Mapped {X Y : Type 0} (f : X → Y) (xs : List X) (k : ℕ) (y : Y) : Type 0 where
   x : X
   there : slice_get xs k ≡ Some x
   is : f x ≡ y
-
-no_element : {X : Type 0} (k : ℕ) (x : X) → slice_get [] k ≡ Some x → ⊥
-no_element zero x e = cc
-no_element (suc k) x e = cc
 
 mapped : {X Y : Type 0} (f : X → Y) (xs : List X) (k : ℕ) (y : Y) → slice_get (map f xs) k ≡ Some y → Mapped f xs k y
 mapped f [] k y e = absurd (no_element k y e)
@@ -128,70 +97,110 @@ mapped f (x ∷ xs) zero y e = record { x = x; there = refl; is = cc }
 mapped f (x ∷ xs) (suc k) y e =
     let m = mapped f xs k y e in record { x = m.x; there = m.there; is = m.is }
 
-no_number : (n : ℕ) (o : Option ℕ) → option_map (λ m. n + m) o ≡ None → o ≡ None
-no_number n None e = refl
-no_number n (Some k) e = absurd (cc)
+-- an element of two lists is one of the second, or one of the first
+got_of : {X : Type 0} (xs ys : List X) (k : ℕ) (x : X) → slice_get (xs ++ ys) k ≡ Some x
+    → (slice_get xs k ≡ Some x) ⊎ (length xs ≤ k)
+got_of [] ys k x e = inr (omega arith)
+got_of (y ∷ xs) ys zero x e = inl e
+got_of (y ∷ xs) ys (suc k) x e = elim (got_of xs ys k x e) [ inl there ↦ inl there | inr past ↦ inr (omega (arith, past)) ]
 
-second : (front behind : List ℕ) (start before end to : ℕ) → is_shut_text front ≡ true → length front ≡ start
-    → length (sheet_of front).rules ≡ before
-    → IsSecondSeam (sheet_of (front ++ behind)).rules (length (front ++ behind)) start before end to
-    → Between (front ++ behind) start end before to
-second front behind start before _ _ shut size number at_end =
-    let both = joined_holds front behind shut in
-    let rules = ap (λ (s : Sheet). length s.rules) both
-    ∙ length-append (sheet_of front).rules (map (behind_rule (length front) (length (sheet_of front).media)) (sheet_of behind).rules) in
-    let same = length-map (sheet_of behind).rules (behind_rule (length front) (length (sheet_of front).media)) in
-    record {
-      front = front;
-      own = behind;
-      behind = [];
-      is = ap (λ (x : List ℕ). front ++ x) (sym (append-nil behind));
-      size = size;
-      stop = omega (arith, size, length-append front behind);
-      front_shut = shut;
-      own_shut = inr refl;
-      some = inr refl;
-      front_rules = number;
-      own_rules = omega (arith, rules, same, number);
-    }
-second front behind start before _ _ shut size number (behind_other _ _ first late at_start) = absurd (omega (arith, late))
-second front behind start before _ _ shut size number (behind_other _ _ past more (seam_rule k r e none closed)) =
-    let first : start ≤ r.body.end = omega (arith, past) in
-    let late : before ≤ k = omega (arith, more) in
-    let n = length front in
-    let c = length (sheet_of front).media in
-    let moved = map (behind_rule n c) (sheet_of behind).rules in
-    let rules : (sheet_of (front ++ behind)).rules ≡ (sheet_of front).rules ++ moved =
-    ap (λ (s : Sheet). s.rules) (joined_holds front behind shut) in
-    let j = k - length (sheet_of front).rules in
-    let there : slice_get moved j ≡ Some r =
-    sym (got_behind (sheet_of front).rules moved k (omega (arith, late, number)))
-    ∙ sym (ap (λ (rs : List RuleForm). slice_get rs k) rules) ∙ e in
-    let m = mapped (behind_rule n c) (sheet_of behind).rules j r there in
-    let top : m.x.media ≡ None = no_number c m.x.media (ap (λ (x : RuleForm). x.media) m.is ∙ none) in
-    let end : n + m.x.body.end ≡ r.body.end = ap (λ (x : RuleForm). x.body.end) m.is in
-    let s = shut_at behind j m.x m.there top (omega (arith, end, closed, length-append front behind)) in
-    record {
-      front = front;
-      own = s.front;
-      behind = s.behind;
-      is = ap (λ (x : List ℕ). front ++ x) s.is;
-      size = size;
-      stop = omega (arith, s.size, end, size);
-      front_shut = shut;
-      own_shut = inl s.shut;
-      some = inl (omega (arith, s.size));
-      front_rules = number;
-      own_rules = omega (arith, s.number, late, number);
-    }
+place_bound : (lo hi : ℕ) (xs : List ℕ) (k x : ℕ) → AreFrom lo hi xs → slice_get xs k ≡ Some x → x ≤ hi
+place_bound lo hi [] k x all e = absurd (no_element k x e)
+place_bound lo hi (y ∷ xs) zero x all e = let same : y ≡ x = cc in omega (arith, same, all.1)
+place_bound lo hi (y ∷ xs) (suc k) x all e = place_bound lo hi xs k x all.2 e
 
-pub between : (text : List ℕ) (part : Range) (s : Stretch) → IsStretch (sheet_of text).rules (length text) part s
-    → Between text s.start s.end s.rules.before s.rules.to
-between text part s st =
-    let a = apart text s.start s.rules.before st.front in
-    subst (λ (t : List ℕ). IsSecondSeam (sheet_of t).rules (length t) s.start s.rules.before s.end s.rules.to
-    → Between t s.start s.end s.rules.before s.rules.to) (sym a.is)
-    (second a.front a.behind s.start s.rules.before s.end s.rules.to a.shut a.size a.number) st.back
+-- a place behind a text that ends with a `}` is one of what stands behind it
+place_behind : (front behind : List ℕ) → is_shut_text front ≡ true → (place : ℕ) → length front < place
+    → IsShutPlace (front ++ behind) (sheet_of (front ++ behind)).places place
+    → IsShutPlace behind (sheet_of behind).places (place - length front)
+place_behind front behind shut place past s =
+    by (got_of own moved s.number place there)
+  where
+    own : List ℕ
+    own = (sheet_of front).places
+
+    others : List ℕ
+    others = places_in behind (parts Top (pieces behind))
+
+    moved : List ℕ
+    moved = map (λ x. length front + x) others
+
+    there : slice_get (own ++ moved) s.number ≡ Some place
+    there = sym (ap (λ (t : Sheet). slice_get t.places s.number) (joined_holds front behind shut)) ∙ s.there
+
+    bound : (k : ℕ) → slice_get own k ≡ Some place → place ≤ length front
+    bound zero e = let same : 0 ≡ place = cc in omega (arith, same)
+    bound (suc k) e = place_bound 0 (length front) (places_in front (parts Top (pieces front))) k place (places_from front) e
+
+    by : (slice_get own s.number ≡ Some place) ⊎ (length own ≤ s.number)
+        → IsShutPlace behind (sheet_of behind).places (place - length front)
+    by (inl e) = let fits = bound s.number e in absurd (omega (arith, fits, past))
+    by (inr late) =
+        let m = mapped (λ (x : ℕ). length front + x) others (s.number - length own) place
+        (sym (got_behind own moved s.number late) ∙ there) in
+        let sum : length front + m.x ≡ place = m.is in
+        let at : place - length front ≡ m.x = omega (arith, sum) in
+        let less : length front + (place - length front - 1) ≡ place - 1 = omega (arith, past) in
+        let back : length front + (place - length front - 1) - length front ≡ place - length front - 1 = omega arith in
+        record {
+          number = suc (s.number - length own);
+          there = m.there ∙ ap (λ (k : ℕ). Some k) (sym at);
+          some = omega (arith, past);
+          shut = sym (ap (slice_get behind) back) ∙ sym (got_behind front behind (length front + (place - length front - 1)) (omega arith))
+              ∙ ap (slice_get (front ++ behind)) less ∙ s.shut;
+        }
+
+-- the second seam behind the first
+second : (front behind : List ℕ) (start end : ℕ) → is_shut_text front ≡ true → length front ≡ start → start ≤ end
+    → IsSecondSeam (front ++ behind) (sheet_of (front ++ behind)).places end → Between (front ++ behind) start end
+second front behind start end shut size order (inl last) = record {
+  front = front;
+  own = behind;
+  behind = [];
+  is = ap (λ (x : List ℕ). front ++ x) (sym (append-nil behind));
+  size = size;
+  stop = omega (arith, size, last, length-append front behind);
+  front_shut = shut;
+  own_shut = inr refl;
+  some = inr refl;
+}
+second front behind start end shut size order (inr s) = by (end - start) refl
+  where
+    by : (k : ℕ) → end - start ≡ k → Between (front ++ behind) start end
+    by zero e =
+        let some = s.some in
+        record {
+          front = front;
+          own = [];
+          behind = behind;
+          is = refl;
+          size = size;
+          stop = omega (arith, e, order);
+          front_shut = shut;
+          own_shut = inl empty_shut;
+          some = inl (omega (arith, some, e, order, size));
+        }
+    by (suc k) e =
+        let there = place_behind front behind shut end (omega (arith, e, size)) s in
+        let b = seam_at behind there.number (end - length front) there.there there.some there.shut in
+        record {
+          front = front;
+          own = b.front;
+          behind = b.behind;
+          is = ap (λ (x : List ℕ). front ++ x) b.is;
+          size = size;
+          stop = omega (arith, b.size, size, e);
+          front_shut = shut;
+          own_shut = inl b.shut;
+          some = inl (omega (arith, b.size, size, e));
+        }
+
+pub between : (text : List ℕ) (start end : ℕ) → start ≤ end → IsSeam text (sheet_of text).places start
+    → IsSecondSeam text (sheet_of text).places end → Between text start end
+between text start end order seam back =
+    let a = apart text start seam in
+    subst (λ (t : List ℕ). IsSecondSeam t (sheet_of t).places end → Between t start end) (sym a.is)
+    (second a.front a.behind start end a.shut a.size order) back
 
 -- ---- the new text
 -- where a range of a part is replaced, the text is the same before the part and behind it

@@ -102,7 +102,7 @@ front_of text r q around k _ _ _ _ _ (in_media m first last inner ps within ls r
     absurd (inside text r q (Some k) (suc k) inner within rs xs more path (λ e. cc) none)
 
 -- parts up to a rule that has its `}`, without what stands behind
-flat_front : (level : Level) (ps : List PartForm) (p : PartForm) (qs : List PartForm) → is_shut_part p ≡ true
+pub flat_front : (level : Level) (ps : List PartForm) (p : PartForm) (qs : List PartForm) → is_shut_part p ≡ true
     → AreFlat level (ps ++ p ∷ qs) → AreFlat level (ps ++ p ∷ [])
 flat_front level [] p qs shut all = (shut_rest level p (flat qs) [] shut all.0, tt)
 flat_front level (x ∷ ps) p qs shut all =

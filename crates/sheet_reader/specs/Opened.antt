@@ -1,6 +1,6 @@
 -- A sheet that is taken apart to be edited.
 use Rattle.std.specs.Prelude.{ℕ, List}
-use Rattle.sheet_reader.specs.declared.book.Origin.{Origin}
+use Rattle.node_tree.specs.declared.origins.Origin.{Origin}
 use Rattle.sheet_reader.specs.declared.book.SheetEntry.{SheetEntry}
 use Rattle.sheet_reader.specs.declared.sheet.MediaRule.{MediaRule}
 use Rattle.sheet_reader.specs.declared.sheet.Sheet.{Sheet}

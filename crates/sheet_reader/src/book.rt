@@ -12,16 +12,9 @@ use crate::rereads::{Rereading, carry_out};
 use crate::rules::read_sheet;
 use crate::sheet::Sheet;
 use indexmap::IndexMap;
-use node_tree::Text;
+use node_tree::{Origin, Text};
 use std::alloc::{AllocError, Global};
 use std::marker::Model;
-
-/// Where a sheet comes from.
-#[derive(Clone, Copy, Debug)]
-pub enum Origin {
-    UserAgent,
-    Regular,
-}
 
 /// A sheet: its text, and what it says.
 #[derive(Drop)]

@@ -29,6 +29,7 @@ ghost use Rattle.sheet_reader.specs.Moves.{moved_sheet, replaced, CanMoveBody};
 ghost use Rattle.sheet_reader.specs.Around.{AreThere, AreBelow, IsBelow, AllHold, held, held_at};
 ghost use Rattle.sheet_reader.specs.declared.sheet.MediaRule.{MediaRule};
 ghost use Rattle.sheet_reader.specs.Joins.{is_shut_text, joined};
+ghost use Rattle.sheet_reader.specs.Repairs.{IsShutPlace};
 ghost use Rattle.sheet_reader.specs.Usable.{IsSheetOf, AreDeclarationsOf};
 
 /// Pieces are cut into the parts of a sheet, and into the items of a body, as the grammar of CSS Syntax 3, section 5, has it, and
@@ -90,11 +91,12 @@ pub fn moved_law()
 {}
 
 /// Where a text ends with a rule, and has its `}`, what stands behind it is read as it is alone: the reading of both is that of the
-/// first, and behind it that of the second. So ends the text up to the `}` of each of its style rules at top level, and it has those
-/// rules up to that one.
+/// first, and behind it that of the second. So ends the text up to each of its places that has a `}` before it; and up to the `}` of
+/// each of its style rules at top level, where it has the rules up to that one.
 pub fn joined_law()
     ensures joined { (text other : List ℕ) → is_shut_text text ≡ true
         → sheet_of (text ++ other) ≡ joined (length text) (sheet_of text) (sheet_of other) }
+    ensures closes { (text : List ℕ) (place : ℕ) → IsShutPlace text (sheet_of text).places place → is_shut_text (take place text) ≡ true }
     ensures ends { (text : List ℕ) (k : ℕ) (r : RuleForm) → slice_get (sheet_of text).rules k ≡ Some r → r.media ≡ None
         → r.body.end < length text → is_shut_text (take (r.body.end + 1) text) ≡ true }
     ensures rules { (text : List ℕ) (k : ℕ) (r : RuleForm) → slice_get (sheet_of text).rules k ≡ Some r → r.media ≡ None

@@ -5,10 +5,11 @@
 //!
 //! Promise: `read_sheet` and `read_style` give exactly that reading; `position` and `byte_at` are the lines and UTF-16 columns
 //! of bytes; a `SheetBook` is the list of its entries, each with the reading of its text. `reread` gives the reading of a text of
-//! which a part was replaced: where that is the body of a rule, no more than the new body is read, and else, outside media rules, no
-//! more than what stands between the rules around it. `plan_reread` takes the memory that it wants, `carry_out` and
-//! `SheetBook::retell` take none. An `OpenSheet` is a sheet whose rules get new bodies one after the other: its text is copied once, and
-//! bodies in the order of the text move each rule once.
+//! which a part was replaced: where that is the body of a rule, no more than the new body is read, and else no more than what stands
+//! between the ends of rules with blocks at top level around it. `plan_reread` takes the memory that it wants, `carry_out` and
+//! `SheetBook::retell` take none.
+//! An `OpenSheet` is a sheet whose rules get new bodies one after the other: its text is copied once, and bodies in the order of the text
+//! move each rule once.
 //!
 //! Way in: those, `reread` for a text of which a part was replaced, `sealed` for one that may stand between braces, and `lone_rule`
 //! for one that is one rule.
@@ -16,7 +17,7 @@
 //! Laws, in src/laws.rt: `grammar_law` (parts and items are as CSS Syntax has them, and in no other way), `nesting_law`,
 //! `position_law`, `usable_law` (every range can be cut out, and they stand in one another as they should), `moved_law` (after an
 //! edit of a rule's body the reading is the old one with its places moved, as `move_body` makes it without reading) and `joined_law`
-//! (what stands behind the `}` of a rule at top level is read as it is alone). Laws from the table of pieces up stand in `sheet_laws`.
+//! (what stands behind a `}` at top level is read as it is alone). Laws from the table of pieces up stand in `sheet_laws`.
 #![tactic(auto)]
 
 mod book;
@@ -34,13 +35,14 @@ mod opened;
 mod parts;
 mod place;
 mod places;
+mod renumber;
 mod repairs;
 mod rereads;
 mod rules;
 mod sealing;
 mod sheet;
 
-pub use book::{Origin, SheetBook, SheetEntry};
+pub use book::{SheetBook, SheetEntry};
 pub use declarations::read_style;
 pub use laws::{
     around_law, grammar_law, joined_law, moved_law, nesting_law, position_law, usable_law,
@@ -48,6 +50,7 @@ pub use laws::{
 pub use lists::{MediaRules, Places, Properties, StyleRules};
 pub use lone::{LoneRule, lone_rule};
 pub use moves::move_body;
+pub use node_tree::Origin;
 pub use opened::OpenSheet;
 pub use place::Position;
 pub use places::{byte_at, position};

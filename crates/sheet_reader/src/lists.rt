@@ -223,6 +223,13 @@ impl MediaRules {
         self.rules.as_slice()
     }
 
+    /// Gives the rules back.
+    pub fn into_vec(self) -> Vec<MediaRule>
+        ensures { result.items ≡ self }
+    {
+        self.rules
+    }
+
     /// Moves all their preludes. Takes no memory.
     pub(crate) fn move_behind(&mut self, gap: Gap)
         requires { All (CanPlaceMedia (cut gap.start gap.end gap.size)) self.old }

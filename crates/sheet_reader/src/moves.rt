@@ -73,7 +73,8 @@ pub(crate) fn move_media(rules: &mut [MediaRule], gap: Gap)
     }
 }
 
-fn move_rule(rule: &mut StyleRule, gap: Gap)
+/// Moves all ranges of a rule.
+pub(crate) fn move_rule(rule: &mut StyleRule, gap: Gap)
     requires { CanPlaceRule (cut gap.start gap.end gap.size) (rule_seen rule.old) }
     ensures { rule_seen rule.new ≡ placed_rule (moved_place (cut gap.start gap.end gap.size)) (rule_seen rule.old) }
 {

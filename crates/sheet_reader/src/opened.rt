@@ -11,13 +11,13 @@ ghost use Rattle.sheet_reader.specs.Moves.{replaced};
 ghost use Rattle.sheet_reader.specs.Rereads.{HasBody, retold};
 ghost use Rattle.sheet_reader.specs.Sealing.{is_sealed};
 
-use crate::book::{Origin, SheetEntry};
+use crate::book::SheetEntry;
 use crate::late::LateRules;
 use crate::lists::{MediaRules, Places, Properties};
 use crate::moves::Gap;
 use crate::sheet::{Property, Sheet};
 use css_tokens::Range;
-use node_tree::Text;
+use node_tree::{Origin, Text};
 use std::alloc::{AllocError, Global};
 use std::marker::Model;
 
@@ -136,7 +136,8 @@ impl OpenSheet {
         requires read { properties.items ≡ style_of put.now }
         requires short { length (replaced self.old.text body put.now) ≤ max_sheet_bytes }
         ensures set { OnOk result (self.new ≡ retold (replaced self.old.text body put.now) self.old) }
-        ensures rule { OnOk result (IsSomeAnd (slice_get self.new.reading.rules rule) (HasBody (range body.start (body.start + length put.now)))) }
+        ensures rule { OnOk result (IsSomeAnd (slice_get self.new.reading.rules rule)
+            (HasBody (range body.start (body.start + length put.now)))) }
         ensures unchanged { OnErr result (self.new ≡ self.old) }
     {
         // Read for the proof alone: a text is UTF-8.

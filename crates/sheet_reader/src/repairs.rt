@@ -1,17 +1,21 @@
-//! Readings of which a part, between rules at top level, is read anew.
+//! Readings of which a part, between two ends of parts at top level, is read anew.
 
-ghost use Rattle.std.specs.Prelude.{◌≡◌, ◌<◌, ◌≤◌, ◌+◌, ◌-◌, ◌++◌, [], ℕ, All, length, map, take, drop, vec_capacity, IfOk, IfSome};
-ghost use Rattle.std.specs.Prelude.{nat_le, nat_lt, ◌==◌, ◌&&◌, true, is_none};
-ghost use Rattle.std.specs.List.{list_all, list_any, prefix_len};
+ghost use Rattle.std.specs.Prelude.{◌≡◌, ◌<◌, ◌≤◌, ◌+◌, ◌-◌, ◌++◌, [], All, length, map, take, drop, slice_get, vec_capacity, IfOk, IfSome};
+ghost use Rattle.std.specs.Prelude.{nat_le, ◌==◌, ◌&&◌, true, Some};
+ghost use Rattle.std.specs.List.{prefix_len};
 ghost use Rattle.node_tree.specs.Numbers.{number_limit};
 ghost use Rattle.selectors.specs.Moves.{cut, moved_place, CanPlace};
+ghost use Rattle.sheet_reader.specs.Around.{IsBelow};
 ghost use Rattle.sheet_reader.specs.Forms.{rule_seen};
-ghost use Rattle.sheet_reader.specs.Moves.{placed_rule, CanPlaceRule};
-ghost use Rattle.sheet_reader.specs.Repairs.{IsShare, HasRoom, CanRepair, repaired, shared, IsRuleWithin, IsSeam, IsSecondSeam, IsStretch};
-ghost use Rattle.sheet_reader.specs.Repairs.{starts_between, StandsAlone, IsNewPart};
+ghost use Rattle.sheet_reader.specs.Moves.{IsWithin};
+ghost use Rattle.sheet_reader.specs.Repairs.{IsShare, HasRoom, CanRepair, repaired, shared, IsRuleWithin, IsShutPlace, IsSeam};
+ghost use Rattle.sheet_reader.specs.Repairs.{IsSecondSeam};
+ghost use Rattle.sheet_reader.specs.Repairs.{moved_number, renumbered_rule, renumbered_media, CanRenumberRule, CanRenumberMedia};
+ghost use Rattle.sheet_reader.specs.Repairs.{IsStretch, StandsAlone, IsShareOf, IsNewPart};
 
-use crate::lists::{Places, StyleRules};
-use crate::moves::{Gap, move_places, move_rules, raised};
+use crate::lists::{MediaRules, Places, StyleRules};
+use crate::moves::{Gap, move_places};
+use crate::renumber::{Numbers, Shift, raised_media, raised_rules, renumber_media, renumber_rules};
 use crate::sheet::{MediaRule, Sheet, StyleRule};
 use css_tokens::Range;
 use std::alloc::{AllocError, Global};
@@ -23,15 +27,7 @@ pub struct Share {
     pub to: usize,
 }
 
-/// A part of a sheet between two of its rules at top level, in bytes, and its share of the rules.
-#[derive(Clone, Copy)]
-pub struct Stretch {
-    pub start: usize,
-    pub end: usize,
-    pub rules: Share,
-}
-
-/// A part of a sheet between two of its rules at top level, which became another text and was read anew.
+/// A part of a sheet between two ends of parts at top level, which became another text and was read anew.
 #[derive(Drop)]
 pub struct NewPart {
     /// Where the part started and ended.
@@ -43,16 +39,23 @@ pub struct NewPart {
     pub rule_share: Share,
     /// Its share of the places that the sheet had.
     pub place_share: Share,
+    /// Its share of the media rules that the sheet had.
+    pub media_share: Share,
     /// Its rules, with their places in the sheet.
     pub rules: Vec<StyleRule>,
     /// Its places in the sheet.
     pub places: Vec<usize>,
+    /// Its media rules, with their places in the sheet.
+    pub media: Vec<MediaRule>,
     /// Memory for all the rules of the new reading, and for those behind the part.
     pub rule_room: Vec<StyleRule>,
     pub rule_rest: Vec<StyleRule>,
     /// Memory for all its places, and for those behind the part.
     pub place_room: Vec<usize>,
     pub place_rest: Vec<usize>,
+    /// Memory for all its media rules, and for those behind the part.
+    pub media_room: Vec<MediaRule>,
+    pub media_rest: Vec<MediaRule>,
 }
 
 /// Moves the elements of a list before a share of it to one list, and those behind it to another.
@@ -98,17 +101,42 @@ fn repaired_rules(
     new: Vec<StyleRule>,
     mut room: Vec<StyleRule>,
     mut rest: Vec<StyleRule>,
-    gap: Gap,
+    shift: Shift,
 ) -> StyleRules
     requires share { IsShare (length old) share }
     requires room { HasRoom (length old) (length new.items) (vec_capacity room) (vec_capacity rest) share }
     requires empty { (room.items ≡ []) × (rest.items ≡ []) }
-    requires behind { All (CanPlaceRule (cut gap.start gap.end gap.size)) (drop share.to old) }
-    ensures { result ≡ shared (placed_rule (moved_place (cut gap.start gap.end gap.size))) share (map rule_seen new.items) old }
+    requires behind { All (CanRenumberRule (cut shift.gap.start shift.gap.end shift.gap.size) shift.share shift.count) (drop share.to old) }
+    ensures { result
+        ≡ shared (renumbered_rule (moved_place (cut shift.gap.start shift.gap.end shift.gap.size)) (moved_number shift.share shift.count))
+        share (map rule_seen new.items) old }
 {
     divided(old.into_vec(), share, &mut room, &mut rest);
-    move_rules(&mut rest, gap);
+    renumber_rules(&mut rest, shift);
     StyleRules::new(joined(room, new, rest))
+}
+
+/// The media rules of a sheet with new ones in the place of a share of them, and those behind moved.
+fn repaired_media(
+    old: MediaRules,
+    share: Share,
+    new: Vec<MediaRule>,
+    mut room: Vec<MediaRule>,
+    mut rest: Vec<MediaRule>,
+    shift: Shift,
+) -> MediaRules
+    requires share { IsShare (length old) share }
+    requires room { HasRoom (length old) (length new.items) (vec_capacity room) (vec_capacity rest) share }
+    requires empty { (room.items ≡ []) × (rest.items ≡ []) }
+    requires behind { All (CanRenumberMedia (cut shift.gap.start shift.gap.end shift.gap.size) shift.share shift.count)
+        (drop share.to old) }
+    ensures { result
+        ≡ shared (renumbered_media (moved_place (cut shift.gap.start shift.gap.end shift.gap.size)) (moved_number shift.share shift.count))
+        share new.items old }
+{
+    divided(old.into_vec(), share, &mut room, &mut rest);
+    renumber_media(&mut rest, shift);
+    MediaRules::new(joined(room, new, rest))
 }
 
 /// The places of a sheet with new ones in the place of a share of them, and those behind moved.
@@ -137,16 +165,20 @@ pub(crate) fn repair(old: Sheet, new: NewPart) -> Sheet
     ensures { result ≡ repaired old new }
 {
     let gap = Gap {
-        start: new.start,
+        start: 0,
         end: new.end,
-        size: new.size,
+        size: new.start + new.size,
+    };
+    let shift = Shift {
+        gap,
+        share: new.media_share,
+        count: new.media.len(),
     };
     let Sheet {
         rules,
         places,
-        mut media,
+        media,
     } = old;
-    media.move_behind(gap);
     Sheet {
         rules: repaired_rules(
             rules,
@@ -154,7 +186,7 @@ pub(crate) fn repair(old: Sheet, new: NewPart) -> Sheet
             new.rules,
             new.rule_room,
             new.rule_rest,
-            gap,
+            shift,
         ),
         places: repaired_places(
             places,
@@ -164,47 +196,15 @@ pub(crate) fn repair(old: Sheet, new: NewPart) -> Sheet
             new.place_rest,
             gap,
         ),
-        media,
+        media: repaired_media(
+            media,
+            new.media_share,
+            new.media,
+            new.media_room,
+            new.media_rest,
+            shift,
+        ),
     }
-}
-
-fn raised_rule(rule: StyleRule, start: usize, size: usize) -> StyleRule
-    requires within { IsRuleWithin size (rule_seen rule) }
-    requires fits { start + size < number_limit }
-    ensures { rule_seen result ≡ placed_rule (λ place. start + place) (rule_seen rule) }
-{
-    let StyleRule {
-        prelude,
-        selectors,
-        body,
-        properties,
-        media,
-    } = rule;
-    StyleRule {
-        prelude: raised(prelude, start),
-        selectors: selectors.shift(0, start),
-        body: raised(body, start),
-        properties: properties.raised(start, size),
-        media,
-    }
-}
-
-/// The rules, `start` bytes further back.
-fn raised_rules(
-    alloc: Global,
-    rules: Vec<StyleRule>,
-    start: usize,
-    size: usize,
-) -> Result<Vec<StyleRule>, AllocError>
-    requires within { All (IsRuleWithin size) (map rule_seen rules.items) }
-    requires fits { start + size < number_limit }
-    ensures { IfOk result (λ made. map rule_seen made.items ≡ map (placed_rule (λ place. start + place)) (map rule_seen rules.items)) }
-{
-    let mut made = Vec::new(alloc);
-    for rule in rules {
-        made.push(raised_rule(rule, start, size))?;
-    }
-    Ok(made)
 }
 
 /// The places, `start` bytes further back.
@@ -225,123 +225,104 @@ fn raised_places(
     Ok(made)
 }
 
-/// The end of the rule with this number, where it stands at top level and has its `}`.
-fn seam_at(rules: &[StyleRule], len: usize, i: usize) -> Option<usize>
-    ensures { IfSome result (λ place. IsSeam (map rule_seen rules.now) len place (i + 1)) }
+/// Whether a `}` stands before a place.
+fn is_shut(text: &[u8], place: usize) -> bool
+    ensures some { result ≡ true → 0 < place }
+    ensures shut { result ≡ true → slice_get text.now (place - 1) ≡ Some 125 }
 {
-    let rule = rules.get(i)?;
-    if rule.media.is_none() && rule.body.end < len {
-        Some(rule.body.end + 1)
+    if place == 0 {
+        return false;
+    }
+    match text.get(place - 1) {
+        Some(byte) => *byte == b'}',
+        None => false,
+    }
+}
+
+/// The place with this number, where a `}` stands before it.
+fn seam_at(text: &[u8], places: &[usize], i: usize) -> Option<usize>
+    ensures { IfSome result (IsShutPlace text.now places.now) }
+{
+    let place = places.get(i)?;
+    if is_shut(text, *place) {
+        Some(*place)
     } else {
         None
     }
 }
 
-/// The end of the last rule at top level that ends at or before a place, and how many rules there are up to it.
-fn seam_before(rules: &[StyleRule], len: usize, place: usize) -> (usize, usize)
-    ensures seam { IsSeam (map rule_seen rules.now) len result.0 result.1 }
-    ensures before { result.0 ≤ place }
+/// The last of the places at or before one that has a `}` before it, or the beginning of the text.
+fn seam_before(text: &[u8], places: &[usize], place: usize) -> usize
+    ensures seam { IsSeam text.now places.now result }
+    ensures before { result ≤ place }
 {
-    let ended = rules.partition_point(|rule| rule.body.end < place);
+    let ended = places.partition_point(|end| *end <= place);
     for passed in 0..ended {
-        let i = ended - 1 - passed;
-        if let Some(seam) = seam_at(rules, len, i) {
+        if let Some(seam) = seam_at(text, places, ended - 1 - passed) {
             if seam <= place {
-                return (seam, i + 1);
+                return seam;
             }
         }
     }
-    (0, 0)
+    0
 }
 
-/// The end of the first rule at top level, behind so many others, that ends behind a place, and how many rules there are up to it; or
-/// the end of the text.
-fn seam_behind(rules: &[StyleRule], len: usize, before: usize, place: usize) -> (usize, usize)
-    requires { place ≤ len }
-    ensures seam { (first : ℕ) → first ≤ place → IsSecondSeam (map rule_seen rules.now) len first before result.0 result.1 }
-    ensures behind { place ≤ result.0 }
-    ensures inside { result.0 ≤ len }
+/// The first of the places at or behind one that has a `}` before it, or the end of the text.
+fn seam_behind(text: &[u8], places: &[usize], place: usize) -> usize
+    requires { place ≤ length text.now }
+    ensures seam { IsSecondSeam text.now places.now result }
+    ensures behind { place ≤ result }
+    ensures inside { result ≤ length text.now }
 {
-    let ended = rules.partition_point(|rule| rule.body.end < place);
-    for i in ended..rules.len() {
-        if let Some(seam) = seam_at(rules, len, i) {
-            if before <= i && place < seam && seam <= len {
-                return (seam, i + 1);
+    let ended = places.partition_point(|end| *end < place);
+    for i in ended..places.len() {
+        if let Some(seam) = seam_at(text, places, i) {
+            if place <= seam && seam <= text.len() {
+                return seam;
             }
         }
     }
-    (len, rules.len())
+    text.len()
 }
 
-/// The part of a sheet between two rules at top level in which this range stands.
-pub(crate) fn stretch_around(rules: &[StyleRule], len: usize, part: Range) -> Option<Stretch>
-    ensures { IfSome result (IsStretch (map rule_seen rules.now) len part) }
+/// The stretch of a text around a range, from a `}` at top level up to and with another one: these places are the ends of the parts
+/// there.
+pub(crate) fn stretch_around(text: &[u8], places: &[usize], part: Range) -> Option<Range>
+    ensures { IfSome result (IsStretch text.now places.now part) }
 {
-    if part.start > part.end || part.end > len {
+    if part.start > part.end || part.end > text.len() {
         return None;
     }
-    let (start, before) = seam_before(rules, len, part.start);
-    let (end, to) = seam_behind(rules, len, before, part.end);
-    Some(Stretch {
-        start,
-        end,
-        rules: Share { before, to },
-    })
+    let start = seam_before(text, places, part.start);
+    let end = seam_behind(text, places, part.end);
+    Some(Range { start, end })
 }
 
-/// Whether a part is all of a sheet with this length, so that nothing of its reading would be kept.
-pub(crate) fn is_all(stretch: Stretch, len: usize) -> bool
+/// Whether a stretch is all of a text with this length, so that nothing of its reading would be kept.
+pub(crate) fn is_all(stretch: Range, len: usize) -> bool
     ensures { result ≡ (stretch.start == 0 && stretch.end == len) }
 {
     stretch.start == 0 && stretch.end == len
 }
 
-/// Whether the prelude of a media rule starts between two places, or at one of them.
-pub(crate) fn meets_media(media: &[MediaRule], start: usize, end: usize) -> bool
-    ensures { result ≡ list_any (starts_between start end) media.now }
+/// Whether a text ends with the `}` of a part at top level, where these places are the ends of the parts there.
+fn ends_shut(text: &[u8], places: &[usize]) -> bool
+    ensures { result ≡ true → IsShutPlace text.now places.now (length text.now) }
 {
-    media.iter().any(|rule| start <= rule.prelude.start && rule.prelude.start <= end)
-}
-
-/// Whether the last of the rules of a text stands at top level, and the text ends with its `}`.
-fn ends_shut(rules: &[StyleRule], len: usize) -> bool
-    ensures { result ≡ true → IsSeam (map rule_seen rules.now) len len (length rules.now) }
-{
-    if rules.is_empty() {
+    if places.is_empty() {
         return false;
     }
-    match seam_at(rules, len, rules.len() - 1) {
-        Some(seam) => seam == len,
+    match seam_at(text, places, places.len() - 1) {
+        Some(seam) => seam == text.len(),
         None => false,
     }
 }
 
-/// Whether no rule stands in a media rule.
-fn are_top(rules: &[StyleRule]) -> bool
-    ensures { result ≡ list_all (λ r. is_none r.media) rules.now }
+/// Whether a text with these places may stand in another one, unless it is the last part before others.
+pub(crate) fn stands_alone(text: &[u8], places: &[usize], last: bool) -> bool
+    ensures { result ≡ true → StandsAlone text.now places.now last }
 {
-    rules.iter().all(|rule| rule.media.is_none())
-}
-
-fn has_media(sheet: &Sheet) -> bool
-    ensures { result ≡ nat_lt 0 (length sheet.now.media) }
-{
-    sheet.media.len() > 0
-}
-
-/// Whether the reading of a part can stand in the reading of a sheet, behind other rules and, unless the part is the last one, before
-/// others.
-pub(crate) fn stands_alone(sheet: &Sheet, len: usize, last: bool) -> bool
-    ensures { result ≡ true → StandsAlone sheet.now len last }
-{
-    if has_media(sheet) {
-        return false;
-    }
-    let rules = sheet.rules.as_slice();
-    if !are_top(rules) {
-        return false;
-    }
-    last || ends_shut(rules, len)
+    last || ends_shut(text, places)
 }
 
 /// How many places do not stand behind one.
@@ -349,6 +330,62 @@ fn places_up_to(places: &[usize], end: usize) -> usize
     ensures count { result ≡ prefix_len (λ place. nat_le place end) places.now }
 {
     places.iter().take_while(|place| **place <= end).count()
+}
+
+/// How many bodies do not start behind a place.
+fn bodies_up_to(rules: &[StyleRule], end: usize) -> usize
+    ensures count { result ≡ prefix_len (λ r. nat_le r.body.start end) rules.now }
+{
+    rules
+        .iter()
+        .take_while(|rule| rule.body.start <= end)
+        .count()
+}
+
+/// How many preludes of media rules do not end behind a place.
+fn preludes_up_to(rules: &[MediaRule], end: usize) -> usize
+    ensures count { result ≡ prefix_len (λ m. nat_le m.prelude.end end) rules.now }
+{
+    rules
+        .iter()
+        .take_while(|rule| rule.prelude.end <= end)
+        .count()
+}
+
+/// The share of the places that a stretch has.
+fn share_of_places(places: &[usize], stretch: Range) -> Share
+    ensures share { IsShareOf places.now stretch result }
+    ensures front { result.before ≤ length places.now }
+    ensures inside { result.to ≤ length places.now }
+{
+    Share {
+        before: places_up_to(places, stretch.start),
+        to: places_up_to(places, stretch.end),
+    }
+}
+
+/// The share of the style rules that a stretch has.
+fn share_of_rules(rules: &[StyleRule], stretch: Range) -> Share
+    ensures share { IsShareOf (map (λ r. r.body.start) rules.now) stretch result }
+    ensures front { result.before ≤ length rules.now }
+    ensures inside { result.to ≤ length rules.now }
+{
+    Share {
+        before: bodies_up_to(rules, stretch.start),
+        to: bodies_up_to(rules, stretch.end),
+    }
+}
+
+/// The share of the media rules that a stretch has.
+fn share_of_media(rules: &[MediaRule], stretch: Range) -> Share
+    ensures share { IsShareOf (map (λ m. m.prelude.end) rules.now) stretch result }
+    ensures front { result.before ≤ length rules.now }
+    ensures inside { result.to ≤ length rules.now }
+{
+    Share {
+        before: preludes_up_to(rules, stretch.start),
+        to: preludes_up_to(rules, stretch.end),
+    }
 }
 
 /// The places but the first.
@@ -365,36 +402,48 @@ fn but_first(places: &[usize]) -> &[usize]
 pub(crate) fn new_part(
     alloc: Global,
     old: &Sheet,
-    stretch: Stretch,
+    stretch: Range,
     own: Sheet,
     size: usize,
 ) -> Result<NewPart, AllocError>
     requires rules { All (IsRuleWithin size) own.rules }
     requires places { All (λ place. place ≤ size) own.places }
+    requires media { All (λ m. IsWithin size m.prelude) own.media }
+    requires around { All (λ r. IsBelow (length own.media) r.media) own.rules }
+    requires inside { All (λ m. IsBelow (length own.media) m.inside) own.media }
     requires fits { stretch.start + size < number_limit }
-    requires share { IsShare (length old.now.rules) stretch.rules }
     requires order { stretch.start ≤ stretch.end }
     ensures { IfOk result (IsNewPart old.now stretch own size) }
 {
     let rules = old.rules.as_slice();
     let places = old.places.as_slice();
-    let place_share = Share {
-        before: places_up_to(places, stretch.start),
-        to: places_up_to(places, stretch.end),
+    let media = old.media.as_slice();
+    let rule_share = share_of_rules(rules, stretch);
+    let place_share = share_of_places(places, stretch);
+    let media_share = share_of_media(media, stretch);
+    let own_media = own.media.as_slice();
+    let numbers = Numbers {
+        before: media_share.before,
+        count: own_media.len(),
     };
+    let new_media = raised_media(alloc, own_media, stretch.start, size, numbers)?;
     let new_places = raised_places(alloc, but_first(own.places.as_slice()), stretch.start, size)?;
-    let new_rules = raised_rules(alloc, own.rules.into_vec(), stretch.start, size)?;
+    let new_rules = raised_rules(alloc, own.rules.into_vec(), stretch.start, size, numbers)?;
     Ok(NewPart {
         start: stretch.start,
         end: stretch.end,
         size,
-        rule_share: stretch.rules,
+        rule_share,
         place_share,
+        media_share,
         rule_room: Vec::with_capacity(alloc, rules.len() + new_rules.len())?,
-        rule_rest: Vec::with_capacity(alloc, rules.len() - stretch.rules.to)?,
+        rule_rest: Vec::with_capacity(alloc, rules.len() - rule_share.to)?,
         place_room: Vec::with_capacity(alloc, places.len() + new_places.len())?,
         place_rest: Vec::with_capacity(alloc, places.len() - place_share.to)?,
+        media_room: Vec::with_capacity(alloc, media.len() + new_media.len())?,
+        media_rest: Vec::with_capacity(alloc, media.len() - media_share.to)?,
         rules: new_rules,
         places: new_places,
+        media: new_media,
     })
 }

@@ -10,9 +10,7 @@ ghost use Rattle.sheet_reader.specs.Sheets.{sheet_of};
 
 use crate::declarations::read_style;
 use crate::moves::move_body;
-use crate::repairs::{
-    NewPart, is_all, meets_media, new_part, repair, stands_alone, stretch_around,
-};
+use crate::repairs::{NewPart, is_all, new_part, repair, stands_alone, stretch_around};
 use crate::rules::read_sheet;
 use crate::sealing::sealed;
 use crate::sheet::{Property, Sheet, StyleRule};
@@ -96,7 +94,7 @@ fn plan_body(
     }))
 }
 
-/// The new part, where `put` stands between two rules at top level. Only what stands between them is read.
+/// The new part, where `put` stands between two ends of rules with blocks at top level. Only what stands between them is read.
 fn plan_part(
     alloc: Global,
     old: &Sheet,
@@ -110,13 +108,10 @@ fn plan_part(
     requires short { nat_lt (length old_text.now + length put.now) (number_limit - 1) ≡ true }
     ensures leads { IfOk result (λ plan. IfSome plan (λ new. LeadsTo (sheet_of new_text.now) old.now (Part new))) }
 {
-    let Some(stretch) = stretch_around(old.rules.as_slice(), old_text.len(), part) else {
+    let Some(stretch) = stretch_around(old_text.as_bytes(), old.places.as_slice(), part) else {
         return Ok(None);
     };
     if is_all(stretch, old_text.len()) {
-        return Ok(None);
-    }
-    if meets_media(old.media.as_slice(), stretch.start, stretch.end) {
         return Ok(None);
     }
     let stop = stretch.end - (part.end - part.start) + put.len();
@@ -125,15 +120,15 @@ fn plan_part(
     };
     let sheet = read_sheet(alloc, text)?;
     let is_last = stretch.end == old_text.len();
-    if !stands_alone(&sheet, text.len(), is_last) {
+    if !stands_alone(text.as_bytes(), sheet.places.as_slice(), is_last) {
         return Ok(None);
     }
     Ok(Some(new_part(alloc, old, stretch, sheet, text.len())?))
 }
 
 /// How the reading of a text becomes that of another one, in which `put` stands in the place of a part. Where a rule has its body
-/// there and `put` is sealed, only `put` is read. Else, where `put` stands between two rules at top level, only what stands between
-/// them is read; and otherwise the whole of the new text.
+/// there and `put` is sealed, only `put` is read. Else, where `put` stands between two ends of rules with blocks at top level, media
+/// rules among them, only what stands between them is read; and otherwise the whole of the new text.
 pub fn plan_reread(
     alloc: Global,
     old: &Sheet,
@@ -171,9 +166,9 @@ pub fn carry_out(old: Sheet, plan: Rereading) -> Sheet
 }
 
 /// The reading of a text that is another one, of which this is the reading, with `put` in the place of the bytes from `start` up to
-/// `end`. Where a rule has its body there and `put` is sealed, only `put` is read, and where it stands between two rules at top level
-/// only what stands between them; the old reading is moved. Otherwise the whole of the new text is read. After an error the old
-/// reading is gone.
+/// `end`. Where a rule has its body there and `put` is sealed, only `put` is read, and where it stands between two ends of rules with
+/// blocks at top level only what stands between them; the old reading is moved. Otherwise the whole of the new text is read. After an
+/// error the old reading is gone.
 pub fn reread(
     alloc: Global,
     old: Sheet,

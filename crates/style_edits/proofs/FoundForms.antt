@@ -15,8 +15,8 @@ use Rattle.std.proofs.lemmas.List.Elements.{All-head, All-tail}
 use Rattle.css_tokens.specs.declared.token.Range.{Range}
 use Rattle.selectors.specs.Ranges.{IsRangeOf}
 use Rattle.selectors.specs.Reading.{selectors_of}
-use Rattle.sheet_reader.specs.declared.book.Origin.{Origin}
-use Rattle.sheet_reader.specs.declared.book.Origin.TheVariants as origins
+use Rattle.node_tree.specs.declared.origins.Origin.{Origin}
+use Rattle.node_tree.specs.declared.origins.Origin.TheVariants as origins
 use Rattle.sheet_reader.specs.declared.book.SheetEntry.{SheetEntry}
 use Rattle.sheet_reader.specs.declared.lone.LoneRule.{LoneRule}
 use Rattle.sheet_reader.specs.declared.lone.LoneRule.TheVariants as lone

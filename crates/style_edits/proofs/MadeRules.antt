@@ -7,8 +7,8 @@ use Rattle.std.specs.List.{find}
 use Rattle.std.proofs.lemmas.Bool.{eqb-true}
 use Rattle.std.proofs.lemmas.List.Elements.{All-head, All-tail, All-nil, All-cons}
 use Rattle.css_tokens.specs.declared.token.Range.{Range}
-use Rattle.sheet_reader.specs.declared.book.Origin.{Origin}
-use Rattle.sheet_reader.specs.declared.book.Origin.TheVariants as origins
+use Rattle.node_tree.specs.declared.origins.Origin.{Origin}
+use Rattle.node_tree.specs.declared.origins.Origin.TheVariants as origins
 use Rattle.sheet_reader.specs.declared.book.SheetEntry.{SheetEntry}
 use Rattle.sheet_reader.specs.declared.sheet.Property.{Property}
 use Rattle.sheet_reader.specs.declared.sheet.Sheet.{Sheet}

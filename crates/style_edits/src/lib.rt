@@ -5,9 +5,9 @@
 //!
 //! Promise: on Ok the book is exactly what the edit comes to, by ids, origins and texts alone, and the answer leads back; on a
 //! fault it is the first by number of the first edit that has one, and the book is as before, as it is after want of memory.
-//! A sealed text in the place of a rule's body is read alone, and after another edit what stands between the rules at top level around it;
-//! the sheet's reading is moved. An edit in a media rule, but of a body, has the sheet read anew. Where a call edits the bodies of a sheet
-//! more than once, the sheet is taken out of the book once, its text edited in place, and its rules moved once where the edits ascend.
+//! A sealed text in the place of a rule's body is read alone, and after another edit what stands between the ends of rules with blocks at
+//! top level around it; the sheet's reading is moved. Where a call edits the bodies of a sheet more than once, the sheet is
+//! taken out of the book once, its text edited in place, and its rules moved once where the edits ascend.
 //!
 //! Way in: `set_styles`, `set_selector`, `set_text`, `add_rule` and `set_media`; `put_back` makes a splice; `add_sheet` and `drop_sheet`
 //! for a script.

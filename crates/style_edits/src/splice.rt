@@ -17,7 +17,7 @@ pub struct Splice {
 }
 
 /// Makes a splice, and answers the one that leads back. Where it replaces the body of a rule by a sealed text, only that is read, and else
-/// what stands between rules at top level around it, unless a media rule is among it. On an error the book is as it was.
+/// what stands between the ends of rules with blocks at top level around it. On an error the book is as it was.
 pub fn put_back(book: &mut SheetBook, splice: Splice) -> Result<Splice, AllocError>
     requires { FitsSplice splice book.old }
     ensures done { OnOk result (book.new ≡ after_splice splice book.old) }

@@ -4,7 +4,7 @@ use Rattle.std.proofs.Common.{◌∙◌}
 use Rattle.std.specs.Prelude.{◌≤◌, ◌^◌, IsSomeAnd}
 use Rattle.std.proofs.lemmas.Bool.{eq-eqb}
 use Rattle.sheet_reader.specs.declared.book.SheetEntry.{SheetEntry}
-use Rattle.sheet_reader.specs.declared.book.Origin.TheVariants.{Regular}
+use Rattle.node_tree.specs.declared.origins.Origin.TheVariants.{Regular}
 use Rattle.selectors.specs.Ranges.{IsRangeOf}
 use Rattle.sheet_reader.specs.Forms.{range}
 use Rattle.sheet_reader.specs.Sheets.{sheet_of}

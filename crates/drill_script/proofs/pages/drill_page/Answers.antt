@@ -1,13 +1,13 @@
 use Rattle.std.proofs.Common.{◌++◌, ◌∷◌, [], ap, ◌∙◌, sym, subst}
 use Rattle.drill_script.specs.DrillNodes.{drill_nodes}
-use Rattle.drill_script.specs.Hanging.{AreNumbered}
+use Rattle.drill_script.specs.Hanging.{AreDivsNumbered}
 use Rattle.drill_script.proofs.DivLemmas.{page-numbered}
 use Rattle.drill_script.proofs.LineLaws.{divs-few}
 use Rattle.drill_script.proofs.PageLaws.{page-can, page-has}
 use Rattle.drill_script.proofs.pages.drill_page.Goals as goal
 
 pub drill_nodes-requires : goal.drill_nodes-requires
-drill_nodes-requires c = subst (AreNumbered 1) (sym c.in_ok-drawn.ensures.divs) (page-numbered c.args.divs)
+drill_nodes-requires c = subst (AreDivsNumbered 1) (sym c.in_ok-drawn.ensures.divs) (page-numbered c.args.divs)
 
 pub returns-clause-can : goal.returns-clause-can
 returns-clause-can c =

@@ -7,7 +7,7 @@ use Rattle.inspect_world.specs.Costs.{line_bytes}
 use Rattle.pair_world.specs.PairRuns.{pair_loaded_run}
 use Rattle.pair_world.specs.PairScripts.{after_pair_lines, pair_shown_lines, pair_rest_refused}
 use Rattle.pair_world.specs.PairFresh.{fresh_pair_lines}
-use Rattle.pair_world.specs.PairLinks.{IsLater, pair_started}
+use Rattle.pair_world.specs.PairLinks.{IsLaterMoment, pair_started}
 use Rattle.pair_replay.proofs.PairFollows.{run-here}
 use Rattle.pair_replay.specs.PairAnswers.{pair_since, PairAnswersInOrder, PairEndsShown, moment_of}
 use Rattle.pair_replay.proofs.LinesTell.{closing-tells}
@@ -188,7 +188,7 @@ returns-in-Ok-clause-closes g c =
     let down1 = g.L.Link.down c.close.new.link in
     ends-shown c.close.result (g.K.Sink.taken c.args.out.now) (g.K.Sink.taken c.run_lines.new.out) (g.K.Sink.taken c.close.new.out)
     (pair_since up down up1 down1)
-    (PairAnswersInOrder up down up1 down1) (IsLater no_moment (moment_of up down up1 down1)) ran.some shown.0
+    (PairAnswersInOrder up down up1 down1) (IsLaterMoment no_moment (moment_of up down up1 down1)) ran.some shown.0
 
 pub returns-in-Ok-clause-replies : goal.returns-in-Ok-clause-replies
 returns-in-Ok-clause-replies g c =
@@ -206,7 +206,7 @@ returns-in-Ok-clause-replies g c =
     let down1 = g.L.Link.down c.close.new.link in
     second-of-three c.close.result
     (PairEndsShown (g.K.Sink.taken c.run_lines.new.out) (g.K.Sink.taken c.close.new.out) (pair_since up down up1 down1))
-    (PairAnswersInOrder up down up1 down1) (IsLater no_moment (moment_of up down up1 down1)) shown.0
+    (PairAnswersInOrder up down up1 down1) (IsLaterMoment no_moment (moment_of up down up1 down1)) shown.0
 
 pub returns-in-Ok-clause-tells : goal.returns-in-Ok-clause-tells
 returns-in-Ok-clause-tells g c =
@@ -229,7 +229,7 @@ returns-in-Ok-clause-tells g c =
     (third-of-three c.close.result
     (PairEndsShown (g.K.Sink.taken c.run_lines.new.out) (g.K.Sink.taken c.close.new.out)
     (pair_since up down (g.L.Link.up c.close.new.link) (g.L.Link.down c.close.new.link)))
-    (PairAnswersInOrder up down (g.L.Link.up c.close.new.link) (g.L.Link.down c.close.new.link)) (IsLater now last) shown.0)
+    (PairAnswersInOrder up down (g.L.Link.up c.close.new.link) (g.L.Link.down c.close.new.link)) (IsLaterMoment now last) shown.0)
 
 pub returns-clause-tells : goal.returns-clause-tells
 returns-clause-tells g c =

@@ -7,7 +7,7 @@ use Rattle.session_runs.specs.Pairs.{pair_step}
 use Rattle.pair_world.specs.Clients.{pair_reads, client_steps}
 use Rattle.pair_world.specs.PairRuns.{PairRun}
 use Rattle.pair_world.specs.PairFresh.{PairRoom}
-use Rattle.pair_world.specs.PairHeld.{Mode}
+use Rattle.pair_world.specs.PairHeld.{PairMode}
 use Rattle.pair_world.specs.PairLinks.{PairStarted}
 use Rattle.pair_replay.specs.Running.{InPairRunWith}
 use Rattle.pair_replay.specs.Following.{FollowsPairWith}
@@ -18,7 +18,7 @@ abbrev pub invariant-loop-frame : goal.invariant-loop-frame
 invariant-loop-frame g l =
     (g.L.Link.honest l.initial.link → g.L.Link.honest l.link)
     × (g.L.Link.faults l.link ≡ g.L.Link.faults l.initial.link)
-    × ((mode : Mode) (up0 down0 : Pipe) (w : PairRun)
+    × ((mode : PairMode) (up0 down0 : Pipe) (w : PairRun)
     → InPairRunWith mode (g.L.Link.honest l.initial.link) up0 down0 (g.L.Link.up l.initial.link) (g.L.Link.down l.initial.link) w
     l.initial.self
     → Answering (g.L.Link.honest l.link) mode up0 down0 (g.L.Link.up l.link) (g.L.Link.down l.link)

@@ -6,7 +6,7 @@ use Rattle.session_runs.specs.Agreement.{IsAtRest}
 use Rattle.inspect_world.specs.Fits.{most_fetches}
 use Rattle.pair_world.specs.PairLinks.{PairStarted}
 use Rattle.pair_world.specs.PairRuns.{PairRun, fetches_on}
-use Rattle.pair_world.specs.PairFresh.{pair_replay, no_fronts}
+use Rattle.pair_world.specs.PairFresh.{pair_runner, no_fronts}
 use Rattle.pair_world.specs.PairHeld.{calm}
 use Rattle.replay_parts.specs.Moments.{moment}
 use Rattle.pair_replay.specs.Following.{FollowsPairRun}
@@ -21,7 +21,7 @@ invariant-loop-number g l =
     × ((up0 down0 : Pipe) (w : PairRun) → PairHasIds w.spent → fetches_on l.second w.spent + length l.numbers ≤ most_fetches → IsAtRest w
     → InPairRun calm (g.L.Link.honest l.initial.link) up0 down0 (g.L.Link.up l.initial.link) (g.L.Link.down l.initial.link) w l.initial.self
     → Fetching l.second (fetcher_on l.second w.state.attached)
-    (by_fetcher (fetcher_on l.second w.state.attached) (λ fetcher v. all_fetched pair_replay fetcher no_fronts l.numbers v) w)
+    (by_fetcher (fetcher_on l.second w.state.attached) (λ fetcher v. all_fetched pair_runner fetcher no_fronts l.numbers v) w)
     (room_by (fetcher_on l.second w.state.attached) (λ fetcher v. AllHaveRoom fetcher l.numbers v) w) up0 down0
     (drop l.number-index l.numbers)
     (moment (g.L.Link.honest l.link) (g.L.Link.up l.link) (g.L.Link.down l.link) l.self))

@@ -10,10 +10,10 @@ loop-frame-init c = rw (← c.self.view_is) (
   tt,
   tt,
   λ small.
-      let gives : ◌≡◌ {A = List (Vec ℕ Global)} (c.into_iter-frame-iterator.result.head.now ++ c.into_iter-frame-iterator.result.wrapped.now)
-      c.self.inside.whole.items = c.into_iter-frame-iterator.ensures.into_iter_gives.0 in
-      let e : bytes_in (map (λ frame. frame.items) (c.into_iter-frame-iterator.result.head.now ++ c.into_iter-frame-iterator.result.wrapped.now))
-      ≡ bytes_in (map (λ frame. frame.items) c.self.inside.whole.items) =
+      let gives : ◌≡◌ {A = List (Vec ℕ Global)} (c.into_iter-frame-iterator.result.head.now
+      ++ c.into_iter-frame-iterator.result.wrapped.now) c.self.inside.whole.items = c.into_iter-frame-iterator.ensures.into_iter_gives.0 in
+      let e : bytes_in (map (λ frame. frame.items) (c.into_iter-frame-iterator.result.head.now
+      ++ c.into_iter-frame-iterator.result.wrapped.now)) ≡ bytes_in (map (λ frame. frame.items) c.self.inside.whole.items) =
       ap (λ frames. bytes_in (map (λ frame. frame.items) frames)) gives in
       omega (arith, e, c.len-held.ensures, c.self.inside.rest.ok),
 )
@@ -36,7 +36,8 @@ returns c = λ small.
     let none : length (map (λ frame. frame.items) (c.loop-frame.frame-iterator.head.now ++ c.loop-frame.frame-iterator.wrapped.now)) ≡ 0 =
     length-map (c.loop-frame.frame-iterator.head.now ++ c.loop-frame.frame-iterator.wrapped.now) (λ frame. frame.items)
     ∙ (c.in-None.ensures {u = tt}).steps.0 in
-    let left = none-in (map (λ frame. frame.items) (c.loop-frame.frame-iterator.head.now ++ c.loop-frame.frame-iterator.wrapped.now)) none in
+    let left =
+    none-in (map (λ frame. frame.items) (c.loop-frame.frame-iterator.head.now ++ c.loop-frame.frame-iterator.wrapped.now)) none in
     let all : length (bytes_of c.args.self.now) ≡ bytes_in c.args.self.now.whole + length c.args.self.now.rest =
     bytes-counted c.args.self.now.whole c.args.self.now.rest in
     let h = c.loop-frame.invariant.2 (omega (arith, all, small)) in

@@ -91,7 +91,8 @@ move_behind-requires-2 c =
 pub invariant_of-self : goal.invariant_of-self
 invariant_of-self c =
     subst (λ (text : List ℕ). IsStored (entry_with c.self.inside.id c.self.inside.origin text
-    (reading_with c.self.inside.rules c.self.inside.places c.self.inside.media))) (sym c.in_err-replace_range.ensures.err.0) c.self.invariant
+    (reading_with c.self.inside.rules c.self.inside.places c.self.inside.media))) (sym c.in_err-replace_range.ensures.err.0)
+    c.self.invariant
 
 pub invariant_of-self-2 : goal.invariant_of-self-2
 invariant_of-self-2 c =

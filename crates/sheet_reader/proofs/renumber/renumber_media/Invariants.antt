@@ -1,0 +1,9 @@
+use Rattle.std.proofs.Common.{◌≡◌, ◌++◌, map, take, drop}
+use Rattle.selectors.specs.Moves.{cut, moved_place}
+use Rattle.sheet_reader.specs.Repairs.{moved_number, renumbered_media}
+use Rattle.sheet_reader.proofs.renumber.renumber_media.Given as goal
+
+abbrev pub invariant-loop-rule : goal.invariant-loop-rule
+invariant-loop-rule l = l.rules
+    ≡ map (renumbered_media (moved_place (cut l.shift.gap.start l.shift.gap.end l.shift.gap.size))
+    (moved_number l.shift.share l.shift.count)) (take l.rule-index l.fn.rules) ++ drop l.rule-index l.fn.rules
