@@ -1,7 +1,7 @@
 -- What the code of an edit comes to.
 use Rattle.std.proofs.Common.{◌≡◌, ℕ, suc, ◌-◌, ◌≤◌, ◌==◌, true, false, cond, List, [], ◌∷◌, ◌++◌, Option, Some, None, IsSome}
 use Rattle.std.proofs.Common.{is_some, unwrap_or, Result, Ok, Err, refl, sym, ap, subst, ◌∙◌, arith}
-use Rattle.std.proofs.lemmas.Bool.{eq-eqb}
+use Rattle.std.specs.Option.{option_map}
 use Rattle.std.specs.Result.{OnOk}
 use Rattle.std.specs.FinMap as map
 use Rattle.node_tree.specs.Nodes.{Nodes, none, node, Branch, alone, width}
@@ -14,10 +14,10 @@ use Rattle.page_tree.specs.declared.edits.TreeEdit.TheVariants.{Attach, Detach}
 use Rattle.page_tree.proofs.ChildLemmas.{Inserted, front, behind, inserted-before, inserted-taken, stands-inserted}
 use Rattle.page_tree.proofs.WholeLemmas.{whole-valid}
 use Rattle.page_tree.proofs.EditLemmas.{serial-live, whole-after, valid-after}
-use Rattle.page_tree.proofs.BackLemmas.{turned-live}
+use Rattle.page_tree.proofs.BackLemmas.{leads-back, turned-live}
+use Rattle.shown_pages.specs.Walks.{serial_before}
 use Rattle.node_binding.proofs.StartLemmas.{distinct-alone}
 use Rattle.node_binding.specs.Bindings.{BindingValue, opened_in, id_in, with_bound}
-use Rattle.pipe_frames.specs.Frames.{framed}
 use Rattle.client_views.specs.Moves.{inserts, removes, counts, Move, change, frames_of_moves}
 use Rattle.dom_agent.specs.Keepers.{Keeper, binding_keeper}
 use Rattle.dom_agent.specs.Edits.{Edited, id_before, unopened, told_count, family, insertion, child_came, edited}
@@ -31,20 +31,17 @@ on_ok (Err e) p f = tt
 
 -- ---- the sibling before
 
-module _ (ids : ℕ → ℕ) (x : Branch PageRow) (n rest : Nodes PageRow) (serial p q : ℕ) (split : n ≡ node x.row x.children rest)
-    (was : id_before ids p serial n ≡ q) where
-  here : cond {A = ℕ} (x.row.serial == serial) p (id_before ids (ids x.row.serial) serial rest) ≡ q
-  here = sym (ap (id_before ids p serial) split) ∙ was
-
-  pub prior_found : x.row.serial ≡ serial → p ≡ q
-  prior_found same = sym (ap (λ b. cond {A = ℕ} b p (id_before ids (ids x.row.serial) serial rest))
-      (eq-eqb x.row.serial serial same)) ∙ here
-
-  pub prior_turn : (x.row.serial == serial) ≡ false → id_before ids (ids x.row.serial) serial rest ≡ q
-  prior_turn other = sym (ap (λ b. cond {A = ℕ} b p (id_before ids (ids x.row.serial) serial rest)) other) ∙ here
-
-pub prior_end : (ids : ℕ → ℕ) (left : Nodes PageRow) (serial p q : ℕ) → left ≡ none → id_before ids p serial left ≡ q → p ≡ q
-prior_end ids left serial p q framed was = sym (ap (id_before ids p serial) framed) ∙ was
+-- the id of the tree before is that of its serial
+pub id_before-of : (ids : ℕ → ℕ) (previous : Option ℕ) (serial : ℕ) (n : Nodes PageRow)
+    → unwrap_or (option_map ids (serial_before previous serial n)) 0
+    ≡ id_before ids (unwrap_or (option_map ids previous) 0) serial n
+id_before-of ids previous serial none = refl
+id_before-of ids previous serial (node r c t) =
+    elim (r.serial == serial) as (λ b. unwrap_or (option_map ids (cond b previous (serial_before (Some r.serial) serial t))) 0
+    ≡ cond {A = ℕ} b (unwrap_or (option_map ids previous) 0) (id_before ids (ids r.serial) serial t)) [
+      | true ↦ refl
+      | false ↦ id_before-of ids (Some r.serial) serial t
+    ]
 
 -- ---- a node that has come, as an event tells it
 
@@ -184,6 +181,12 @@ module _ (page : PageValue) (valid : IsValid page) (parent before : ℕ) (x : Br
   came_child serial is =
       subst (λ (y : PageValue). is_some (find_in serial y.tree) ≡ true) (sym after_is)
       (subst (λ (s : ℕ). is_some (find_in s there.tree) ≡ true) (sym is) (ap (λ (o : Option (Branch PageRow)). is_some o) found_child))
+
+  pub came_under : (serial : ℕ) → serial ≡ x.row.serial → parent_at serial page2.tree ≡ parent
+  came_under serial is =
+      let back = (leads-back page (Attach parent before x) page.next valid can_attach (omega arith)).edit_back in
+      let under : parent_at x.row.serial there.tree ≡ parent = cc in
+      (λ i. parent_at (is i) (after_is i).tree) ∙ under
 
   pub came_same : (n : Nodes PageRow) (b : BindingValue) (serial : ℕ) → serial ≡ x.row.serial
       → child_came (binding_keeper n) (family parent (node_at serial page2.tree) (children_at parent page2.tree)) b

@@ -28,7 +28,7 @@ use Rattle.dom_agent.specs.Edits.{Edited, told_where_known, event_frames}
 use Rattle.dom_agent.specs.ModeEdits.{shown_binding_edited}
 use Rattle.dom_agent.specs.Foresight.{foreseen_edited, IsComing, IsForeseen, HasCome, came_below, kept_after}
 use Rattle.dom_agent.specs.Foresight.{frames_after}
-use Rattle.dom_agent.proofs.EditCode.{came_parent, came_child, came_same}
+use Rattle.dom_agent.proofs.EditCode.{came_parent, came_child, came_under, came_same}
 use Rattle.dom_agent.proofs.EditsShown.{live3}
 use Rattle.dom_agent.proofs.KeptMode.{edit_if_keeps, edit_if_next}
 
@@ -56,6 +56,7 @@ module _ (page : PageValue) (valid : IsValid page) (page2 : PageValue) (b b1 : B
         came = (
           subst (λ (q : ℕ). IsSome (find_in q page2.tree)) (sym is.0) above,
           came_child page valid p before w can.fits can.ready page2 leads serial is.1,
+          came_under page valid p before w can.fits can.ready page2 leads serial is.1 ∙ sym is.0,
         );
         kept = (λ i. (came_below (binding_keeper none) (is.0 i) serial page2.tree (same i)).state)
             ∙ ap (λ (d : Edited BindingValue). d.state) all;

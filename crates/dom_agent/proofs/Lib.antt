@@ -33,7 +33,6 @@ pub mod EditLemmas
 pub mod EditMoves
 pub mod EditKeepers
 pub mod EditCode
-pub mod LastChild
 pub mod GrowLemmas
 pub mod ModeLemmas
 pub mod ModeQueries

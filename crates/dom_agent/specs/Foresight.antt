@@ -2,7 +2,7 @@
 -- nothing is kept or told before the page has it; all else is.
 use Rattle.std.specs.Prelude.{◌≡◌, ℕ, true, false, List, Option, Some, None, IsSome, ⊤}
 use Rattle.node_tree.specs.Nodes.{none, Branch}
-use Rattle.page_tree.specs.Pages.{PageRow, PageValue, find_in, node_at}
+use Rattle.page_tree.specs.Pages.{PageRow, PageValue, find_in, node_at, parent_at}
 use Rattle.page_tree.specs.Edits.{children_at}
 use Rattle.page_tree.specs.declared.edits.TreeEdit.{TreeEdit}
 use Rattle.page_tree.specs.declared.edits.TreeEdit.TheVariants.{SetAttr, DropAttr, SetText, Attach, Detach}
@@ -44,9 +44,10 @@ IsAttachForeseen (Tells event) mode p w = (hidden_in mode w.row.label ≡ true) 
 
 -- ---- by the page after the edit
 
--- a node that was to come has come, as the client is shown the document
+-- a node that was to come has come below its parent, as the client is shown the document
 abbrev pub HasCome : Foreseen → Branch PageRow → Type 0
-HasCome (Comes parent serial) document = IsSome (find_in parent document) × IsSome (find_in serial document)
+HasCome (Comes parent serial) document =
+    IsSome (find_in parent document) × IsSome (find_in serial document) × (parent_at serial document ≡ parent)
 HasCome (Tells event) document = ⊤
 
 -- the coming of the node of that serial below that parent

@@ -1,24 +1,24 @@
 //! What an edit of the page is to a client, as events tell it.
 
-ghost use Rattle.std.specs.Prelude.{◌≡◌, ◌<◌, ◌≤◌, ◌++◌, [], ◌∷◌, None, IsSome, IfSome, IfOk, OnOk};
+ghost use Rattle.std.specs.Prelude.{◌≡◌, ◌<◌, ◌++◌, [], ◌∷◌, None, IsSome, IfOk, OnOk, option_map, unwrap_or};
 ghost use Rattle.node_tree.specs.Numbers.{drawn_before_nodes};
 ghost use Rattle.node_tree.specs.Nodes.{Nodes};
-ghost use Rattle.node_tree.specs.Keys.{tally};
-ghost use Rattle.page_tree.specs.Pages.{PageRow, row_serial, find_in};
+ghost use Rattle.page_tree.specs.Pages.{PageRow, find_in, parent_at};
 ghost use Rattle.page_tree.specs.EditFaults.{first_fault};
 ghost use Rattle.page_tree.specs.declared.edits.TreeEdit.TheVariants.{Detach};
 ghost use Rattle.shown_pages.specs.ShownPages.{shown_page};
+ghost use Rattle.shown_pages.specs.Walks.{serial_before};
 ghost use Rattle.node_binding.specs.Bindings.{id_in};
 ghost use Rattle.client_views.specs.Moves.{sets, drops, says, frames_of_moves};
 ghost use Rattle.dom_agent.specs.Keepers.{binding_keeper};
-ghost use Rattle.dom_agent.specs.Edits.{id_before, told_where_known, told_count, family, insertion, edited, event_frames};
+ghost use Rattle.dom_agent.specs.Edits.{told_where_known, told_count, family, insertion, edited, event_frames};
 ghost use Rattle.dom_agent.specs.Foresight.{came_below};
 
 use crate::told::tell_inserted;
 use cdp_messages::{Event, write_event};
 use node_binding::Binding;
 use page_tree::{Page, Text};
-use shown_pages::{Mode, ShownNode, Walk};
+use shown_pages::{ShownNode, shown_before};
 use std::alloc::{AllocError, Global};
 
 /// Appends the event, if there is one.
@@ -99,75 +99,37 @@ fn count_of_known(binding: &Binding, node: &ShownNode<'_>) -> Option<Event>
     Some(Event::ChildNodeCountUpdated { node: id, count })
 }
 
-/// The same among the shown children that a walk has not taken yet.
-fn id_before(binding: &Binding, walk: &mut Walk<'_>, serial: u64) -> u64
-    ensures { result ≡ id_before (id_in binding.now) 0 serial walk.old }
+/// The id of the sibling before, of which its serial is given; 0 where there is none.
+fn id_before(binding: &Binding, before: Option<u64>) -> u64
+    ensures { result ≡ unwrap_or (option_map (id_in binding.now) before) 0 }
 {
-    let mut previous = 0;
-    while let Some(child) = walk.next() {
-        if child.serial() == serial {
-            return previous;
-        }
-        previous = binding.id_of(child.serial()).unwrap_or(0);
-    }
-    previous
+    let Some(serial) = before else {
+        return 0;
+    };
+    binding.id_of(serial).unwrap_or(0)
 }
 
-/// The id of the shown child right before the last one, where that one has the serial; `None` says nothing. No other child is looked at,
-/// so it is not asked where texts may be hidden.
-fn id_before_last(binding: &Binding, parent: &ShownNode<'_>, serial: u64) -> Option<u64>
-    requires { tally row_serial serial parent.now.children ≤ 1 }
-    ensures { IfSome result (λ id. id ≡ id_before (id_in binding.now) 0 serial parent.now.children) }
-{
-    if let Mode::NoBlank = binding.mode() {
-        return None;
-    }
-    let count = parent.len();
-    if count == 0 {
-        return None;
-    }
-    let last = parent.child_at(count - 1)?;
-    if last.serial() != serial {
-        return None;
-    }
-    if count == 1 {
-        return Some(0);
-    }
-    let other = parent.child_at(count - 2)?;
-    Some(binding.id_of(other.serial()).unwrap_or(0))
-}
-
-/// The id of the shown child right before the one of that serial, 0 where none is before it.
-fn id_before_child(binding: &Binding, parent: &ShownNode<'_>, serial: u64) -> u64
-    requires { tally row_serial serial parent.now.children ≤ 1 }
-    ensures { result ≡ id_before (id_in binding.now) 0 serial parent.now.children }
-{
-    if let Some(id) = id_before_last(binding, parent, serial) {
-        return id;
-    }
-    let mut walk = parent.walk();
-    id_before(binding, &mut walk, serial)
-}
-
-/// Appends the event that tells the child of an opened parent.
+/// Appends the event that tells the child of an opened parent, by the serial of the sibling before it.
 fn tell_came(
     alloc: Global,
     binding: &Binding,
     parent: &ShownNode<'_>,
+    before: Option<u64>,
     node: &ShownNode<'_>,
     out: &mut Vec<u8>,
 ) -> Result<(), AllocError>
-    requires { tally row_serial node.now.row.serial parent.now.children ≤ 1 }
+    requires { before ≡ serial_before None node.now.row.serial parent.now.children }
     ensures { (n : Nodes PageRow) → OnOk result (out.new.items ≡ out.old.items ++ frames_of_moves
         (insertion (binding_keeper n) (family parent.now.row.serial node.now parent.now.children) binding.now ∷ [])) }
 {
     let above = binding.id_of(parent.serial()).unwrap_or(0);
     let id = binding.id_of(node.serial()).unwrap_or(0);
-    let previous = id_before_child(binding, parent, node.serial());
+    let previous = id_before(binding, before);
     tell_inserted(alloc, node, id, above, previous, out)
 }
 
-/// What the coming of a shown child of `parent` is to the client: below an opened parent it becomes known.
+/// What the coming of a shown child of `parent` is to the client: below an opened parent it becomes known. Of its siblings only the
+/// one before it is looked at, and the hidden texts between the two.
 pub(crate) fn tell_child(
     alloc: Global,
     binding: &mut Binding,
@@ -178,6 +140,7 @@ pub(crate) fn tell_child(
 ) -> Result<(), AllocError>
     requires parent { IsSome (find_in parent (shown_page binding.old.mode page.now).tree) }
     requires child { IsSome (find_in serial (shown_page binding.old.mode page.now).tree) }
+    requires below { parent_at serial (shown_page binding.old.mode page.now).tree ≡ parent }
     requires room { binding.old.next < drawn_before_nodes }
     ensures known { (n : Nodes PageRow) → OnOk result (binding.new
         ≡ (came_below (binding_keeper n) parent serial (shown_page binding.old.mode page.now).tree binding.old).state) }
@@ -193,8 +156,9 @@ pub(crate) fn tell_child(
         return Ok(());
     }
     let node = ShownNode::at(page, serial, mode);
+    let before = shown_before(page, serial, mode);
     binding.bind_child(page, serial)?;
-    tell_came(alloc, binding, &above, &node, out)?;
+    tell_came(alloc, binding, &above, before, &node, out)?;
     Ok(())
 }
 

@@ -9,7 +9,7 @@ use Rattle.node_tree.proofs.KeyLemmas.{find-child}
 use Rattle.client_views.specs.Views.{IsMirror}
 use Rattle.client_views.specs.Moves.{Change, removes, suits_change, has_tree}
 use Rattle.front_mirror.specs.Shown.{known_at, no_node}
-use Rattle.front_mirror.specs.IdLists.{id_place}
+use Rattle.number_map.specs.Places.{number_place}
 use Rattle.front_mirror.specs.Tables.{root_ids}
 use Rattle.front_mirror.specs.Edits.{is_ready, can_change, with_changed}
 use Rattle.front_mirror.specs.declared.panels.Change.{Change as PanelChange}
@@ -69,12 +69,12 @@ module _ (v : Nodes Seen) (mirror : IsMirror v) (id child : ℕ) (known : IsSome
   pub child_known : IsSome (find seen_id child v)
   child_known = subst (λ (o : Option (Branch Seen)). IsSome o) (sym child_found) refl
 
-  pub removal_is : (ids : List ℕ) (place size : ℕ) → ids ≡ root_ids (known_at id v).children → place ≡ id_place child ids
+  pub removal_is : (ids : List ℕ) (place size : ℕ) → ids ≡ root_ids (known_at id v).children → place ≡ number_place child ids
       → size ≡ branch_count (known_at child v)
       → ◌≡◌ {A = PanelChange} (Removed id place child size) (panel_change id (removes child) (known_at id v))
   removal_is ids place size is at counted =
       let g = goes child (known_at id v).children has in
-      let p : place ≡ tree_place child (known_at id v).children = at ∙ ap (id_place child) is in
+      let p : place ≡ tree_place child (known_at id v).children = at ∙ ap (number_place child) is in
       let s : size ≡ option_map_or (λ (w : Branch Seen). branch_count w)
       (tree_at (tree_place child (known_at id v).children) (known_at id v).children) 0 =
       counted ∙ ap (λ (o : Option (Branch Seen)). branch_count (unwrap_or o no_node)) child_found

@@ -1,27 +1,11 @@
 -- Ids of children: put in, and taken out.
 use Rattle.std.proofs.Common.{◌≡◌, ℕ, zero, suc, ◌+◌, ◌<◌, ◌≤◌, ◌==◌, ◌||◌, nat_eq, nat_lt, Bool, true, false, cond, List, [], ◌∷◌, length}
-use Rattle.std.proofs.Common.{slice_get, drop, Some, refl, sym, ap, ◌∙◌, inl, inr, arith}
+use Rattle.std.proofs.Common.{slice_get, Some, refl, sym, ap, ◌∙◌, inl, inr, arith}
 use Rattle.std.specs.List.{insert, remove}
 use Rattle.std.proofs.lemmas.Bool.{eq-eqb, ne_eqb, cases_eq}
 use Rattle.client_views.specs.Views.{is_in}
-use Rattle.front_mirror.specs.IdLists.{id_place, id_behind, id_after, without_id}
-
-pub drop-get : {A : Type 0} (ks : List A) (i : ℕ) (k : A) → slice_get ks i ≡ Some k → drop i ks ≡ k ∷ drop (suc i) ks
-drop-get [] i k e = absurd (cc)
-drop-get (x ∷ ks) zero k e = let same : x ≡ k = cc in ap (λ y. y ∷ ks) same
-drop-get (x ∷ ks) (suc i) k e = drop-get ks i k e
-
-pub key_next : {A : Type 0} (ks : List A) (i : ℕ) (k : A) → slice_get ks i ≡ Some k → drop i ks ≡ k ∷ drop (i + 1) ks
-key_next ks i k at = let e : i + 1 ≡ suc i = omega arith in rw e (drop-get ks i k at)
-
-module _ (x : ℕ) (ks : List ℕ) (i k : ℕ) (at : slice_get ks i ≡ Some k) where
-  pub place_here : k ≡ x → id_place x (drop i ks) ≡ 0
-  place_here e = ap (id_place x) (key_next ks i k at) ∙ ap (λ (b : Bool). cond {A = ℕ} b 0 (suc (id_place x (drop (i + 1) ks))))
-      (eq-eqb k x e)
-
-  pub place_on : (k ≡ x → ⊥) → id_place x (drop i ks) ≡ suc (id_place x (drop (i + 1) ks))
-  place_on e = ap (id_place x) (key_next ks i k at) ∙ ap (λ (b : Bool). cond {A = ℕ} b 0 (suc (id_place x (drop (i + 1) ks))))
-      (ne_eqb k x e)
+use Rattle.number_map.specs.Places.{number_place}
+use Rattle.front_mirror.specs.IdLists.{id_behind, id_after, without_id}
 
 pub same_eq : (x y : ℕ) → nat_eq x y ≡ (y == x)
 same_eq x y = elim (cases_eq y x) [
@@ -34,9 +18,9 @@ there_step true p l h e = grind arith
 there_step false p l h e = grind arith
 
 -- an id is there where its place is
-pub place_there : (x : ℕ) (ks : List ℕ) → nat_lt (id_place x ks) (length ks) ≡ is_in x ks
+pub place_there : (x : ℕ) (ks : List ℕ) → nat_lt (number_place x ks) (length ks) ≡ is_in x ks
 place_there x [] = refl
-place_there x (k ∷ ks) = there_step (k == x) (id_place x ks) (length ks) (is_in x ks) (place_there x ks) ∙ ap
+place_there x (k ∷ ks) = there_step (k == x) (number_place x ks) (length ks) (is_in x ks) (place_there x ks) ∙ ap
     (λ (v : Bool). v || is_in x ks) (sym (same_eq x k))
 
 behind_step : (v : Bool) (k p x : ℕ) (ks rest : List ℕ) → insert ks (suc p) x ≡ rest
@@ -45,7 +29,7 @@ behind_step true k p x ks rest e = refl
 behind_step false k p x ks rest e = ap (λ (js : List ℕ). k ∷ js) e
 
 pub place_behind : (previous x : ℕ) (ks : List ℕ) → is_in previous ks ≡ true
-    → insert ks (suc (id_place previous ks)) x ≡ id_behind previous x ks
+    → insert ks (suc (number_place previous ks)) x ≡ id_behind previous x ks
 place_behind previous x [] there = absurd (cc)
 place_behind previous x (k ∷ ks) there =
     elim (cases_eq k previous) [
@@ -60,40 +44,28 @@ out_step : (v : Bool) (k p : ℕ) (ks rest : List ℕ) → remove ks p ≡ rest 
 out_step true k p ks rest e = refl
 out_step false k p ks rest e = ap (λ (js : List ℕ). k ∷ js) e
 
-pub place_out : (x : ℕ) (ks : List ℕ) → remove ks (id_place x ks) ≡ without_id x ks
+pub place_out : (x : ℕ) (ks : List ℕ) → remove ks (number_place x ks) ≡ without_id x ks
 place_out x [] = refl
-place_out x (k ∷ ks) = out_step (k == x) k (id_place x ks) ks (without_id x ks) (place_out x ks)
+place_out x (k ∷ ks) = out_step (k == x) k (number_place x ks) ks (without_id x ks) (place_out x ks)
 
 pub not_first : (previous : ℕ) (a b : List ℕ) → (previous ≡ 0 → ⊥) → cond (previous == 0) a b ≡ b
 not_first previous a b e = rw (ne_eqb previous 0 e) refl
 
-pub first : (previous : ℕ) (a b : List ℕ) → previous ≡ 0 → cond (previous == 0) a b ≡ a
-first previous a b e = rw (eq-eqb previous 0 e) refl
-
 pub there_behind : (previous : ℕ) (v : Bool) → (previous ≡ 0 → ⊥) → (previous == 0 || v) ≡ true → v ≡ true
 there_behind previous v e h = rw (ne_eqb previous 0 e) at h
 
-remove_past : (ks : List ℕ) (p : ℕ) → length ks ≤ p → remove ks p ≡ ks
-remove_past [] zero past = refl
-remove_past [] (suc p) past = refl
-remove_past (k ∷ ks) zero past = absurd (omega arith)
-remove_past (k ∷ ks) (suc p) past = ap (λ (js : List ℕ). k ∷ js) (remove_past ks p (omega arith))
-
-pub place_nowhere : (x : ℕ) (ks : List ℕ) → length ks ≤ id_place x ks → ks ≡ without_id x ks
-place_nowhere x ks past = sym (remove_past ks (id_place x ks) past) ∙ place_out x ks
-
 pub place_known : (previous : ℕ) (ks : List ℕ) (i n : ℕ) → (previous ≡ 0 → ⊥) → (previous == 0 || is_in previous ks) ≡ true
-    → i ≡ id_place previous ks → n ≡ length ks → n ≤ i → ⊥
+    → i ≡ number_place previous ks → n ≡ length ks → n ≤ i → ⊥
 place_known previous ks i n other there is len past =
     let known : is_in previous ks ≡ true = there_behind previous (is_in previous ks) other there in
-    let low : nat_lt (id_place previous ks) (length ks) ≡ true = place_there previous ks ∙ known in
-    let less : id_place previous ks < length ks = grind arith in
+    let low : nat_lt (number_place previous ks) (length ks) ≡ true = place_there previous ks ∙ known in
+    let less : number_place previous ks < length ks = grind arith in
     omega arith
 
 pub place_then : (previous x : ℕ) (ks : List ℕ) (i : ℕ) → (previous ≡ 0 → ⊥) → (previous == 0 || is_in previous ks) ≡ true
-    → i ≡ id_place previous ks → insert ks (i + 1) x ≡ id_after previous x ks
+    → i ≡ number_place previous ks → insert ks (i + 1) x ≡ id_after previous x ks
 place_then previous x ks i other there is =
-    let e : i + 1 ≡ suc (id_place previous ks) = omega arith in
+    let e : i + 1 ≡ suc (number_place previous ks) = omega arith in
     ap (λ (p : ℕ). insert ks p x) e
     ∙ place_behind previous x ks (there_behind previous (is_in previous ks) other there)
     ∙ sym (not_first previous (x ∷ ks) (id_behind previous x ks) other)
@@ -101,7 +73,7 @@ place_then previous x ks i other there is =
 -- ---- a place where an id stands
 
 -- where an id stands somewhere, it stands at the first place
-pub place-got : (x : ℕ) (ks : List ℕ) (i : ℕ) → slice_get ks i ≡ Some x → slice_get ks (id_place x ks) ≡ Some x
+pub place-got : (x : ℕ) (ks : List ℕ) (i : ℕ) → slice_get ks i ≡ Some x → slice_get ks (number_place x ks) ≡ Some x
 place-got x [] i e = absurd cc
 place-got x (k ∷ ks) zero e = let same : k ≡ x = cc in rw (eq-eqb k x same) e
 place-got x (k ∷ ks) (suc i) e = elim (cases_eq k x) [

@@ -1,5 +1,5 @@
 -- A mirror's table, its map and its list of ids: of nothing, of a document that came, and after an edit.
-use Rattle.std.proofs.Common.{◌≡◌, ℕ, ◌+◌, ◌≤◌, true, None, IsSome, List, [], ◌∷◌, length, sym, ap, subst, ◌∙◌, arith}
+use Rattle.std.proofs.Common.{◌≡◌, ℕ, true, None, IsSome, List, [], ◌∷◌, sym, ap, ◌∙◌, arith}
 use Rattle.std.specs.Ordering.{nat_cmp}
 use Rattle.std.specs.FinMap as numbers
 use Rattle.node_tree.specs.Nodes.{Nodes, Branch, nodes_of, alone}

@@ -1,14 +1,13 @@
 -- Ids in shelves: passed over, found, taken out and put in.
-use Rattle.std.proofs.Common.{◌≡◌, ℕ, zero, suc, ◌+◌, ◌-◌, ◌<◌, ◌≤◌, ◌==◌, Bool, true, false, cond, ◌||◌, nat_eq, Option, Some, List, [], ◌∷◌}
-use Rattle.std.proofs.Common.{◌++◌}
-use Rattle.std.proofs.Common.{length, take, drop, get_or, slice_get, refl, sym, ap, subst, ◌∙◌, arith, inl, inr}
-use Rattle.std.proofs.Common.{append_assoc, append-nil, length-append, take-append-drop, take_at, drop_at, drop-drop, length-take-le}
-use Rattle.std.proofs.lemmas.List.{take_more, drop_more, drop_all, take-append-le, drop-append-le}
+use Rattle.std.proofs.Common.{◌≡◌, ℕ, zero, suc, ◌+◌, ◌-◌, ◌<◌, ◌≤◌, ◌==◌, Bool, true, false, cond, ◌||◌, nat_eq, Option, Some, List, []}
+use Rattle.std.proofs.Common.{◌∷◌, ◌++◌, length, take, drop, get_or, slice_get, refl, sym, ap, subst, ◌∙◌, arith, inl, inr}
+use Rattle.std.proofs.Common.{append_assoc, length-append, take-append-drop}
+use Rattle.std.proofs.lemmas.List.{drop_more, drop_all, take-append-le, drop-append-le}
 use Rattle.std.proofs.lemmas.Bool.{eq-eqb, eqb-true, ne_eqb, cases_eq}
 use Rattle.std.proofs.lemmas.Grind.{flat_map-append}
 use Rattle.std.specs.List.{insert, remove}
 use Rattle.front_mirror.specs.declared.orders.Shelf.{Shelf}
-use Rattle.front_mirror.specs.IdLists.{id_place}
+use Rattle.number_map.specs.Places.{number_place}
 use Rattle.front_mirror.specs.Orders.{ids_in}
 use Rattle.front_mirror.specs.Tables.{PutsAt}
 use Rattle.front_mirror.specs.Walks.{spliced}
@@ -29,39 +28,39 @@ module _ {A : Type 0} where
       ap (slice_get (y ∷ (xs ++ ys))) e ∙ get-behind xs ys i
 
 module _ (x : ℕ) where
-  pub place-at : (ks : List ℕ) → id_place x ks < length ks → slice_get ks (id_place x ks) ≡ Some x
+  pub place-at : (ks : List ℕ) → number_place x ks < length ks → slice_get ks (number_place x ks) ≡ Some x
   place-at [] low = absurd (omega arith)
   place-at (k ∷ ks) low = elim (cases_eq k x) [
     | inl same ↦ rw (eq-eqb k x same) (ap (λ (y : ℕ). Some y) same)
     | inr other ↦
-        let low2 : suc (id_place x ks) < suc (length ks) =
-        subst (λ (b : Bool). cond {A = ℕ} b 0 (suc (id_place x ks)) < suc (length ks)) (ne_eqb k x other) low
+        let low2 : suc (number_place x ks) < suc (length ks) =
+        subst (λ (b : Bool). cond {A = ℕ} b 0 (suc (number_place x ks)) < suc (length ks)) (ne_eqb k x other) low
         in
         rw (ne_eqb k x other) (place-at ks (omega (arith, low2)))
   ]
 
-  pub place-front : (a b : List ℕ) → id_place x a < length a → id_place x (a ++ b) ≡ id_place x a
+  pub place-front : (a b : List ℕ) → number_place x a < length a → number_place x (a ++ b) ≡ number_place x a
   place-front [] b low = absurd (omega arith)
   place-front (k ∷ a) b low = elim (cases_eq k x) [
     | inl same ↦ rw (eq-eqb k x same) refl
     | inr other ↦
-        let low2 : suc (id_place x a) < suc (length a) =
-        subst (λ (v : Bool). cond {A = ℕ} v 0 (suc (id_place x a)) < suc (length a)) (ne_eqb k x other) low
+        let low2 : suc (number_place x a) < suc (length a) =
+        subst (λ (v : Bool). cond {A = ℕ} v 0 (suc (number_place x a)) < suc (length a)) (ne_eqb k x other) low
         in
         rw (ne_eqb k x other) (ap suc (place-front a b (omega (arith, low2))))
   ]
 
-  pub place-behind : (a b : List ℕ) → length a ≤ id_place x a → id_place x (a ++ b) ≡ length a + id_place x b
-  place-behind [] b past = let e : 0 + id_place x b ≡ id_place x b = omega arith in sym e
+  pub place-behind : (a b : List ℕ) → length a ≤ number_place x a → number_place x (a ++ b) ≡ length a + number_place x b
+  place-behind [] b past = let e : 0 + number_place x b ≡ number_place x b = omega arith in sym e
   place-behind (k ∷ a) b past = elim (cases_eq k x) [
     | inl same ↦
         let none : suc (length a) ≤ 0 =
-        subst (λ (v : Bool). suc (length a) ≤ cond {A = ℕ} v 0 (suc (id_place x a))) (eq-eqb k x same) past
+        subst (λ (v : Bool). suc (length a) ≤ cond {A = ℕ} v 0 (suc (number_place x a))) (eq-eqb k x same) past
         in
         absurd (omega (arith, none))
     | inr other ↦
-        let past2 : suc (length a) ≤ suc (id_place x a) =
-        subst (λ (v : Bool). suc (length a) ≤ cond {A = ℕ} v 0 (suc (id_place x a))) (ne_eqb k x other) past
+        let past2 : suc (length a) ≤ suc (number_place x a) =
+        subst (λ (v : Bool). suc (length a) ≤ cond {A = ℕ} v 0 (suc (number_place x a))) (ne_eqb k x other) past
         in
         let h = place-behind a b (omega (arith, past2)) in
         rw (ne_eqb k x other) (omega (arith, h))
@@ -108,37 +107,37 @@ module _ (ss : List Shelf) (i : ℕ) (s : Shelf) (within : i < length ss) (is : 
   before-turn before size sum b sized is_sum = let a = next-front in omega (arith, a, b, sized, is_sum)
 
   -- an id that is found in the shelf
-  pub found-in : (id before place : ℕ) → before ≡ length (ids_in (take i ss)) → place ≡ id_place id s.ids → place < length s.ids
+  pub found-in : (id before place : ℕ) → before ≡ length (ids_in (take i ss)) → place ≡ number_place id s.ids → place < length s.ids
       → slice_get (ids_in ss) (before + place) ≡ Some id
   found-in id before place b p low =
-      let low2 : id_place id s.ids < length s.ids = subst (λ k. k < length s.ids) p low in
-      let here : slice_get (s.ids ++ ids_in (drop (i + 1) ss)) (id_place id s.ids) ≡ Some id =
-      get-front s.ids (ids_in (drop (i + 1) ss)) (id_place id s.ids) id (place-at id s.ids low2)
+      let low2 : number_place id s.ids < length s.ids = subst (λ k. k < length s.ids) p low in
+      let here : slice_get (s.ids ++ ids_in (drop (i + 1) ss)) (number_place id s.ids) ≡ Some id =
+      get-front s.ids (ids_in (drop (i + 1) ss)) (number_place id s.ids) id (place-at id s.ids low2)
       in
-      let where_ : before + place ≡ length (ids_in (take i ss)) + id_place id s.ids = omega (arith, b, p) in
+      let where_ : before + place ≡ length (ids_in (take i ss)) + number_place id s.ids = omega (arith, b, p) in
       ap (slice_get (ids_in ss)) where_
-      ∙ ap (λ (l : List ℕ). slice_get l (length (ids_in (take i ss)) + id_place id s.ids)) (sym (parts i ss))
-      ∙ get-behind (ids_in (take i ss)) (ids_in (drop i ss)) (id_place id s.ids)
-      ∙ ap (λ (l : List ℕ). slice_get l (id_place id s.ids)) next-rest ∙ here
+      ∙ ap (λ (l : List ℕ). slice_get l (length (ids_in (take i ss)) + number_place id s.ids)) (sym (parts i ss))
+      ∙ get-behind (ids_in (take i ss)) (ids_in (drop i ss)) (number_place id s.ids)
+      ∙ ap (λ (l : List ℕ). slice_get l (number_place id s.ids)) next-rest ∙ here
 
-  pub first-in : (id before place all : ℕ) → before + id_place id (ids_in (drop i ss)) ≡ all → place ≡ id_place id s.ids
+  pub first-in : (id before place all : ℕ) → before + number_place id (ids_in (drop i ss)) ≡ all → place ≡ number_place id s.ids
       → place < length s.ids → before + place ≡ all
   first-in id before place all e p low =
-      let low2 : id_place id s.ids < length s.ids = subst (λ k. k < length s.ids) p low in
-      let f = ap (id_place id) next-rest ∙ place-front id s.ids (ids_in (drop (i + 1) ss)) low2 in
+      let low2 : number_place id s.ids < length s.ids = subst (λ k. k < length s.ids) p low in
+      let f = ap (number_place id) next-rest ∙ place-front id s.ids (ids_in (drop (i + 1) ss)) low2 in
       omega (arith, e, p, f)
 
-  pub first-turn : (id before place size sum all : ℕ) → before + id_place id (ids_in (drop i ss)) ≡ all → place ≡ id_place id s.ids
-      → size ≡ length s.ids → size ≤ place → sum ≡ before + size → sum + id_place id (ids_in (drop (i + 1) ss)) ≡ all
+  pub first-turn : (id before place size sum all : ℕ) → before + number_place id (ids_in (drop i ss)) ≡ all → place ≡ number_place id s.ids
+      → size ≡ length s.ids → size ≤ place → sum ≡ before + size → sum + number_place id (ids_in (drop (i + 1) ss)) ≡ all
   first-turn id before place size sum all e p sized past is_sum =
-      let past2 : length s.ids ≤ id_place id s.ids = omega (arith, p, sized, past) in
-      let f = ap (id_place id) next-rest ∙ place-behind id s.ids (ids_in (drop (i + 1) ss)) past2 in
+      let past2 : length s.ids ≤ number_place id s.ids = omega (arith, p, sized, past) in
+      let f = ap (number_place id) next-rest ∙ place-behind id s.ids (ids_in (drop (i + 1) ss)) past2 in
       omega (arith, e, sized, is_sum, f)
 
-pub first-end : (ss : List Shelf) (i id before all : ℕ) → length ss ≤ i → before + id_place id (ids_in (drop i ss)) ≡ all → before ≡ all
+pub first-end : (ss : List Shelf) (i id before all : ℕ) → length ss ≤ i → before + number_place id (ids_in (drop i ss)) ≡ all → before ≡ all
 first-end ss i id before all past e =
     let none : ids_in (drop i ss) ≡ [] = ap (λ (l : List Shelf). ids_in l) (drop_all i ss past) in
-    let f : id_place id (ids_in (drop i ss)) ≡ 0 = ap (id_place id) none in
+    let f : number_place id (ids_in (drop i ss)) ≡ 0 = ap (number_place id) none in
     omega (arith, e, f)
 
 -- ---- shelves taken out and put in

@@ -1,10 +1,5 @@
 -- Ids of children in their order.
-use Rattle.std.specs.Prelude.{ℕ, suc, ◌==◌, cond, List, [], ◌∷◌}
-
--- the place of the first that is the id, and else the number of them
-abbrev pub id_place : ℕ → List ℕ → ℕ
-id_place x [] = 0
-id_place x (k ∷ ks) = cond {A = ℕ} (k == x) 0 (suc (id_place x ks))
+use Rattle.std.specs.Prelude.{ℕ, ◌==◌, cond, List, [], ◌∷◌}
 
 -- the ids with one more behind another
 abbrev pub id_behind : ℕ → ℕ → List ℕ → List ℕ

@@ -4,14 +4,14 @@ use Rattle.std.specs.Option.{option_map_or}
 use Rattle.node_tree.specs.Nodes.{Nodes, Branch, branch_count, tree_at}
 use Rattle.node_tree.specs.Seen.{Seen}
 use Rattle.client_views.specs.Moves.{Change, shows, inserts, removes, counts, sets, drops, says}
-use Rattle.front_mirror.specs.IdLists.{id_place}
+use Rattle.number_map.specs.Places.{number_place}
 use Rattle.front_mirror.specs.Tables.{root_ids}
 use Rattle.front_mirror.specs.declared.panels.Change.{Change as PanelChange}
 use Rattle.front_mirror.specs.declared.panels.Change.TheVariants.{Opened, Inserted, Removed, Changed}
 
 -- the place of the first of these trees with that id, and else the number of them
 abbrev pub tree_place : ℕ → Nodes Seen → ℕ
-tree_place id n = id_place id (root_ids n)
+tree_place id n = number_place id (root_ids n)
 
 -- what is told of a change of the node of that id
 abbrev pub panel_change : ℕ → Change → Branch Seen → PanelChange

@@ -14,6 +14,7 @@
 mod asks;
 mod changes;
 mod checks;
+mod child_ids;
 mod edits;
 mod faults;
 mod folding;

@@ -14,12 +14,13 @@ ghost use Rattle.front_mirror.specs.Outline.{lines_at, seen_line};
 ghost use Rattle.front_mirror.specs.Tables.{mirror_row, root_ids, TableLooks};
 
 use crate::checks::MOST_LEVELS;
+use crate::child_ids::ChildIds;
 use crate::edits::NodeChange;
 use crate::order_changes::{OrderChange, push_ids};
 use crate::orders::Order;
 use crate::panels::Change;
 use crate::sizes::{note_all, recount};
-use crate::slots::{IdList, Slot};
+use crate::slots::Slot;
 use crate::table::Table;
 use cdp_messages::Kind;
 use dom_objects::NodeTree;
@@ -33,7 +34,7 @@ use std::{mem, slice};
 #[derive(Drop)]
 pub struct Mirror {
     table: Table,
-    roots: IdList,
+    roots: ChildIds,
     counts: NumberMap,
     order: Order,
 }
@@ -65,7 +66,7 @@ impl Mirror {
     {
         Mirror {
             table: Table::new(alloc),
-            roots: IdList::new(alloc),
+            roots: ChildIds::new(alloc),
             counts: NumberMap::new(alloc),
             order: Order::new(alloc),
         }
@@ -78,7 +79,7 @@ impl Mirror {
         ensures { IfOk result (λ mirror. mirror ≡ seen_nodes (alone root)) }
     {
         let mut table = Table::new(alloc);
-        let mut roots = IdList::new(alloc);
+        let mut roots = ChildIds::new(alloc);
         let mut counts = NumberMap::new(alloc);
         roots.push(root.id)?;
         let mut ids = Vec::new(alloc);
@@ -123,7 +124,7 @@ impl Mirror {
         ensures { OnOk result (self.new ≡ with_changed id (edit_change edit) self.old) }
     {
         let mut table = mem::replace(&mut self.table, Table::new(alloc));
-        let roots = mem::replace(&mut self.roots, IdList::new(alloc));
+        let roots = mem::replace(&mut self.roots, ChildIds::new(alloc));
         let mut counts = mem::replace(&mut self.counts, NumberMap::new(alloc));
         let mut order = mem::replace(&mut self.order, Order::new(alloc));
         recount(alloc, &mut counts, &table, &roots, id, &edit)?;

@@ -1,14 +1,14 @@
 // Ids in their order, cut into shelves, so that the place of one is found without a walk over all before it.
-ghost use Rattle.std.specs.Prelude.{◌≡◌, true, ℕ, List, ◌+◌, ◌<◌, ◌≤◌, ◌++◌, [], cond, length, take, drop, Some, IfOk, OnOk, IfSome, slice_get};
+ghost use Rattle.std.specs.Prelude.{◌≡◌, true, ℕ, List, ◌+◌, ◌<◌, ◌≤◌, ◌++◌, [], cond, length, take, drop, Some, IfOk, OnOk, IfSome};
+ghost use Rattle.std.specs.Prelude.{slice_get};
 ghost use Rattle.std.specs.FinMap as map;
 ghost use Rattle.node_tree.specs.Numbers.{number_limit};
+ghost use Rattle.number_map.specs.Places.{number_place};
 ghost use Rattle.client_views.specs.Views.{is_in};
-ghost use Rattle.front_mirror.specs.IdLists.{id_place};
 ghost use Rattle.front_mirror.specs.Orders.{ids_in};
 ghost use Rattle.front_mirror.specs.Walks.{spliced};
 
 use crate::sizes::forget;
-use crate::slots::IdList;
 use number_map::NumberMap;
 use std::alloc::{AllocError, Global};
 use std::marker::Model;
@@ -19,6 +19,58 @@ const MOST_IDS: usize = 256;
 
 /// How many ids a shelf has that is cut off a longer one.
 const CUT_IDS: usize = 128;
+
+/// The ids of a shelf: so few that one is looked for from the front.
+#[derive(Drop)]
+pub(crate) struct IdList {
+    ids: Vec<u64>,
+}
+
+impl Model for IdList {
+    ghost use Rattle.std.specs.Prelude.{ℕ, List};
+
+    ghost Value = { List ℕ };
+
+    ghost view = { λ l. l.ids.items };
+}
+
+impl IdList {
+    /// These ids.
+    fn of(alloc: Global, ids: &[u64]) -> Result<IdList, AllocError>
+        ensures { IfOk result (λ list. list ≡ ids.now) }
+    {
+        let mut list = Vec::with_capacity(alloc, ids.len())?;
+        list.extend_from_slice(ids)?;
+        Ok(IdList { ids: list })
+    }
+
+    /// The ids in their order.
+    fn as_slice(&self) -> &[u64]
+        ensures { result.now ≡ self.now }
+    {
+        self.ids.as_slice()
+    }
+
+    /// How many ids they are.
+    fn len(&self) -> usize
+        ensures { result ≡ length self.now }
+    {
+        self.ids.len()
+    }
+
+    /// The place of the first that is the id, and else the number of them.
+    fn place(&self, id: u64) -> usize
+        ensures { result ≡ number_place id self.now }
+    {
+        let ids = self.as_slice();
+        for i in 0..ids.len() {
+            if ids[i] == id {
+                return i;
+            }
+        }
+        ids.len()
+    }
+}
 
 /// Ids that follow one another, under a number that no other shelf has.
 #[derive(Drop)]
@@ -243,7 +295,7 @@ impl Shelves {
     /// The place of the first that is the id, and else the number of them.
     fn first_place(&self, id: u64) -> usize
         requires few { length (ids_in self.now.items.items) < number_limit }
-        ensures { result ≡ id_place id (ids_in self.now.items.items) }
+        ensures { result ≡ number_place id (ids_in self.now.items.items) }
     {
         let mut before = 0;
         for i in 0..self.items.len() {

@@ -5,7 +5,8 @@ ghost use Rattle.dom_objects.specs.Told.{seen_nodes};
 ghost use Rattle.front_mirror.specs.Shown.{shown_of};
 ghost use Rattle.front_mirror.specs.Tables.{table_slots, table_ids, hold_below, root_ids, new_slot, planted, serials_listed};
 
-use crate::slots::{Below, IdList, Slot};
+use crate::child_ids::ChildIds;
+use crate::slots::{Below, Slot};
 use crate::table::Table;
 use crate::told::children_of;
 use cdp_messages::Kind;
@@ -25,10 +26,10 @@ fn below_of(node: &NodeTree) -> Below
 }
 
 /// The ids of the trees, in their order.
-pub(crate) fn ids_of(alloc: Global, trees: &[NodeTree]) -> Result<IdList, AllocError>
+pub(crate) fn ids_of(alloc: Global, trees: &[NodeTree]) -> Result<ChildIds, AllocError>
     ensures { IfOk result (λ ids. ids ≡ root_ids (shown_of trees.now)) }
 {
-    let mut ids = IdList::with_room(alloc, trees.len())?;
+    let mut ids = ChildIds::with_room(alloc, trees.len())?;
     for tree in trees {
         ids.push(tree.id)?;
     }

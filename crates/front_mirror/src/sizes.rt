@@ -12,8 +12,8 @@ ghost use Rattle.front_mirror.specs.Tables.{KeepsMirror, tree_in};
 ghost use Rattle.front_mirror.specs.Sizes.{BecomesOn, HasLowIds, HasRoomUpTo, IsCounted, noted, on_path, shifted, leaving_trees};
 
 use crate::checks::MOST_LEVELS;
+use crate::child_ids::ChildIds;
 use crate::edits::NodeChange;
-use crate::slots::IdList;
 use crate::table::Table;
 use crate::told::children_of;
 use dom_objects::NodeTree;
@@ -50,7 +50,7 @@ fn shift_one(counts: &mut NumberMap, id: u64, more: u64, fewer: u64) -> Result<(
 }
 
 /// The id of the parent of a known node, 0 for the document.
-fn parent_in(table: &Table, roots: &IdList, id: u64) -> u64
+fn parent_in(table: &Table, roots: &ChildIds, id: u64) -> u64
     requires kept { KeepsMirror table.now roots.now }
     requires known { IsSome (find seen_id id (tree_in table.now roots.now)) }
     ensures { Some result ≡ parent_of seen_id id 0 (tree_in table.now roots.now) }
@@ -66,7 +66,7 @@ fn parent_in(table: &Table, roots: &IdList, id: u64) -> u64
 fn shift_up(
     counts: &mut NumberMap,
     table: &Table,
-    roots: &IdList,
+    roots: &ChildIds,
     id: u64,
     more: u64,
     fewer: u64,
@@ -113,7 +113,7 @@ pub(crate) fn recount(
     alloc: Global,
     counts: &mut NumberMap,
     table: &Table,
-    roots: &IdList,
+    roots: &ChildIds,
     id: u64,
     edit: &NodeChange,
 ) -> Result<(), AllocError>

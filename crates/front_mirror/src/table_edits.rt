@@ -8,7 +8,8 @@ ghost use Rattle.front_mirror.specs.declared.slots.Below.TheVariants.{Opened};
 ghost use Rattle.front_mirror.specs.IdLists.{id_after, without_id};
 ghost use Rattle.front_mirror.specs.Tables.{table_slots, table_ids, TableTurned, PutsAt, IsListed, without_slots};
 
-use crate::slots::{Below, IdList, Slot};
+use crate::child_ids::ChildIds;
+use crate::slots::{Below, Slot};
 use crate::table::Table;
 use node_tree::{Text, drop_attribute, set_attribute};
 use std::alloc::AllocError;
@@ -25,7 +26,7 @@ impl Table {
     }
 
     /// Its children are shown from now on.
-    pub(crate) fn open(&mut self, id: u64, children: IdList)
+    pub(crate) fn open(&mut self, id: u64, children: ChildIds)
         ensures ids { self.new.ids ≡ self.old.ids }
         ensures slots { TableTurned self.old self.new id (λ slot. record slot { below = Opened; children = children }) }
     {

@@ -1,16 +1,20 @@
 //! A set and a map of numbers for numbers that follow one another, or nearly, as ids and serials do: there a look-up and a
-//! change take one step.
+//! change take one step. And a list of numbers in which the place of a number is found in a few steps.
 //!
-//! Promise: `NumberMap` and `NumberSet` are exactly a map and a set; each call gives and leaves just what the same call of an
-//! ordered map would. That it is quick is no clause.
+//! Promise: `NumberMap` and `NumberSet` are exactly a map and a set, and `NumberList` is exactly a list; each call gives and leaves
+//! just what the same call of an ordered map, or of a list, would. That it is quick is no clause.
 //!
-//! Way in: the two types, with the calls of a map. Numbers that follow one another stand in a row, from its first to its last,
-//! and those before it or too far behind it in a tree.
+//! Way in: the three types, with the calls of a map and of a list. In a map, numbers that follow one another stand in a row, from
+//! its first to its last, and those before it or too far behind it in a tree. A long list keeps a map of where each number stood
+//! when it came, and looks near there.
 //!
-//! Laws: none; each call's contract is the law. What stands in a row under a key is specs/Rows.
+//! Laws: none; each call's contract is the law. What stands in a row under a key is specs/Rows, the place of a number in a list
+//! specs/Places.
 #![tactic(auto)]
 
+mod lists;
 mod maps;
 mod rows;
 
+pub use lists::NumberList;
 pub use maps::{NumberMap, NumberSet};

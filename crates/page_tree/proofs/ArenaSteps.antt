@@ -1,12 +1,14 @@
 -- Slots taken out one by one, lists of serials, and trees copied out.
 use Rattle.std.proofs.Common.{◌≡◌, ℕ, zero, suc, ◌+◌, ◌-◌, ◌<◌, ◌≤◌, ◌==◌, Bool, true, false, cond, List, [], ◌∷◌, ◌++◌, length, get_or}
-use Rattle.std.proofs.Common.{slice_get, drop, Option, Some, None, is_some, IsSome, Result, Ok, Err, OnOk, OnErr, refl, sym, ap, subst, ◌∙◌}
+use Rattle.std.proofs.Common.{slice_get, drop, Option, Some, None, IsSome, Result, Ok, Err, OnOk, OnErr, refl, sym, ap, subst, ◌∙◌}
 use Rattle.std.proofs.Common.{arith}
 use Rattle.std.specs.Option.{option_map_or}
 use Rattle.std.specs.Ordering.{nat_cmp}
 use Rattle.std.specs.BTreeMap as map
-use Rattle.std.proofs.lemmas.Bool.{ne_eqb}
+use Rattle.std.specs.Cmp.{both_ways}
+use Rattle.std.proofs.lemmas.Bool.{eq-eqb, ne_eqb, eqb-true}
 use Rattle.std.proofs.lemmas.List.{drop_more, drop_all}
+use Rattle.number_map.specs.Places.{number_place}
 use Rattle.node_tree.specs.Nodes.{Nodes, none, node, Branch, alone, nodes_of, beside, node_count}
 use Rattle.node_tree.specs.Keys.{tally}
 use Rattle.node_tree.specs.Arena.{Shrinks, IsFiled, slot_tree, slot_trees, kept_trees}
@@ -120,18 +122,6 @@ none_left (b ∷ bs) e = absurd (omega arith)
 
 -- ---- the place of a key
 
-module _ (a : Arena) (serial : ℕ) (ks : List ℕ) (i k : ℕ) (at : slice_get ks i ≡ Some k) where
-  key_next : drop i ks ≡ k ∷ drop (i + 1) ks
-  key_next = let e : i + 1 ≡ suc i = omega arith in rw e (drop-get ks i k at)
-
-  pub place_here : is_numbered a serial k ≡ true → place_in a serial (drop i ks) ≡ 0
-  place_here e = ap (λ (js : List ℕ). place_in a serial js) key_next ∙ ap
-      (λ (b : Bool). cond {A = ℕ} b 0 (suc (place_in a serial (drop (i + 1) ks)))) e
-
-  pub place_on : is_numbered a serial k ≡ false → place_in a serial (drop i ks) ≡ suc (place_in a serial (drop (i + 1) ks))
-  place_on e = ap (λ (js : List ℕ). place_in a serial js) key_next ∙ ap
-      (λ (b : Bool). cond {A = ℕ} b 0 (suc (place_in a serial (drop (i + 1) ks)))) e
-
 pub place_le : (a : Arena) (serial : ℕ) (ks : List ℕ) → place_in a serial ks ≤ length ks
 place_le a serial [] = omega arith
 place_le a serial (k ∷ ks) =
@@ -140,23 +130,48 @@ place_le a serial (k ∷ ks) =
       | false ↦ let e = place_le a serial ks in omega arith
     ]
 
--- where no slot has the serial, none of these keys' slots has it
-absent_key : (a : Arena) (serial k : ℕ) → Filed a → is_some (keys_in a serial) ≡ false → is_numbered a serial k ≡ false
+-- where the serial has no key, no slot has it
+absent_key : (a : Arena) (serial k : ℕ) → Filed a → keys_in a serial ≡ None → is_numbered a serial k ≡ false
 absent_key a serial k files gone =
     elim (slots_in a k) as (λ (o : Option Slot). ((slot : Slot) → o ≡ Some slot → keys_in a slot.serial ≡ Some k)
     → option_map_or (λ (slot : Slot). slot.serial == serial) o false ≡ false) [
       | None ↦ λ h. refl
       | Some slot ↦ λ h. ne_eqb slot.serial serial (λ same.
-          let clash : true ≡ false = sym (ap (λ (p : Option ℕ). is_some p) (sym (ap (keys_in a) same) ∙ h slot refl)) ∙ gone in
+          let clash : None ≡ Some k = sym gone ∙ ap (keys_in a) (sym same) ∙ h slot refl in
           absurd cc)
     ] (λ slot at. files.filed k slot at)
 
-pub place_absent : (a : Arena) (serial : ℕ) (ks : List ℕ) → Filed a → is_some (keys_in a serial) ≡ false
-    → length ks ≡ place_in a serial ks
+-- where it has one, the slot of that key alone has it
+kept_key : (a : Arena) (serial key k : ℕ) → Filed a → keys_in a serial ≡ Some key → is_numbered a serial k ≡ (k == key)
+kept_key a serial key k files at =
+    let (own, own_at, own_is) = files.found serial key at in
+    (elim (slots_in a k) as (λ (o : Option Slot). slots_in a k ≡ o
+    → option_map_or (λ (slot : Slot). slot.serial == serial) o false ≡ (k == key)) [
+      | None ↦ λ vacant. sym (ne_eqb k key (λ same.
+          let clash : None ≡ Some own = sym vacant ∙ ap (slots_in a) same ∙ own_at in
+          absurd cc))
+      | Some slot ↦ λ there. both_ways (slot.serial == serial) (k == key)
+          (λ e. let both : Some k ≡ Some key = sym (files.filed k slot there) ∙ ap (keys_in a) (eqb-true slot.serial serial e) ∙ at in
+          eq-eqb k key (cc))
+          (λ e. let both : Some slot ≡ Some own = sym there ∙ ap (slots_in a) (eqb-true k key e) ∙ own_at in
+          let same : slot ≡ own = cc in
+          eq-eqb slot.serial serial (ap (λ (s : Slot). s.serial) same ∙ own_is))
+    ]) refl
+
+pub place_step : (u v : Bool) (p q : ℕ) → u ≡ v → p ≡ q → cond {A = ℕ} u 0 (suc p) ≡ cond {A = ℕ} v 0 (suc q)
+place_step u v p q e f = cc
+
+-- the place of a serial is that of its key, and behind all keys where it has none
+pub place_keyed : (a : Arena) (serial key : ℕ) (ks : List ℕ) → Filed a → keys_in a serial ≡ Some key
+    → number_place key ks ≡ place_in a serial ks
+place_keyed a serial key [] files at = refl
+place_keyed a serial key (k ∷ ks) files at = place_step (k == key) (is_numbered a serial k) (number_place key ks) (place_in a serial ks)
+    (sym (kept_key a serial key k files at)) (place_keyed a serial key ks files at)
+
+pub place_absent : (a : Arena) (serial : ℕ) (ks : List ℕ) → Filed a → keys_in a serial ≡ None → length ks ≡ place_in a serial ks
 place_absent a serial [] files gone = refl
-place_absent a serial (k ∷ ks) files gone =
-    ap suc (place_absent a serial ks files gone)
-    ∙ sym (ap (λ (b : Bool). cond {A = ℕ} b 0 (suc (place_in a serial ks))) (absent_key a serial k files gone))
+place_absent a serial (k ∷ ks) files gone = place_step false (is_numbered a serial k) (length ks) (place_in a serial ks)
+    (sym (absent_key a serial k files gone)) (place_absent a serial ks files gone)
 
 -- the serials of one tree
 pub listing_of : (x : ℕ) (l new first : List ℕ) (ts : List (Branch PageRow)) (b : Branch PageRow) → l ≡ new → first ≡ [] → ts ≡ b ∷ []

@@ -1,18 +1,18 @@
 -- The slots of a page, and the zippers that they are seen as.
 use Rattle.std.proofs.Common.{◌≡◌, ◌⊎◌, ℕ, zero, suc, ◌+◌, ◌-◌, ◌<◌, ◌≤◌, ◌==◌, Bool, cond, List, [], ◌∷◌, length, slice_get, Option, Some}
-use Rattle.std.proofs.Common.{None, unwrap_or, IfSome, refl, sym, ap, subst, ◌∙◌, inl, inr, arith}
+use Rattle.std.proofs.Common.{None, unwrap_or, IsSome, IfSome, refl, sym, ap, subst, ◌∙◌, inl, inr, arith}
 use Rattle.std.proofs.lemmas.Bool.{eq-eqb, ne_eqb}
 use Rattle.std.specs.Option.{option_and_then, option_map, option_map_or}
 use Rattle.std.proofs.lemmas.Option.{option_and_then_some}
 use Rattle.node_tree.specs.Nodes.{Nodes, none, node, Branch, alone, tree_at, width}
 use Rattle.node_tree.specs.Keys.{tally}
 use Rattle.node_tree.specs.Arena.{Keeps}
-use Rattle.node_tree.proofs.KeyLemmas.{tally_row, tally_below, tally_cases}
+use Rattle.node_tree.proofs.KeyLemmas.{tally_row, tally_below, tally_cases, find-absent, found_key}
 use Rattle.node_tree.proofs.ChangeLemmas.{tally_in-at}
 use Rattle.node_tree.proofs.NodeLemmas.{node_count-map_rows}
 use Rattle.node_tree.proofs.ArenaLemmas.{keeps-tree_at}
 use Rattle.page_tree.specs.Forms.{max_nodes}
-use Rattle.page_tree.specs.Pages.{PageRow, row_serial, row_label, node_at, parent_at}
+use Rattle.page_tree.specs.Pages.{PageRow, row_serial, row_label, IsValid, times_in, find_in, node_at, parent_at}
 use Rattle.page_tree.specs.Zippers.{Generation, Zipper, generation_of, serial_of, zipper_of, ancestors_in, in_row, find_zipper, zipper_at}
 use Rattle.page_tree.specs.Zippers.{first_node, root_of, earlier, later, parent_of, previous_of, next_of, first_child_of}
 use Rattle.page_tree.specs.Arenas.{page_slots, slot_row, slots_in, Stored, slot_of, is_numbered, place_in, branch_in, tree_of, IsPage}
@@ -21,6 +21,7 @@ use Rattle.page_tree.specs.declared.slots.Slot.{Slot}
 use Rattle.page_tree.specs.declared.arenas.Arena.{Arena}
 use Rattle.page_tree.proofs.EditLemmas.{changed}
 use Rattle.page_tree.proofs.PlaceLemmas.{once, located, node_at_is, placed_up}
+use Rattle.page_tree.proofs.ArenaSteps.{place_step}
 use Rattle.page_tree.proofs.TurnLemmas.{seat, numbered_is}
 use Rattle.page_tree.proofs.HangLemmas.{hangs-slot}
 use Rattle.page_tree.proofs.ZipperLemmas.{siblings_of, Fits, IsOf, find-of, of-find, of-previous, of-next, of-first_child, branch-found}
@@ -66,9 +67,6 @@ place-siblings x (b ∷ before) here few =
       | inl p ↦ absurd (let e = p.1 in omega arith)
       | inr p ↦ let e = ap (λ (v : Bool). cond {A = ℕ} v 0 (suc (place_among x here))) (ne_eqb b.row.serial x p.0) in omega arith
     ]
-
-place_step : (u v : Bool) (p q : ℕ) → u ≡ v → p ≡ q → cond {A = ℕ} u 0 (suc p) ≡ cond {A = ℕ} v 0 (suc q)
-place_step u v p q e f = cc
 
 place_keeps : (a : Arena) (x : ℕ) (above : Option ℕ) (n : Nodes PageRow) (ks : List ℕ) → Keeps page_slots (slots_in a) n above ks
     → place_in a x ks ≡ place_among x n
@@ -131,6 +129,56 @@ row_under : (tree : Branch PageRow) (above : List Generation) (row : Nodes PageR
 row_under tree [] row p e fits = absurd (cc)
 row_under tree (g ∷ above) row p e fits = let same : zipper_of g above ≡ p = cc in fits.0 ∙ ap (λ (z : Zipper). z.branch.children) same
 
+-- ---- the place of a node among its parent's children
+
+found_at : (tree : Branch PageRow) (o : Option Zipper) (b : Branch PageRow) → option_map (λ (z : Zipper). z.branch) o ≡ Some b
+    → o ≡ Some (unwrap_or o (root_of tree))
+found_at tree (Some z) b e = refl
+found_at tree None b e = absurd (cc)
+
+some_branch : (o : Option (Branch PageRow)) → IsSome o → (b : Branch PageRow) × (o ≡ Some b)
+some_branch None some = absurd (cc)
+some_branch (Some b) some = (b, refl)
+
+none_there : (n x : ℕ) → x ≡ 0 → (0 < n → 1 ≤ x) → n ≡ 0
+none_there zero x e least = refl
+none_there (suc n) x e least = absurd (let low : 1 ≤ x = least (omega arith) in omega arith)
+
+-- a valid page has no serial 0
+not_at_zero : (tree : Branch PageRow) (next : ℕ) → IsValid (record { tree = tree; next = next }) → (x : ℕ) → x ≡ 0
+    → IsSome (find_in x tree) → ⊥
+not_at_zero tree next valid x zero_is some =
+    let few : times_in x tree ≡ 0 = none_there (times_in x tree) x zero_is (valid.least x) in
+    let gone : find_in x tree ≡ None = find-absent row_serial x (alone tree) (omega arith) in
+    let clash : IsSome {T = Branch PageRow} None = subst (λ (o : Option (Branch PageRow)). IsSome o) gone some in
+    absurd (cc)
+
+-- the child at the place of a node is the node
+pub stands-place : (tree : Branch PageRow) (next : ℕ) → IsValid (record { tree = tree; next = next }) → (x : ℕ)
+    → IsSome (find_in x tree) → IsSome (find_in (parent_at x tree) tree)
+    → option_map (λ (b : Branch PageRow). b.row.serial)
+    (tree_at (length (zipper_at x tree).before) (node_at (parent_at x tree) tree).children) ≡ Some x
+stands-place tree next valid x live above =
+    let (b, b_is) = some_branch (find_in x tree) live in
+    let z = zipper_at x tree in
+    let found = found_at tree (find_zipper x tree) b (sym (branch-found x [] [] (alone tree)) ∙ b_is) in
+    let of = of-find tree x z found in
+    let serial_is = found_key row_serial x (alone tree) z.branch (live-of tree x z found) in
+    let by = subst (ParentBy tree z) (sym (parent_at-of tree x z found)) (parent_by tree valid.distinct z of) in
+    elim by [
+      | at_top is leads ↦ absurd (not_at_zero tree next valid (parent_at x tree) is above)
+      | under p leads same over ↦
+          let here : Nodes PageRow = node z.branch.row z.branch.children z.after in
+          let row_is = row_under tree z.above (siblings_of z.before here) p leads of in
+          let over_is = ap (λ (o : Option (Branch PageRow)). unwrap_or o tree) (live-of tree (parent_at x tree) p over) in
+          let whole = ap (λ (a : Branch PageRow). a.children) over_is ∙ sym row_is in
+          let i : length z.before ≡ length z.before + 0 = omega arith in
+          ap (λ (n : Nodes PageRow). option_map (λ (b : Branch PageRow). b.row.serial) (tree_at (length z.before) n)) whole
+          ∙ ap (λ (k : ℕ). option_map (λ (b : Branch PageRow). b.row.serial) (tree_at k (siblings_of z.before here))) i
+          ∙ ap (λ (o : Option (Branch PageRow)). option_map (λ (b : Branch PageRow). b.row.serial) o) (at-place z.before here 0)
+          ∙ ap (λ (y : ℕ). Some y) serial_is
+    ]
+
 -- ---- slots that are seen as zippers
 
 module _ (a : Arena) (root next : ℕ) (page : IsPage a root next) where
@@ -151,16 +199,11 @@ module _ (a : Arena) (root next : ℕ) (page : IsPage a root next) where
   branch_at slot z at found = (hangs-slot a root next page slot.serial slot at).0 ∙ node_at_is a root next page slot.serial z.branch
       (live-of (tree_of a root) slot.serial z found)
 
-  some_found : (o : Option Zipper) (b : Branch PageRow) → option_map (λ (z : Zipper). z.branch) o ≡ Some b
-      → o ≡ Some (unwrap_or o (root_of (tree_of a root)))
-  some_found (Some z) b e = refl
-  some_found None b e = absurd (cc)
-
   -- each slot of the page is seen as the zipper of its serial
   pub sits : (slot : Slot) → slot_of a slot.serial ≡ Some slot → Sits slot (zipper_at slot.serial (tree_of a root))
   sits slot at =
       let l = located a root next page slot.serial slot at in
-      let found = some_found (find_zipper slot.serial (tree_of a root)) l.branch
+      let found = found_at (tree_of a root) (find_zipper slot.serial (tree_of a root)) l.branch
       (sym (branch-found slot.serial [] [] (alone (tree_of a root))) ∙ l.found) in
       record { at = at; found = found; branch_is = branch_at slot (zipper_at slot.serial (tree_of a root)) at found }
 

@@ -86,6 +86,7 @@ impl Arena {
 
     /// The place of a slot among it and its siblings.
     pub fn seat(&self, slot: &Slot) -> usize
+        requires { Filed self.now }
         ensures { result ≡ place_in self.now slot.now.serial (sibling_keys self.now slot.now) }
     {
         match self.siblings(slot) {

@@ -5,7 +5,7 @@ ghost use Rattle.node_tree.specs.Nodes.{alone};
 ghost use Rattle.node_tree.specs.Labels.{is_ascending, value_of};
 ghost use Rattle.page_tree.specs.Loads.{placed};
 ghost use Rattle.page_tree.specs.Edits.{pairs_without};
-ghost use Rattle.page_tree.specs.Arenas.{slots_in, Filed, Fresh, Grown, Turned, SameSlots, slot_of, slot_row, stored_trees, is_numbered};
+ghost use Rattle.page_tree.specs.Arenas.{slots_in, Filed, Fresh, Grown, Turned, SameSlots, slot_of, slot_row, stored_trees};
 ghost use Rattle.page_tree.specs.Arenas.{place_in, first_in, next_in, without_child_key, graft_point, Grafted, Cut};
 ghost use Rattle.page_tree.specs.declared.slots.Slot.{Slot};
 
@@ -17,37 +17,15 @@ use std::alloc::{AllocError, Global};
 use std::{mem, slice};
 
 impl Arena {
-    fn is_numbered(&self, serial: u64, key: usize) -> bool
-        ensures { result ≡ is_numbered self.now serial key }
-    {
-        match self.slots.get(key) {
-            Some(slot) => slot.serial == serial,
-            None => false,
-        }
-    }
-
-    /// The place of the first key whose slot has the serial, and else the number of the keys.
+    /// The place of the first key whose slot has the serial, and else the number of the keys. No slot of these keys is looked at.
     pub fn place(&self, keys: &Keys, serial: u64) -> usize
-        ensures { result ≡ place_in self.now serial keys.now }
-    {
-        for i in 0..keys.len() {
-            if self.is_numbered(serial, keys.at(i)) {
-                return i;
-            }
-        }
-        keys.len()
-    }
-
-    /// The place of the first key whose slot has the serial, and else the number of the keys. Where no slot has it, as where a node is put
-    /// last, no key is looked at.
-    fn graft_place(&self, keys: &Keys, serial: u64) -> usize
         requires { Filed self.now }
         ensures { result ≡ place_in self.now serial keys.now }
     {
-        if self.key(serial).is_none() {
-            return keys.len();
+        match self.key(serial) {
+            Some(key) => keys.place(key),
+            None => keys.len(),
         }
-        self.place(keys, serial)
     }
 
     /// The serial of the slot under the key at place `i`, and 0 where there is none.
@@ -65,6 +43,7 @@ impl Arena {
 
     /// The serial of the slot right after the one of that serial, and 0 where there is none.
     pub fn next_sibling(&self, keys: &Keys, serial: u64) -> u64
+        requires { Filed self.now }
         ensures { result ≡ next_in self.now serial keys.now }
     {
         let i = self.place(keys, serial);
@@ -142,6 +121,7 @@ impl Arena {
 
     /// Takes the key of a serial out from among the children of a slot.
     fn cut_child(&mut self, key: usize, serial: u64)
+        requires { Filed self.old }
         ensures keys { self.new.keys ≡ self.old.keys }
         ensures slots { Turned self.old self.new key (without_child_key self.old serial) }
     {
@@ -168,7 +148,7 @@ impl Arena {
         ensures err { OnErr result (Grown self.old self.new (alone tree)) }
     {
         let i = match self.slots.get(key) {
-            Some(slot) => self.graft_place(&slot.children, before),
+            Some(slot) => self.place(&slot.children, before),
             None => unreachable!(),
         };
         let child = self.plant(alloc, tree, Some(key))?;

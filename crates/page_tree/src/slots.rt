@@ -1,14 +1,16 @@
 ghost use Rattle.std.specs.Prelude.{◌≡◌, ◌<◌, ◌≤◌, ℕ, List, [], ◌∷◌, ◌++◌, length, Some, OnOk, OnErr, slice_get};
 ghost use Rattle.std.specs.List.{insert, remove};
+ghost use Rattle.number_map.specs.Places.{number_place};
 
 use node_tree::{Attributes, Kind, Text};
+use number_map::NumberList;
 use std::alloc::{AllocError, Global};
 use std::marker::Model;
 
-/// A list of keys of slots.
+/// A list of keys of slots, in which the place of a key is found without a look at the others.
 #[derive(Drop)]
 pub struct Keys {
-    keys: Vec<usize>,
+    keys: NumberList,
 }
 
 impl Model for Keys {
@@ -16,7 +18,7 @@ impl Model for Keys {
 
     ghost Value = { List ℕ };
 
-    ghost view = { λ k. k.keys.items };
+    ghost view = { λ k. k.keys };
 }
 
 impl Keys {
@@ -25,7 +27,7 @@ impl Keys {
         ensures { result ≡ [] }
     {
         Keys {
-            keys: Vec::new(alloc),
+            keys: NumberList::new(alloc),
         }
     }
 
@@ -41,7 +43,7 @@ impl Keys {
         requires { i < length self.now }
         ensures { slice_get self.now i ≡ Some result }
     {
-        self.keys[i]
+        self.keys.at(i) as usize
     }
 
     /// Puts a key last.
@@ -49,8 +51,7 @@ impl Keys {
         ensures ok { OnOk result (self.new ≡ self.old ++ key ∷ []) }
         ensures err { OnErr result (self.new ≡ self.old) }
     {
-        self.keys.push(key)?;
-        Ok(())
+        self.keys.push(key as u64)
     }
 
     /// Puts a key before the one at place `i`, or last.
@@ -59,17 +60,21 @@ impl Keys {
         ensures ok { OnOk result (self.new ≡ insert self.old i key) }
         ensures err { OnErr result (self.new ≡ self.old) }
     {
-        self.keys.insert(i, key)?;
-        Ok(())
+        self.keys.insert(i, key as u64)
     }
 
     /// Takes the key at place `i` out, where there is one.
     pub fn remove(&mut self, i: usize)
         ensures { self.new ≡ remove self.old i }
     {
-        if i < self.keys.len() {
-            self.keys.remove(i);
-        }
+        self.keys.remove(i);
+    }
+
+    /// The place of the first key that is this one, and else the number of the keys.
+    pub fn place(&self, key: usize) -> usize
+        ensures { result ≡ number_place key self.now }
+    {
+        self.keys.place(key as u64)
     }
 }
 

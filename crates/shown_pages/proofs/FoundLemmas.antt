@@ -183,7 +183,7 @@ focus_of : (o : Option Zipper) (other : Zipper) (x : Branch PageRow) → option_
 focus_of None other x e = cc
 focus_of (Some z) other x e = cc
 
-focus-at : (s : ℕ) (tree x : Branch PageRow) → find_in s tree ≡ Some x → (zipper_at s tree).branch ≡ x
+pub focus-at : (s : ℕ) (tree x : Branch PageRow) → find_in s tree ≡ Some x → (zipper_at s tree).branch ≡ x
 focus-at s tree x e = focus_of (find_zipper s tree) (root_of tree) x (sym (branch-found s [] [] (alone tree)) ∙ e)
 
 pub below-shown : BelowShown

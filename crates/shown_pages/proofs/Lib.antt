@@ -6,3 +6,4 @@ pub mod ShownSteps
 pub mod FoundLemmas
 pub mod AboveLemmas
 pub mod StopLemmas
+pub mod NearestLemmas

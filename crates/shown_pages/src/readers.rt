@@ -1,14 +1,16 @@
 //! What is shown of a page, by serial. No call takes memory.
 
-ghost use Rattle.std.specs.Prelude.{◌≡◌, ◌<◌, is_some, option_map, Some, IsSome};
+ghost use Rattle.std.specs.Prelude.{◌≡◌, ◌<◌, is_some, option_map, None, Some, IsSome};
 ghost use Rattle.node_tree.specs.Nodes.{width, tree_at};
-ghost use Rattle.page_tree.specs.Pages.{find_in, node_at};
+ghost use Rattle.page_tree.specs.Pages.{find_in, node_at, parent_at};
+ghost use Rattle.page_tree.specs.Edits.{children_at};
 ghost use Rattle.shown_pages.specs.ShownPages.{shown_nodes, shown_page};
+ghost use Rattle.shown_pages.specs.Walks.{serial_before, first_shown};
 
 use crate::cursors::ShownNode;
 use crate::laws::shown_law;
 use crate::modes::{Mode, is_hidden};
-use page_tree::Page;
+use page_tree::{NodeRef, Page};
 
 /// The mode shows the node.
 pub fn is_shown(page: &Page, serial: u64, mode: Mode) -> bool
@@ -37,4 +39,31 @@ pub fn shown_at(page: &Page, serial: u64, i: usize, mode: Mode) -> u64
         Some(child) => child.serial(),
         None => unreachable!(),
     }
+}
+
+/// The serial of the nearest sibling before the node that is shown.
+fn nearest_shown(node: &NodeRef<'_>, mode: Mode) -> Option<u64>
+    ensures { result ≡ first_shown mode node.now.before }
+{
+    let mut at = node.previous_sibling();
+    while let Some(other) = at {
+        if !mode.hides(other.kind(), other.value()) {
+            return Some(other.serial());
+        }
+        at = other.previous_sibling();
+    }
+    None
+}
+
+/// The serial of the shown sibling right before a shown node that is no document; `None` where the node is the first shown child of
+/// its parent. No other sibling is looked at but the hidden texts between the two.
+pub fn shown_before(page: &Page, serial: u64, mode: Mode) -> Option<u64>
+    requires child { IsSome (find_in serial (shown_page mode page.now).tree) }
+    requires parent { IsSome (find_in (parent_at serial (shown_page mode page.now).tree) (shown_page mode page.now).tree) }
+    ensures { result ≡ serial_before None serial
+        (children_at (parent_at serial (shown_page mode page.now).tree) (shown_page mode page.now).tree) }
+{
+    page.valid();
+    shown_law();
+    nearest_shown(&page.node_ref(serial), mode)
 }

@@ -1,18 +1,16 @@
-use Rattle.std.proofs.Common.{◌≡◌, ℕ, ◌≤◌, [], ◌∷◌, ◌++◌, sym, ap, subst, ◌∙◌}
+use Rattle.std.proofs.Common.{◌≡◌, ℕ, [], ◌∷◌, ◌++◌, None, sym, ap, ◌∙◌}
 use Rattle.node_tree.specs.Nodes.{Branch}
-use Rattle.node_tree.specs.Keys.{tally}
-use Rattle.page_tree.specs.Pages.{PageRow, row_serial, node_at}
+use Rattle.page_tree.specs.Pages.{PageRow, node_at, parent_at}
 use Rattle.page_tree.specs.Edits.{children_at}
 use Rattle.page_tree.proofs.EditLemmas.{serial-live}
 use Rattle.shown_pages.specs.declared.modes.Mode.{Mode}
 use Rattle.shown_pages.specs.ShownPages.{shown_page}
-use Rattle.shown_pages.proofs.ShownTrees.{shown-valid}
+use Rattle.shown_pages.specs.Walks.{serial_before}
 use Rattle.node_binding.specs.Bindings.{BindingValue, with_bound}
 use Rattle.client_views.specs.Moves.{frames_of_moves}
 use Rattle.dom_agent.specs.Keepers.{binding_keeper}
 use Rattle.dom_agent.specs.Edits.{Edited, family, told_count, insertion}
 use Rattle.dom_agent.proofs.EditCode.{came_shut, came_open, inserted_sent}
-use Rattle.dom_agent.proofs.LastChild.{once_below}
 use Rattle.dom_agent.proofs.edits.tell_child.Goals as goal
 
 pub returns-then-not-is_opened-clause-known : goal.returns-then-not-is_opened-clause-known
@@ -41,12 +39,18 @@ returns-then-not-is_opened-clause-sent c =
 
 pub tell_came-requires : goal.tell_came-requires
 tell_came-requires c =
-    let m = c.args.binding.now.mode in
-    let page = c.args.page.now in
+    let tree : Branch PageRow = (shown_page c.args.binding.now.mode c.args.page.now).tree in
     let above_is : c.at-above.result ≡ node_at c.args.parent (shown_page c.args.binding.now.mode c.args.page.now).tree =
     c.at-above.ensures ∙ ap (λ (m : Mode). node_at c.args.parent (shown_page m c.args.page.now).tree) c.mode-mode.ensures in
-    subst (λ (x : Branch PageRow). tally row_serial c.at-node.result.row.serial x.children ≤ 1) (sym above_is)
-    (once_below (shown_page m page) (shown-valid m page c.valid.ensures) c.args.parent c.at-node.result.row.serial c.requires.parent)
+    let node_is : c.at-node.result ≡ node_at c.args.serial (shown_page c.args.binding.now.mode c.args.page.now).tree =
+    c.at-node.ensures ∙ ap (λ (m : Mode). node_at c.args.serial (shown_page m c.args.page.now).tree) c.mode-mode.ensures in
+    let serial_is : c.at-node.result.row.serial ≡ c.args.serial =
+    ap (λ (x : Branch PageRow). x.row.serial) node_is ∙ serial-live c.args.serial tree c.requires.child in
+    c.shown_before-before.ensures
+    ∙ ap (λ (m : Mode). serial_before None c.args.serial
+    (children_at (parent_at c.args.serial (shown_page m c.args.page.now).tree) (shown_page m c.args.page.now).tree)) c.mode-mode.ensures
+    ∙ ap (λ (p : ℕ). serial_before None c.args.serial (children_at p tree)) c.requires.below
+    ∙ sym (λ i. serial_before None (serial_is i) (above_is i).children)
 
 pub returns-clause-known : goal.returns-clause-known
 returns-clause-known c =

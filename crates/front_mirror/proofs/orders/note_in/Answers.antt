@@ -1,5 +1,5 @@
 -- One id more is noted.
-use Rattle.std.proofs.Common.{◌≡◌, ℕ, cond, Some, get_or, arith, ◌∙◌}
+use Rattle.std.proofs.Common.{cond, Some, get_or, arith, ◌∙◌}
 use Rattle.std.specs.FinMap as map
 use Rattle.client_views.specs.Views.{is_in}
 use Rattle.front_mirror.proofs.IdMapLemmas.{puts-insert}

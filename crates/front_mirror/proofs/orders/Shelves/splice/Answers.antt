@@ -1,5 +1,5 @@
 -- The ids before the place, those that came, and those behind them.
-use Rattle.std.proofs.Common.{◌≡◌, ℕ, ◌+◌, List, ◌++◌, take, drop, refl, sym, ap, ◌∙◌}
+use Rattle.std.proofs.Common.{◌≡◌, ℕ, ◌+◌, List, ◌++◌, take, drop, sym, ap, ◌∙◌}
 use Rattle.front_mirror.specs.declared.orders.Shelf.{Shelf}
 use Rattle.front_mirror.specs.Orders.{ids_in}
 use Rattle.front_mirror.proofs.ShelfLemmas.{parts, joined, spliced_within}

@@ -14,7 +14,7 @@ insert_child-requires c slot at =
     let same : c.in-Some.slot.now ≡ slot = cc in
     let size = ap (λ (s : Slot). length s.children) same in
     let low = place_le c.args.self.now c.args.before c.in-Some.slot.now.children in
-    omega (arith, size, low, c.graft_place-i.ensures)
+    omega (arith, size, low, c.place-i.ensures)
 
 pub returns-clause-filed : goal.returns-clause-filed
 returns-clause-filed c =

@@ -1,7 +1,7 @@
 -- The id is one of them.
 use Rattle.std.proofs.Common.{arith}
 use Rattle.front_mirror.proofs.IdLemmas.{place_known, place_then}
-use Rattle.front_mirror.proofs.slots.IdList.place_after.Goals as goal
+use Rattle.front_mirror.proofs.child_ids.ChildIds.place_after.Goals as goal
 
 pub unreachable-requires : goal.unreachable-requires
 unreachable-requires c = place_known c.args.previous c.args.self.now c.place-i.result c.len-len.result c.if-previous-eq0.false c.requires

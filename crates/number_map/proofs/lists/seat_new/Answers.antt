@@ -1,0 +1,10 @@
+use Rattle.std.proofs.Common.{sym, ap, ◌∙◌}
+use Rattle.std.specs.FinMap as map
+use Rattle.number_map.proofs.PlaceLemmas.{held, seats-with}
+use Rattle.number_map.proofs.lists.seat_new.Goals as goal
+
+pub returns-in_ok-insert-clause-ok : goal.returns-in_ok-insert-clause-ok
+returns-in_ok-insert-clause-ok c ks has =
+    seats-with c.in-Some.seated.value.places _ ks c.args.number c.args.place (held _ _ _ c.in-Some.is has)
+    (sym (held _ _ _ c.in-Some.is c.has_seat.ensures) ∙ c.if-has_seat.false)
+    (c.in_ok-insert.ensures.put ∙ ap (λ s. map.insert s.places c.args.number c.args.place) c.deref_mut.ensures.value)
