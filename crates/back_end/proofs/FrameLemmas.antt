@@ -13,6 +13,7 @@ use Rattle.node_binding.proofs.StartLemmas.{count-alone}
 use Rattle.cdp_messages.specs.declared.command.Command.{Command}
 use Rattle.cdp_messages.specs.declared.command.Command.TheVariants.{DomEnable, DomDisable, CssEnable, CssDisable, AskDom, EditDom, AskCss}
 use Rattle.cdp_messages.specs.declared.command.Command.TheVariants.{EditCss, MarkUndoableState, Undo, Redo, SetBreakpoint, RemoveBreakpoint}
+use Rattle.undo_marks.specs.declared.histories.Direction.TheVariants as directions
 use Rattle.cdp_messages.specs.declared.command.Command.TheVariants.{ReplayLoad, ReplayAct, AskSearch}
 use Rattle.cdp_messages.specs.declared.command.Asked.{Asked}
 use Rattle.cdp_messages.specs.declared.command.Refused.{Refused}
@@ -66,7 +67,7 @@ use Rattle.back_end.proofs.SearchSteps.{perform-answered, discard-answered}
 use Rattle.back_end.proofs.CssAnswers.{css-well, css-once, css-may, css-text}
 use Rattle.back_end.proofs.SheetSteps.{css-on-well, css-off-well}
 use Rattle.back_end.proofs.SpliceSteps.{sheet-edit-answered}
-use Rattle.back_end.proofs.UndoSteps.{undo-answered, redo-answered, mark-answered}
+use Rattle.back_end.proofs.UndoSteps.{group-answered, mark-answered}
 use Rattle.back_end.proofs.AnsweredSteps.{Answered, refusal-answered}
 use Rattle.back_end.proofs.KeptSteps.{Recalls, recalls-same, recalls-none, steps-well}
 use Rattle.back_end.proofs.PushSteps.{session-is}
@@ -521,11 +522,11 @@ serves id MarkUndoableState state fits texts is room small =
 serves id Undo state fits texts is room small =
     let c : Command = Undo in
     command-serves id c 0 state is room small
-    (λ dom css. undo-answered (method_name c) (text_asked c) id state (refl, refl) is room small)
+    (λ dom css. group-answered (method_name c) (text_asked c) directions.Undo id state (refl, refl) is room small)
 serves id Redo state fits texts is room small =
     let c : Command = Redo in
     command-serves id c 0 state is room small
-    (λ dom css. redo-answered (method_name c) (text_asked c) id state (refl, refl) is room small)
+    (λ dom css. group-answered (method_name c) (text_asked c) directions.Redo id state (refl, refl) is room small)
 serves id CssEnable state fits texts is room small =
     let events = on-events state.client.css_on state.side.sheets in
     let first = cond state.client.css_on [] (moves_come state.side.sheets) in

@@ -1,15 +1,17 @@
 -- How many edits a history has after each change of it.
 use Rattle.std.proofs.Common.{◌≡◌, ℕ, ◌+◌, ◌≤◌, Bool, true, false, cond, List, [], ◌∷◌, ◌++◌, length, map, reverse, Option, Some, None}
-use Rattle.std.proofs.Common.{refl, sym, ap, ◌∙◌, subst, length-append, arith}
+use Rattle.std.proofs.Common.{refl, ap, ◌∙◌, subst, length-append, arith}
 use Rattle.std.proofs.lemmas.List.{reverse-append, length-reverse, length-map}
-use Rattle.undo_marks.specs.Marks.{Marks, entry_count, onto_newest, edited, undone, redone}
+use Rattle.undo_marks.specs.Marks.{Marks, entry_count, onto_newest, edited, group_moved}
+use Rattle.undo_marks.specs.declared.histories.Direction.{Direction}
+use Rattle.undo_marks.specs.declared.histories.Direction.TheVariants as directions
 use Rattle.undo_marks.specs.Changes.{HistoryEntry as Entry, changes_on, backs_of}
 use Rattle.undo_marks.specs.Saved.{Saved}
 use Rattle.undo_marks.specs.SavedEdits.{page_after, way_back}
 use Rattle.undo_marks.specs.declared.inverse_lists.Inverse.{Inverse}
 use Rattle.undo_marks.specs.declared.inverse_lists.Inverse.TheVariants.{Tree, Sheet}
 use Rattle.back_end.specs.States.{State}
-use Rattle.back_end.specs.Steps.{undo_edits, redo_edits}
+use Rattle.back_end.specs.Steps.{taken_edits}
 use Rattle.back_end.specs.Laws.{tree_edit, tree_edits_in, tree_edits_among, tree_edits, edits_kept}
 
 -- an entry of a client's history
@@ -125,19 +127,15 @@ pub record SameCounts (before after : Marks (Entry Saved Inverse)) : Type 0 wher
   pub trees : trees_of after ≡ trees_of before
   pub count : count_of after ≡ count_of before
 
-pub undone-counts : (m : Marks Noted) → SameCounts m (undone m)
-undone-counts m = at m.past m.future m.going m.crossed where
-  at : (past future : List (List Noted)) (going crossed : Bool)
-      → (let m : Marks Noted = record { past = past; future = future; going = going; crossed = crossed } in SameCounts m (undone m))
-  at [] future going crossed = record { trees = refl; count = refl }
-  at (g ∷ gs) future going crossed = record { trees = omega arith; count = omega arith }
-
-pub redone-counts : (m : Marks Noted) → SameCounts m (redone m)
-redone-counts m = at m.past m.future m.going m.crossed where
-  at : (past future : List (List Noted)) (going crossed : Bool)
-      → (let m : Marks Noted = record { past = past; future = future; going = going; crossed = crossed } in SameCounts m (redone m))
-  at past [] going crossed = record { trees = refl; count = refl }
-  at past (g ∷ gs) going crossed = record { trees = omega arith; count = omega arith }
+pub moved-counts : (way : Direction) (m : Marks Noted) → SameCounts m (group_moved way m)
+moved-counts way m = at way m.past m.future m.going m.crossed where
+  at : (way : Direction) (past future : List (List Noted)) (going crossed : Bool)
+      → (let m : Marks Noted = record { past = past; future = future; going = going; crossed = crossed } in
+      SameCounts m (group_moved way m))
+  at directions.Undo [] future going crossed = record { trees = refl; count = refl }
+  at directions.Undo (g ∷ gs) future going crossed = record { trees = omega arith; count = omega arith }
+  at directions.Redo past [] going crossed = record { trees = refl; count = refl }
+  at directions.Redo past (g ∷ gs) going crossed = record { trees = omega arith; count = omega arith }
 
 -- ---- what is carried out
 
@@ -152,40 +150,21 @@ same-edits xs ys e = cc
 no-edits : {P : Type 0} (es : List Inverse) → ◌≡◌ {A = Option (List Inverse)} None (Some es) → P
 no-edits es e = let no : ◌≡◌ {A = Option (List Inverse)} None (Some es) = e in absurd cc
 
-pub undo-few : (m : Marks Noted) (es : List Inverse) → undo_edits m ≡ Some es → FewEdits es m
-undo-few m es e = at m.past m.future m.going m.crossed e where
-  at : (past future : List (List Noted)) (going crossed : Bool)
-      → (let m : Marks Noted = record { past = past; future = future; going = going; crossed = crossed } in undo_edits m ≡ Some es
+pub few-taken : (way : Direction) (m : Marks Noted) (es : List Inverse) → taken_edits way m ≡ Some es → FewEdits es m
+few-taken way m es e = at way m.past m.future m.going m.crossed e where
+  at : (way : Direction) (past future : List (List Noted)) (going crossed : Bool)
+      → (let m : Marks Noted = record { past = past; future = future; going = going; crossed = crossed } in taken_edits way m ≡ Some es
       → FewEdits es m)
-  at [] future going crossed e = no-edits es e
-  at (g ∷ gs) future going crossed e =
+  at directions.Undo [] future going crossed e = no-edits es e
+  at directions.Undo (g ∷ gs) future going crossed e =
       let m : Marks Noted = record { past = g ∷ gs; future = future; going = going; crossed = crossed } in
       subst (λ (xs : List Inverse). FewEdits xs m) (same-edits (reverse (backs_of way_back g)) es e)
       (record {
         trees = omega (arith, undo-trees g);
         count = omega (arith, length-reverse (backs_of way_back g), length-map g (λ (x : Noted). way_back x.edit x.before));
       })
-
-pub redo-few : (m : Marks Noted) (es : List Inverse) → redo_edits m ≡ Some es → FewEdits es m
-redo-few m es e = at m.past m.future m.going m.crossed e where
-  at : (past future : List (List Noted)) (going crossed : Bool)
-      → (let m : Marks Noted = record { past = past; future = future; going = going; crossed = crossed } in redo_edits m ≡ Some es
-      → FewEdits es m)
-  at past [] going crossed e = no-edits es e
-  at past (g ∷ gs) going crossed e =
+  at directions.Redo past [] going crossed e = no-edits es e
+  at directions.Redo past (g ∷ gs) going crossed e =
       let m : Marks Noted = record { past = past; future = g ∷ gs; going = going; crossed = crossed } in
       subst (λ (xs : List Inverse). FewEdits xs m) (same-edits (map (λ (x : Noted). x.edit) g) es e)
       (record { trees = omega (arith, redo-trees g); count = omega (arith, length-map g (λ (x : Noted). x.edit)) })
-
--- where there is nothing to carry out
-pub no-past : (m : Marks Noted) → undo_edits m ≡ None → m.past ≡ []
-no-past m e = at m.past e where
-  at : (past : List (List Noted)) → undo_edits (record m { past = past }) ≡ None → past ≡ []
-  at [] e = refl
-  at (g ∷ gs) e = no-edits (reverse (backs_of way_back g)) (sym e)
-
-pub no-future : (m : Marks Noted) → redo_edits m ≡ None → m.future ≡ []
-no-future m e = at m.future e where
-  at : (future : List (List Noted)) → redo_edits (record m { future = future }) ≡ None → future ≡ []
-  at [] e = refl
-  at (g ∷ gs) e = no-edits (map (λ (x : Noted). x.edit) g) (sym e)

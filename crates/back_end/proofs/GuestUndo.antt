@@ -1,6 +1,6 @@
 -- What a guest hears of edits out of another client's history, one after the other.
 use Rattle.std.proofs.Common.{true, ◌≡◌, ℕ, ◌+◌, ◌*◌, ◌^◌, ◌<◌, List, [], ◌∷◌, ◌++◌, length, Option, Some, None, refl, sym, ap, subst}
-use Rattle.std.proofs.Common.{◌∙◌}
+use Rattle.std.proofs.Common.{◌∙◌, not, ◌&&◌}
 use Rattle.std.proofs.Common.{append-nil, append_assoc, arith}
 use Rattle.std.proofs.Math.Logic.{∥∥₁_elim, ∥∥₁_map}
 use Rattle.std.proofs.Props.{props}
@@ -8,8 +8,8 @@ use Rattle.node_tree.specs.Nodes.{none}
 use Rattle.page_forms.specs.Mediums.{usual_medium}
 use Rattle.client_views.specs.Moves.{Move}
 use Rattle.style_edits.specs.declared.splice.Splice.{Splice}
-use Rattle.cdp_messages.specs.declared.command.Command.TheVariants.{Undo, Redo}
-use Rattle.undo_marks.specs.Marks.{Marks, handed_out}
+use Rattle.undo_marks.specs.Marks.{Marks, handed_out, groups_of}
+use Rattle.undo_marks.specs.declared.histories.Direction.{Direction}
 use Rattle.undo_marks.specs.Changes.{AllTaken}
 use Rattle.undo_marks.specs.declared.inverse_lists.Inverse.{Inverse}
 use Rattle.undo_marks.specs.declared.inverse_lists.Inverse.TheVariants.{Tree, Sheet}
@@ -18,13 +18,13 @@ use Rattle.back_end.specs.declared.desk.Desk.{Desk}
 use Rattle.back_end.specs.declared.guest.Guest.{Guest}
 use Rattle.back_end.specs.declared.side.PageSide.{PageSide}
 use Rattle.back_end.specs.States.{State, TakesWell, loaded_state}
-use Rattle.back_end.specs.Steps.{Step, telling_first}
-use Rattle.back_end.specs.Outside.{made, unchanged, taken_outward, command_outward}
+use Rattle.back_end.specs.Steps.{Step, telling_first, taking_command}
+use Rattle.back_end.specs.Outside.{taken_outward, command_outward}
 use Rattle.back_end.specs.Seats.{BothStandFor, StandsFor}
 use Rattle.back_end.specs.Guests.{heard_one, heard_all, GuestStands, Hears, CanHear}
 use Rattle.back_end.proofs.SheetSeats.{dom-on}
-use Rattle.back_end.proofs.HistoryLemmas.{undo-hands, redo-hands, undo-hands-none, redo-hands-none}
-use Rattle.back_end.proofs.UndoSeats.{saved_at, TakesAll, Turned, rest-taken, tree-can}
+use Rattle.back_end.proofs.HistoryLemmas.{taken-out}
+use Rattle.back_end.proofs.UndoSeats.{saved_at, TakesAll, Turned, rest-taken, tree-can, is-taking}
 use Rattle.back_end.proofs.GuestSeats.{hears-nothing, hears-stands, hears-then, hear-fewer, can-hear-on}
 use Rattle.back_end.proofs.GuestSteps.{outward-is}
 
@@ -155,23 +155,11 @@ heard-end all [] a b s0 s empty w other stands takes =
 
 -- ---- what an undo and a redo are to the page
 
-module _ (d : Desk) (h : Marks Inverse) (s : PageSide) (state : State) (both : BothStandFor d h s state) (on : d.is_on ≡ true) where
-  pub undo-outward : (es : List Inverse) → handed_out h.past ≡ Some es → command_outward Undo state ≡ made state.side.page es
-  undo-outward es out =
-      outward-is Undo state (dom-on Undo d s state both.stands on) refl
-      ∙ ap (λ o. taken_outward o state) (undo-hands h es state both.kept out).edits
-
-  pub redo-outward : (es : List Inverse) → handed_out h.future ≡ Some es → command_outward Redo state ≡ made state.side.page es
-  redo-outward es out =
-      outward-is Redo state (dom-on Redo d s state both.stands on) refl
-      ∙ ap (λ o. taken_outward o state) (redo-hands h es state both.kept out).edits
-
-  pub undo-none-outward : handed_out h.past ≡ None → command_outward Undo state ≡ unchanged state
-  undo-none-outward out =
-      outward-is Undo state (dom-on Undo d s state both.stands on) refl
-      ∙ ap (λ o. taken_outward o state) (undo-hands-none h state both.kept out).edits
-
-  pub redo-none-outward : handed_out h.future ≡ None → command_outward Redo state ≡ unchanged state
-  redo-none-outward out =
-      outward-is Redo state (dom-on Redo d s state both.stands on) refl
-      ∙ ap (λ o. taken_outward o state) (redo-hands-none h state both.kept out).edits
+pub taking-outward : (way : Direction) (d : Desk) (h : Marks Inverse) (s : PageSide) (state : State) (o : Option (List Inverse))
+    → BothStandFor d h s state → d.is_on ≡ true → handed_out (groups_of way h) ≡ o
+    → command_outward (taking_command way) state ≡ taken_outward o state
+taking-outward way d h s state o both on out =
+    outward-is (taking_command way) state (dom-on (taking_command way) d s state both.stands on)
+    (ap (λ b. b && not state.client.css_on) (is-taking way state).plain)
+    ∙ (is-taking way state).outward
+    ∙ ap (λ (x : Option (List Inverse)). taken_outward x state) (taken-out way h o state both.kept out)

@@ -1,5 +1,6 @@
 -- The history of a client's edits: for each change of the state, the edits that are kept for it then.
 use Rattle.std.proofs.Common.{◌≡◌, ◌≤◌, ℕ, Bool, true, false, cond, bytes_eq, List, [], ◌∷◌, map, reverse, Option, Some, None, refl, sym}
+use Rattle.std.specs.Prelude.{option_map}
 use Rattle.std.proofs.Common.{ap, ◌∙◌, subst}
 use Rattle.std.specs.Str.{IsUtf8}
 use Rattle.std.proofs.lemmas.List.{reverse-reverse}
@@ -12,10 +13,12 @@ use Rattle.page_tree.specs.declared.edits.TreeEdit.{TreeEdit}
 use Rattle.page_tree.specs.declared.edits.TreeEdit.TheVariants.{SetAttr, DropAttr, SetText, Attach, Detach}
 use Rattle.node_tree.specs.Labels.{PairsHaveUtf8}
 use Rattle.dom_agent.specs.Laws.{RowsHaveUtf8}
-use Rattle.undo_marks.specs.Marks.{Marks, no_marks, handed_out, noted_singly, edited, marked, crossed_over, undone, redone, past_popped}
-use Rattle.undo_marks.specs.Marks.{future_popped, past_pushed, future_pushed}
+use Rattle.undo_marks.specs.Marks.{Marks, no_marks, newest, handed_out, noted_singly, edited, marked, crossed_over, groups_of, group_moved}
+use Rattle.undo_marks.specs.Marks.{group_popped, group_pushed}
+use Rattle.undo_marks.specs.declared.histories.Direction.{Direction}
+use Rattle.undo_marks.specs.declared.histories.Direction.TheVariants as directions
 use Rattle.undo_marks.specs.Changes.{HistoryEntry as Entry, page_undone, page_redone, after_all, changes_on, back_all, AllTaken, backs_of}
-use Rattle.undo_marks.specs.Changes.{again_of, kept_of, KeptFor, AreBacks, IsUndo, IsRedo, KeepsOn}
+use Rattle.undo_marks.specs.Changes.{again_of, kept_of, KeptFor, AreBacks, KeepsOn}
 use Rattle.undo_marks.specs.Saved.{Saved}
 use Rattle.undo_marks.specs.SavedEdits.{page_after, way_back}
 use Rattle.undo_marks.specs.declared.inverse_lists.Inverse.{Inverse}
@@ -24,7 +27,7 @@ use Rattle.undo_marks.proofs.HistoryLemmas.{keeps_on, kept_grow}
 use Rattle.undo_marks.proofs.PageLemmas.{edits_are_backs, taken_later}
 use Rattle.back_end.specs.Texts.{EditHasTexts}
 use Rattle.back_end.specs.States.{State, saved_now, TakesWell, HasHistory, Keeps}
-use Rattle.back_end.specs.Steps.{Step, with_marks, keeping, with_crossed, undo_edits, redo_edits}
+use Rattle.back_end.specs.Steps.{Step, with_marks, keeping, with_crossed, taken_edits}
 use Rattle.back_end.proofs.TextLemmas.{node_at-texts, after-texts}
 
 -- ---- edits, and the edits that lead back
@@ -146,111 +149,90 @@ keeps-cleared state marks =
 
 -- ---- undo and redo
 
--- what is handed out of what is kept is what the state's undo carries out
-undo-out : (m : Marks (Entry Saved Inverse)) (past : List (List (Entry Saved Inverse))) (es : List Inverse)
-    → handed_out (map (backs_of way_back) past) ≡ Some es
-    → undo_edits (record m { past = past }) ≡ Some es
-undo-out m [] es out = absurd cc
-undo-out m (g ∷ gs) es out = out
+-- what is handed out of what is kept is what the state carries out
+past-out : (past : List (List (Entry Saved Inverse)))
+    → handed_out (map (backs_of way_back) past) ≡ option_map (λ g. reverse (backs_of way_back g)) (newest past)
+past-out [] = refl
+past-out (g ∷ gs) = refl
 
-undo-none : (m : Marks (Entry Saved Inverse)) (past : List (List (Entry Saved Inverse))) → handed_out (map (backs_of way_back) past) ≡ None
-    → undo_edits (record m { past = past }) ≡ None
-undo-none m [] out = refl
-undo-none m (g ∷ gs) out = absurd cc
+future-out : (future : List (List (Entry Saved Inverse)))
+    → handed_out (map (again_of way_back) future) ≡ option_map (λ g. map (λ e. e.edit) g) (newest future)
+future-out [] = refl
+future-out (g ∷ gs) = ap (λ (l : List Inverse). Some l) (reverse-reverse (map (λ (e : Entry Saved Inverse). e.edit) g))
 
-redo-out : (m : Marks (Entry Saved Inverse)) (future : List (List (Entry Saved Inverse))) (es : List Inverse)
-    → handed_out (map (again_of way_back) future) ≡ Some es
-    → redo_edits (record m { future = future }) ≡ Some es
-redo-out m [] es out = absurd cc
-redo-out m (g ∷ gs) es out =
-    let twice : reverse (reverse (map (λ (e : Entry Saved Inverse). e.edit) g))
-    ≡ map (λ (e : Entry Saved Inverse). e.edit) g = reverse-reverse (map (λ (e : Entry Saved Inverse). e.edit) g) in
-    let first : reverse (reverse (map (λ (e : Entry Saved Inverse). e.edit) g)) ≡ es = cc in
-    ap (λ (l : List Inverse). Some l) (sym twice ∙ first)
+kept-out : (way : Direction) (m : Marks (Entry Saved Inverse)) → handed_out (groups_of way (kept_of way_back m)) ≡ taken_edits way m
+kept-out directions.Undo m = past-out m.past
+kept-out directions.Redo m = future-out m.future
 
-redo-none : (m : Marks (Entry Saved Inverse)) (future : List (List (Entry Saved Inverse)))
-    → handed_out (map (again_of way_back) future) ≡ None → redo_edits (record m { future = future }) ≡ None
-redo-none m [] out = refl
-redo-none m (g ∷ gs) out = absurd cc
+pub taken-out : (way : Direction) (h : Marks Inverse) (o : Option (List Inverse)) (state : State) → Keeps h state
+    → handed_out (groups_of way h) ≡ o → taken_edits way state.client.marks ≡ o
+taken-out way h o state k out =
+    sym (kept-out way state.client.marks) ∙ ap (λ (x : Marks Inverse). handed_out (groups_of way x)) (sym k.edits) ∙ out
 
--- Edits that are handed out are those of the state's undo, and the page takes each; where they led, the history is kept on.
-pub record Undoes (h : Marks Inverse) (es : List Inverse) (state : State) : Type 0 where
-  pub edits : undo_edits state.client.marks ≡ Some es
+-- the saved page that an undo or a redo leads to
+abbrev pub page_led : Direction → Marks (Entry Saved Inverse) → Saved → Saved
+page_led directions.Undo m page = page_undone m.past page
+page_led directions.Redo m page = page_redone m.future page
+
+-- Edits that are handed out are those that the state carries out, and the page takes each; where they led, the history is kept on.
+pub record Hands (way : Direction) (h : Marks Inverse) (es : List Inverse) (state : State) : Type 0 where
+  pub edits : taken_edits way state.client.marks ≡ Some es
   pub taken : AllTaken page_after (TakesWell state.side.page.next) es (saved_now state)
-  pub ends : after_all page_after es (saved_now state) ≡ page_undone state.client.marks.past (saved_now state)
+  pub ends : after_all page_after es (saved_now state) ≡ page_led way state.client.marks (saved_now state)
   pub kept : (after : State) → saved_now after ≡ after_all page_after es (saved_now state) → state.side.page.next ≤ after.side.page.next
-      → Keeps (future_pushed (back_all page_after way_back es (saved_now state)) (past_popped h))
-      (with_marks (undone state.client.marks) after)
+      → Keeps (group_pushed way (back_all page_after way_back es (saved_now state)) (group_popped way h))
+      (with_marks (group_moved way state.client.marks) after)
 
-pub record Redoes (h : Marks Inverse) (es : List Inverse) (state : State) : Type 0 where
-  pub edits : redo_edits state.client.marks ≡ Some es
-  pub taken : AllTaken page_after (TakesWell state.side.page.next) es (saved_now state)
-  pub ends : after_all page_after es (saved_now state) ≡ page_redone state.client.marks.future (saved_now state)
-  pub kept : (after : State) → saved_now after ≡ after_all page_after es (saved_now state) → state.side.page.next ≤ after.side.page.next
-      → Keeps (past_pushed (back_all page_after way_back es (saved_now state)) (future_popped h))
-      (with_marks (redone state.client.marks) after)
+-- what is kept for a page is kept for a state with that page
+kept-there : (next : ℕ) (h : Marks Inverse) (m : Marks (Entry Saved Inverse)) (page : Saved) (after : State) → KeepsFor next h m page
+    → saved_now after ≡ page → next ≤ after.side.page.next → Keeps h (with_marks m after)
+kept-there next h m page after k saved low =
+    subst (λ (p : Saved). KeepsFor after.side.page.next h m p) (sym saved) (keeps-later next after.side.page.next h m page low k)
 
-pub undo-hands : (h : Marks Inverse) (es : List Inverse) (state : State) → Keeps h state → handed_out h.past ≡ Some es → Undoes h es state
-undo-hands h es state k out =
-    let next = state.side.page.next in
-    let m = state.client.marks in
-    let page = saved_now state in
-    let u : IsUndo page_after way_back (TakesWell next) es h m page = ((keeps-on next).after_changes h m page k).after_undo es out in
-    let kept_on = future_pushed (back_all page_after way_back es page) (past_popped h) in
+pub hands-group : (way : Direction) (h : Marks Inverse) (es : List Inverse) (state : State) → Keeps h state
+    → handed_out (groups_of way h) ≡ Some es → Hands way h es state
+hands-group directions.Undo h es state k out =
+    let u = ((keeps-on state.side.page.next).after_changes h state.client.marks (saved_now state) k).after_undo es out in
     record {
-      edits = undo-out m m.past es (ap (λ (x : Marks Inverse). handed_out x.past) (sym k.edits) ∙ out);
+      edits = taken-out directions.Undo h (Some es) state k out;
       taken = u.taken;
       ends = u.ends;
-      kept = λ after saved low.
-          let grown : KeepsFor after.side.page.next kept_on (undone m)
-          (page_undone m.past page) = keeps-later next after.side.page.next kept_on (undone m)
-          (page_undone m.past page) low u.kept_on in
-          subst (λ (p : Saved). KeepsFor after.side.page.next kept_on (undone m) p) (sym (saved ∙ u.ends)) grown;
+      kept = λ after saved low. kept-there state.side.page.next _ _ _ after u.kept_on (saved ∙ u.ends) low;
     }
-
-pub redo-hands : (h : Marks Inverse) (es : List Inverse) (state : State) → Keeps h state → handed_out h.future ≡ Some es → Redoes h es state
-redo-hands h es state k out =
-    let next = state.side.page.next in
-    let m = state.client.marks in
-    let page = saved_now state in
-    let u : IsRedo page_after way_back (TakesWell next) es h m page = ((keeps-on next).after_changes h m page k).after_redo es out in
-    let kept_on = past_pushed (back_all page_after way_back es page) (future_popped h) in
+hands-group directions.Redo h es state k out =
+    let u = ((keeps-on state.side.page.next).after_changes h state.client.marks (saved_now state) k).after_redo es out in
     record {
-      edits = redo-out m m.future es (ap (λ (x : Marks Inverse). handed_out x.future) (sym k.edits) ∙ out);
+      edits = taken-out directions.Redo h (Some es) state k out;
       taken = u.taken;
       ends = u.ends;
-      kept = λ after saved low.
-          let grown : KeepsFor after.side.page.next kept_on (redone m)
-          (page_redone m.future page) = keeps-later next after.side.page.next kept_on (redone m)
-          (page_redone m.future page) low u.kept_on in
-          subst (λ (p : Saved). KeepsFor after.side.page.next kept_on (redone m) p) (sym (saved ∙ u.ends)) grown;
+      kept = λ after saved low. kept-there state.side.page.next _ _ _ after u.kept_on (saved ∙ u.ends) low;
     }
 
--- Nothing is handed out: there is nothing that the state's undo carries out, and nothing changes.
-pub record UndoesNothing (h : Marks Inverse) (state : State) : Type 0 where
-  pub edits : undo_edits state.client.marks ≡ None
-  pub kept : Keeps (past_popped h) state
+-- Nothing is handed out: there is nothing that the state carries out, and nothing changes.
+pub record HandsNone (way : Direction) (h : Marks Inverse) (state : State) : Type 0 where
+  pub edits : taken_edits way state.client.marks ≡ None
+  pub kept : Keeps (group_popped way h) state
   pub crossed : h.crossed ≡ state.client.marks.crossed
+  pub stays : group_moved way state.client.marks ≡ state.client.marks
+  pub ends : page_led way state.client.marks (saved_now state) ≡ saved_now state
 
-pub record RedoesNothing (h : Marks Inverse) (state : State) : Type 0 where
-  pub edits : redo_edits state.client.marks ≡ None
-  pub kept : Keeps (future_popped h) state
-  pub crossed : h.crossed ≡ state.client.marks.crossed
-
-pub undo-hands-none : (h : Marks Inverse) (state : State) → Keeps h state → handed_out h.past ≡ None → UndoesNothing h state
-undo-hands-none h state k out =
+pub hands-none : (way : Direction) (h : Marks Inverse) (state : State) → Keeps h state → handed_out (groups_of way h) ≡ None
+    → HandsNone way h state
+hands-none directions.Undo h state k out =
     let s = (keeps-on state.side.page.next).after_changes h state.client.marks (saved_now state) k in
     record {
-      edits = undo-none state.client.marks state.client.marks.past (ap (λ (x : Marks Inverse). handed_out x.past) (sym k.edits) ∙ out);
+      edits = taken-out directions.Undo h None state k out;
       kept = subst (λ (x : Marks Inverse). Keeps x state) (sym (s.at_no_past out).kept_stays) k;
       crossed = s.flags.1;
+      stays = (s.at_no_past out).stays;
+      ends = ap (λ (past : List (List (Entry Saved Inverse))). page_undone past (saved_now state)) (s.at_no_past out).none_saved;
     }
-
-pub redo-hands-none : (h : Marks Inverse) (state : State) → Keeps h state → handed_out h.future ≡ None → RedoesNothing h state
-redo-hands-none h state k out =
+hands-none directions.Redo h state k out =
     let s = (keeps-on state.side.page.next).after_changes h state.client.marks (saved_now state) k in
     record {
-      edits = redo-none state.client.marks state.client.marks.future (ap (λ (x : Marks Inverse). handed_out x.future) (sym k.edits) ∙ out);
+      edits = taken-out directions.Redo h None state k out;
       kept = subst (λ (x : Marks Inverse). Keeps x state) (sym (s.at_no_future out).kept_stays) k;
       crossed = s.flags.1;
+      stays = (s.at_no_future out).stays;
+      ends = ap (λ (future : List (List (Entry Saved Inverse))). page_redone future (saved_now state)) (s.at_no_future out).none_saved;
     }

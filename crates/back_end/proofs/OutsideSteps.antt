@@ -22,7 +22,9 @@ use Rattle.style_edits.specs.declared.splice.Splice.{Splice}
 use Rattle.dom_breakpoints.specs.declared.pauses.Pause.{Pause}
 use Rattle.dom_breakpoints.specs.Pauses.{pause_of}
 use Rattle.dom_breakpoints.specs.Watched.{Watched}
-use Rattle.undo_marks.specs.Marks.{Marks, undone, redone}
+use Rattle.undo_marks.specs.Marks.{Marks, group_moved}
+use Rattle.undo_marks.specs.declared.histories.Direction.{Direction}
+use Rattle.undo_marks.specs.declared.histories.Direction.TheVariants as directions
 use Rattle.undo_marks.specs.Changes.{HistoryEntry as Entry, AllTaken}
 use Rattle.undo_marks.specs.Saved.{Saved}
 use Rattle.undo_marks.specs.SavedEdits.{page_after, saved_of}
@@ -35,8 +37,8 @@ use Rattle.back_end.specs.States.{Side, Client, State, book_in, view_of, saved_n
 use Rattle.back_end.specs.Plans.{Plan, node_edit_fault, node_edit_plan, node_put, Deed, edits, restyles, shows_on, act_fault, act_plan}
 use Rattle.back_end.specs.OwnMethods.{load_asked, act_asked}
 use Rattle.back_end.specs.Steps.{Step, idle, with_page, pause_step, push_step, push_steps, script_step, script_steps}
-use Rattle.back_end.specs.Steps.{edit_step, edit_steps, splice_step, splice_steps, kept_step, kept_steps, undo_edits}
-use Rattle.back_end.specs.Steps.{redo_edits, taken_step, edit_named, lowered, serial_now, put_answer, unless_fault, node_edit_step}
+use Rattle.back_end.specs.Steps.{edit_step, edit_steps, splice_step, splice_steps, kept_step, kept_steps, taken_edits}
+use Rattle.back_end.specs.Steps.{taken_step, edit_named, lowered, serial_now, put_answer, unless_fault, node_edit_step}
 use Rattle.back_end.specs.Steps.{restyled_step, watch_step, own_step, planned_step, sheet_steps, sheet_step}
 use Rattle.back_end.specs.Steps.{Turn, acts, loads, turn_step, needs_on, needs_css, served_step, command_step, asked_step}
 use Rattle.back_end.specs.Steps.{refusing, answering, with_searches, results_asked, results_step, discard_step, search_step}
@@ -59,15 +61,15 @@ use Rattle.back_end.specs.Outside.{served_outward, command_outward, asked_outwar
 use Rattle.back_end.specs.Outside.{outside_step, IsOutside, OutsideStepsWell, TurnsLeadAlike}
 use Rattle.back_end.proofs.OwnTexts.{AskedTexts, frame-texts}
 use Rattle.back_end.proofs.OwnLemmas.{load-turn, act-turn}
-use Rattle.back_end.proofs.GroupCounts.{trees_in, FewEdits, undo-few, redo-few}
+use Rattle.back_end.proofs.GroupCounts.{trees_in, FewEdits, few-taken}
 use Rattle.back_end.proofs.WellSteps.{Well, HasNumbers, stays, then-well, more}
 use Rattle.back_end.proofs.KeptSteps.{recalls-same, recalls-crossed}
 use Rattle.back_end.proofs.SpliceSteps.{splice-well, splice-events, splices-taken, edit-done}
-use Rattle.back_end.proofs.UndoSteps.{takes-splice, AllTakenIn, TakenIn, taken-rest, undo-either, redo-either}
+use Rattle.back_end.proofs.UndoSteps.{takes-splice, AllTakenIn, TakenIn, taken-rest, taken-either, none-taken}
 use Rattle.back_end.proofs.TreeSteps.{AsksFor, lowered-texts, lowered-asks, named-is, node-edit-planned, trees-taken}
 use Rattle.back_end.proofs.TurnAnswers.{AreEvents, events-append, events-answer, script-events, turn-events}
 use Rattle.back_end.proofs.StepLemmas.{Planned, script-well, with-page-is, same-view, crossed-is, turn-steps-well}
-use Rattle.cdp_messages.specs.declared.command.Why.TheVariants.{DomOff, CssOff, Crossed}
+use Rattle.cdp_messages.specs.declared.command.Why.TheVariants.{DomOff, CssOff}
 use Rattle.back_end.proofs.FrameLemmas.{asks-for}
 
 -- ---- where the page's side is led
@@ -393,26 +395,17 @@ taken-done id es marks state is room taken few = record {
 
 nothing-done : (id : ℕ) (marks : Marks (Entry Saved Inverse)) (state : State) → IsState state
     → IsDone state (taken_outward None state) (taken_step id None marks state).state.side
-nothing-done id marks state is = done-none state (taken_step id None marks state).state.side is (at state.client.marks.crossed) where
-  at : (b : Bool) → (cond b (refusing (Some id) Crossed state) (answering id (idle state))).state.side ≡ state.side
-  at true = refl
-  at false = refl
+nothing-done id marks state is =
+    done-none state (taken_step id None marks state).state.side is (ap (λ (after : State). after.side) (none-taken id marks state))
 
-undo-done : (id : ℕ) (state : State) → IsState state → HasRoom state
-    → IsDone state (taken_outward (undo_edits state.client.marks) state)
-    (taken_step id (undo_edits state.client.marks) (undone state.client.marks) state).state.side
-undo-done id state is room =
-    undo-either (λ o. IsDone state (taken_outward o state) (taken_step id o (undone state.client.marks) state).state.side) state is.history
-    (λ e. nothing-done id (undone state.client.marks) state is)
-    (λ es u. taken-done id es (undone state.client.marks) state is room u.taken (undo-few state.client.marks es u.edits))
-
-redo-done : (id : ℕ) (state : State) → IsState state → HasRoom state
-    → IsDone state (taken_outward (redo_edits state.client.marks) state)
-    (taken_step id (redo_edits state.client.marks) (redone state.client.marks) state).state.side
-redo-done id state is room =
-    redo-either (λ o. IsDone state (taken_outward o state) (taken_step id o (redone state.client.marks) state).state.side) state is.history
-    (λ e. nothing-done id (redone state.client.marks) state is)
-    (λ es u. taken-done id es (redone state.client.marks) state is room u.taken (redo-few state.client.marks es u.edits))
+group-done : (way : Direction) (id : ℕ) (state : State) → IsState state → HasRoom state
+    → IsDone state (taken_outward (taken_edits way state.client.marks) state)
+    (taken_step id (taken_edits way state.client.marks) (group_moved way state.client.marks) state).state.side
+group-done way id state is room =
+    let marks = group_moved way state.client.marks in
+    taken-either way (λ o. IsDone state (taken_outward o state) (taken_step id o marks state).state.side) state is.history
+    (λ u. nothing-done id marks state is)
+    (λ es u. taken-done id es marks state is room u.taken (few-taken way state.client.marks es u.edits))
 
 -- a search
 searched-side : (id : ℕ) (ask : SearchAsk) (state : State) → (search_step id ask state).state.side ≡ state.side
@@ -456,8 +449,8 @@ served-done id (AskDom ask) state texts is room = done-none state state.side is 
 served-done id (EditDom edit) state texts is room = tree-done (method_name (EditDom edit)) id edit state texts (asks-for edit) is
 served-done id (AskSearch ask) state texts is room = done-none state _ is (searched-side id ask state)
 served-done id MarkUndoableState state texts is room = done-none state state.side is refl
-served-done id Undo state texts is room = undo-done id state is room
-served-done id Redo state texts is room = redo-done id state is room
+served-done id Undo state texts is room = group-done directions.Undo id state is room
+served-done id Redo state texts is room = group-done directions.Redo id state is room
 served-done id CssEnable state texts is room = done-none state state.side is refl
 served-done id CssDisable state texts is room = done-none state state.side is refl
 served-done id (AskCss ask) state texts is room = done-none state state.side is refl

@@ -20,9 +20,10 @@ use Rattle.cdp_messages.specs.Replies.{reply_text, message_frames}
 use Rattle.client_views.specs.Moves.{Move, rewritten, frames_of_moves, move_text}
 use Rattle.css_agent.specs.Told.{event_messages}
 use Rattle.css_agent.specs.Edits.{text_under}
-use Rattle.undo_marks.specs.Marks.{Marks, entry_count, handed_out, marked, past_popped, future_popped, past_pushed, future_pushed, undone}
-use Rattle.undo_marks.specs.Marks.{redone}
-use Rattle.undo_marks.specs.Changes.{HistoryEntry as Entry, after_all, back_all, AllTaken}
+use Rattle.undo_marks.specs.Marks.{Marks, entry_count, handed_out, marked, groups_of, group_moved, group_popped, group_pushed}
+use Rattle.undo_marks.specs.declared.histories.Direction.{Direction}
+use Rattle.undo_marks.specs.declared.histories.Direction.TheVariants as directions
+use Rattle.undo_marks.specs.Changes.{after_all, back_all, AllTaken}
 use Rattle.undo_marks.specs.Saved.{Saved}
 use Rattle.undo_marks.specs.SavedEdits.{saved_sheet, saved_of, page_after, way_back, TakesSheet}
 use Rattle.undo_marks.specs.declared.inverse_lists.Inverse.{Inverse}
@@ -32,15 +33,15 @@ use Rattle.back_end.specs.declared.desk.Desk.{Desk}
 use Rattle.back_end.specs.declared.side.PageSide.{PageSide}
 use Rattle.back_end.specs.Sheets.{NumberedBook}
 use Rattle.back_end.specs.States.{State, book_in, TakesWell, saved_now, Keeps}
-use Rattle.cdp_messages.specs.declared.command.Command.{Command}
-use Rattle.cdp_messages.specs.declared.command.Command.TheVariants.{MarkUndoableState, Undo, Redo}
-use Rattle.back_end.specs.Steps.{Step, telling_first, idle, refusing, answering, with_marks, kept_step, kept_steps, splice_step, undo_edits}
-use Rattle.back_end.specs.Steps.{redo_edits, taken_step, needs_on, needs_css, served_step, command_step}
-use Rattle.back_end.specs.Seats.{DeskStandsFor, BothStandFor}
-use Rattle.back_end.proofs.HistoryLemmas.{keeps-marked, undo-hands, redo-hands, undo-hands-none, redo-hands-none}
+use Rattle.cdp_messages.specs.declared.command.Command.TheVariants.{MarkUndoableState}
+use Rattle.back_end.specs.Steps.{Step, telling_first, idle, refusing, answering, with_marks, kept_step, kept_steps, splice_step}
+use Rattle.back_end.specs.Steps.{taken_edits, taken_step, taking_command, needs_css, served_step, command_step}
+use Rattle.back_end.specs.Outside.{taken_outward, served_outward}
+use Rattle.back_end.specs.Seats.{DeskStandsFor, BothStandFor, edits_in}
+use Rattle.back_end.proofs.HistoryLemmas.{keeps-marked, taken-out, hands-group, hands-none}
 use Rattle.back_end.proofs.SpliceSteps.{restyled}
 use Rattle.back_end.proofs.OneProof.{can-apply, fits-splice}
-use Rattle.back_end.proofs.UndoSteps.{takes-splice}
+use Rattle.back_end.proofs.UndoSteps.{takes-splice, none-taken}
 use Rattle.back_end.proofs.SeatLemmas.{marks-stands, on-is}
 use Rattle.back_end.proofs.SheetSeats.{dom-on, told-frames}
 use Rattle.back_end.proofs.OwnSeats.{answered-sent}
@@ -289,12 +290,16 @@ put-sent d s state x old new stands sent =
 -- ---- undo and redo
 
 -- what is handed out is a part of what is kept
-pub handed-few : (gs : List (List Inverse)) (es : List Inverse) → handed_out gs ≡ Some es → length es ≤ entry_count gs
-handed-few [] es out = let no : ◌≡◌ {A = Option (List Inverse)} None (Some es) = out in absurd cc
-handed-few (g ∷ gs) es out =
+some-few : (gs : List (List Inverse)) (es : List Inverse) → handed_out gs ≡ Some es → length es ≤ entry_count gs
+some-few [] es out = let no : ◌≡◌ {A = Option (List Inverse)} None (Some es) = out in absurd cc
+some-few (g ∷ gs) es out =
     let same : reverse g ≡ es = cc in
     let count : length es ≡ length g = ap (λ (l : List Inverse). length l) (sym same) ∙ length-reverse g in
     omega (arith, count)
+
+pub handed-few : (way : Direction) (h : Marks Inverse) (es : List Inverse) → handed_out (groups_of way h) ≡ Some es → length es ≤ edits_in h
+handed-few directions.Undo h es out = omega (arith, some-few h.past es out)
+handed-few directions.Redo h es out = omega (arith, some-few h.future es out)
 
 -- the page at the desk is the state's
 here-saved : (d : Desk) (s : PageSide) (state : State) → DeskStandsFor d s state → saved_at s ≡ saved_now state
@@ -310,221 +315,98 @@ taken-here d s state es stands taken =
     subst (λ (n : ℕ). AllTaken page_after (TakesWell n) es (saved_at s)) next
     (subst (λ (p : Saved). AllTaken page_after (TakesWell state.side.page.next) es p) (sym (here-saved d s state stands)) taken)
 
-pub undo-taken : (d : Desk) (h : Marks Inverse) (s : PageSide) (es : List Inverse) → handed_out h.past ≡ Some es
-    → ∥ ((state : State) × BothStandFor d h s state) ∥₁ → ∥ TakesAll s es ∥₁
-undo-taken d h s es out standing =
-    ∥∥₁_map standing (λ (x : ((state : State) × BothStandFor d h s state)). taken-here d s x.0 es x.1.stands
-    (undo-hands h es x.0 x.1.kept out).taken)
-
-pub redo-taken : (d : Desk) (h : Marks Inverse) (s : PageSide) (es : List Inverse) → handed_out h.future ≡ Some es
-    → ∥ ((state : State) × BothStandFor d h s state) ∥₁ → ∥ TakesAll s es ∥₁
-redo-taken d h s es out standing =
-    ∥∥₁_map standing (λ (x : ((state : State) × BothStandFor d h s state)). taken-here d s x.0 es x.1.stands
-    (redo-hands h es x.0 x.1.kept out).taken)
-
--- the same for a state that is known
-pub undo-takes : (d : Desk) (h : Marks Inverse) (s : PageSide) (state : State) (es : List Inverse) → handed_out h.past ≡ Some es
-    → BothStandFor d h s state → TakesAll s es
-undo-takes d h s state es out both = taken-here d s state es both.stands (undo-hands h es state both.kept out).taken
-
-pub redo-takes : (d : Desk) (h : Marks Inverse) (s : PageSide) (state : State) (es : List Inverse) → handed_out h.future ≡ Some es
-    → BothStandFor d h s state → TakesAll s es
-redo-takes d h s state es out both = taken-here d s state es both.stands (redo-hands h es state both.kept out).taken
-
 -- a command of these that is carried out
-record IsTaking (command : Command) (out : Option (List Inverse)) (marks : Marks (Entry Saved Inverse)) (state : State) : Type 0 where
-  needs : needs_on command ≡ true
-  plain : needs_css command ≡ false
-  step : (id : ℕ) → served_step id command state ≡ taken_step id out marks state
+pub record IsTaking (way : Direction) (state : State) : Type 0 where
+  pub plain : needs_css (taking_command way) ≡ false
+  pub step : (id : ℕ) → served_step id (taking_command way) state
+      ≡ taken_step id (taken_edits way state.client.marks) (group_moved way state.client.marks) state
+  pub outward : served_outward (taking_command way) state ≡ taken_outward (taken_edits way state.client.marks) state
 
-undo-is : (o : Option (List Inverse)) (state : State) → undo_edits state.client.marks ≡ o
-    → IsTaking Undo o (undone state.client.marks) state
-undo-is o state is = record { needs = refl; plain = refl; step = λ id. ap (λ x. taken_step id x (undone state.client.marks) state) is }
+pub is-taking : (way : Direction) (state : State) → IsTaking way state
+is-taking directions.Undo state = record { plain = refl; step = λ id. refl; outward = refl }
+is-taking directions.Redo state = record { plain = refl; step = λ id. refl; outward = refl }
 
-redo-is : (o : Option (List Inverse)) (state : State) → redo_edits state.client.marks ≡ o
-    → IsTaking Redo o (redone state.client.marks) state
-redo-is o state is = record { needs = refl; plain = refl; step = λ id. ap (λ x. taken_step id x (redone state.client.marks) state) is }
+module _ (way : Direction) (d : Desk) (h : Marks Inverse) (s : PageSide) where
+  -- the page takes the edits that are handed out
+  pub group-takes : (state : State) (es : List Inverse) → handed_out (groups_of way h) ≡ Some es → BothStandFor d h s state → TakesAll s es
+  group-takes state es out both = taken-here d s state es both.stands (hands-group way h es state both.kept out).taken
 
-module _ (d : Desk) (s : PageSide) (state : State) (id : ℕ) (command : Command) (out : Option (List Inverse))
-    (marks : Marks (Entry Saved Inverse)) (before : DeskStandsFor d s state) (on : d.is_on ≡ true)
-    (is : IsTaking command out marks state) where
-  taking : command_step id command state ≡ taken_step id out marks state
-  taking = on-is id command state (dom-on command d s state before on) (ap (λ b. b && not state.client.css_on) is.plain) ∙ is.step id
+  pub group-taken : (es : List Inverse) → handed_out (groups_of way h) ≡ Some es → ∥ ((state : State) × BothStandFor d h s state) ∥₁
+      → ∥ TakesAll s es ∥₁
+  group-taken es out standing =
+      ∥∥₁_map standing (λ (x : ((state : State) × BothStandFor d h s state)). group-takes x.0 es out x.1)
 
-  -- there is nothing
-  nothing : out ≡ None → state.client.marks.crossed ≡ false → command_step id command state ≡ answering id (idle state)
-  nothing none free =
-      taking ∙ ap (λ (o : Option (List Inverse)). taken_step id o marks state) none
-      ∙ ap (λ b. cond b (refusing (Some id) Crossed state) (answering id (idle state))) free
+  module _ (state : State) (id : ℕ) (both : BothStandFor d h s state) (on : d.is_on ≡ true) where
+    -- what the command does, by what is handed out
+    taking : (o : Option (List Inverse)) → handed_out (groups_of way h) ≡ o
+        → command_step id (taking_command way) state ≡ taken_step id o (group_moved way state.client.marks) state
+    taking o out =
+        on-is id (taking_command way) state (dom-on (taking_command way) d s state both.stands on)
+        (ap (λ b. b && not state.client.css_on) (is-taking way state).plain)
+        ∙ (is-taking way state).step id
+        ∙ ap (λ (x : Option (List Inverse)). taken_step id x (group_moved way state.client.marks) state)
+        (taken-out way h o state both.kept out)
 
-  -- since the history was emptied
-  emptied : out ≡ None → state.client.marks.crossed ≡ true → command_step id command state ≡ refusing (Some id) Crossed state
-  emptied none crossed =
-      taking ∙ ap (λ (o : Option (List Inverse)). taken_step id o marks state) none
-      ∙ ap (λ b. cond b (refusing (Some id) Crossed state) (answering id (idle state))) crossed
+    -- with nothing handed out the state stays; what is told is the answer, or that the history was emptied
+    pub none-both : (h1 : Marks Inverse) → handed_out (groups_of way h) ≡ None → h1 ≡ group_popped way h
+        → BothStandFor d h1 s (command_step id (taking_command way) state).state
+    none-both h1 out is =
+        subst (λ (after : State). BothStandFor d h1 s after)
+        (sym (ap (λ (done : Step). done.state) (taking None out) ∙ none-taken id (group_moved way state.client.marks) state))
+        (record {
+          stands = both.stands;
+          kept = subst (λ (x : Marks Inverse). Keeps x state) (sym is) (hands-none way h state both.kept out).kept;
+        })
 
-  -- the edits are carried out
-  carried : (es : List Inverse) → out ≡ Some es
-      → command_step id command state
-      ≡ answering id (record { state = with_marks marks (kept_steps es state).state; moves = (kept_steps es state).moves })
-  carried es some = taking ∙ ap (λ (o : Option (List Inverse)). taken_step id o marks state) some
+    none-is : (crossed : Bool) → handed_out (groups_of way h) ≡ None → h.crossed ≡ crossed
+        → command_step id (taking_command way) state ≡ cond crossed (refusing (Some id) Crossed state) (answering id (idle state))
+    none-is crossed out is =
+        taking None out
+        ∙ ap (λ b. cond b (refusing (Some id) Crossed state) (answering id (idle state)))
+        (sym (hands-none way h state both.kept out).crossed ∙ is)
 
-  nothing-both : (h : Marks Inverse) → out ≡ None → state.client.marks.crossed ≡ false → Keeps h state
-      → BothStandFor d h s (command_step id command state).state
-  nothing-both h none free k = subst (λ (done : Step). BothStandFor d h s done.state) (sym (nothing none free))
-      (record { stands = before; kept = k })
+    pub nothing-sent : (old new : List ℕ) → handed_out (groups_of way h) ≡ None → h.crossed ≡ false
+        → new ≡ old ++ framed (reply_text id Nothing)
+        → new ≡ old ++ frames_of_moves (command_step id (taking_command way) state).moves
+    nothing-sent old new out free sent =
+        sent ∙ ap (λ bs. old ++ bs) (sym (append-nil (framed (reply_text id Nothing)))) ∙ ap
+        (λ (done : Step). old ++ frames_of_moves done.moves) (sym (none-is false out free))
 
-  nothing-sent : (old new : List ℕ) → out ≡ None → state.client.marks.crossed ≡ false → new ≡ old ++ framed (reply_text id Nothing)
-      → new ≡ old ++ frames_of_moves (command_step id command state).moves
-  nothing-sent old new none free sent =
-      sent ∙ ap (λ bs. old ++ bs) (sym (append-nil (framed (reply_text id Nothing)))) ∙ ap
-      (λ (done : Step). old ++ frames_of_moves done.moves) (sym (nothing none free))
+    pub crossed-sent : (old new : List ℕ) → handed_out (groups_of way h) ≡ None → h.crossed ≡ true
+        → new ≡ old ++ frames_of_moves (refusing (Some id) Crossed state).moves
+        → new ≡ old ++ frames_of_moves (command_step id (taking_command way) state).moves
+    crossed-sent old new out crossed sent =
+        sent ∙ ap (λ (done : Step). old ++ frames_of_moves done.moves) (sym (none-is true out crossed))
 
-  emptied-both : (h : Marks Inverse) → out ≡ None → state.client.marks.crossed ≡ true → Keeps h state
-      → BothStandFor d h s (command_step id command state).state
-  emptied-both h none crossed k = subst (λ (done : Step). BothStandFor d h s done.state) (sym (emptied none crossed))
-      (record { stands = before; kept = k })
+    pub group-sent : (es : List Inverse) (old middle new : List ℕ) → handed_out (groups_of way h) ≡ Some es
+        → middle ≡ old ++ frames_of_moves (kept_steps es state).moves → new ≡ middle ++ framed (reply_text id Nothing)
+        → new ≡ old ++ frames_of_moves (command_step id (taking_command way) state).moves
+    group-sent es old middle new out first last =
+        answered-sent id (kept_steps es state).moves old middle new first last ∙ ap (λ (done : Step). old ++ frames_of_moves done.moves)
+        (sym (taking (Some es) out))
 
-  emptied-sent : (old new : List ℕ) → out ≡ None → state.client.marks.crossed ≡ true
-      → new ≡ old ++ frames_of_moves (refusing (Some id) Crossed state).moves
-      → new ≡ old ++ frames_of_moves (command_step id command state).moves
-  emptied-sent old new none crossed sent = sent ∙ ap (λ (done : Step). old ++ frames_of_moves done.moves) (sym (emptied none crossed))
-
-  carried-both : (d1 : Desk) (s1 : PageSide) (h1 : Marks Inverse) (es : List Inverse) → out ≡ Some es
-      → DeskStandsFor d1 s1 (kept_steps es state).state
-      → Keeps h1 (with_marks marks (kept_steps es state).state) → BothStandFor d1 h1 s1 (command_step id command state).state
-  carried-both d1 s1 h1 es some stands k =
-      subst (λ (done : Step). BothStandFor d1 h1 s1 done.state) (sym (carried es some))
-      (record { stands = marks-stands marks d1 s1 (kept_steps es state).state stands; kept = k })
-
-  carried-sent : (es : List Inverse) (old middle new : List ℕ) → out ≡ Some es → middle ≡ old ++ frames_of_moves (kept_steps es state).moves
-      → new ≡ middle ++ framed (reply_text id Nothing) → new ≡ old ++ frames_of_moves (command_step id command state).moves
-  carried-sent es old middle new some first last =
-      answered-sent id (kept_steps es state).moves old middle new first last ∙ ap (λ (done : Step). old ++ frames_of_moves done.moves)
-      (sym (carried es some))
-
--- what the edits came to, for a state that the desk stood for
-module _ (d d1 : Desk) (s s1 : PageSide) (state : State) (es : List Inverse) (before : DeskStandsFor d s state)
-    (stands : DeskStandsFor d1 s1 (kept_steps es state).state) (saved : saved_at s1 ≡ after_all page_after es (saved_at s))
-    (next : s1.page.next ≡ s.page.next) where
-  led-saved : saved_now (kept_steps es state).state ≡ after_all page_after es (saved_now state)
-  led-saved = sym (here-saved d1 s1 (kept_steps es state).state stands) ∙ saved ∙ ap (λ (p : Saved). after_all page_after es p)
-      (here-saved d s state before)
-
-  led-next : state.side.page.next ≤ (kept_steps es state).state.side.page.next
-  led-next =
-      let now : s1.page.next ≡ (kept_steps es state).state.side.page.next = ap (λ (p : PageValue). p.next) stands.page_is in
-      let then : s.page.next ≡ state.side.page.next = ap (λ (p : PageValue). p.next) before.page_is in
-      omega (arith, now, then, next)
-
-backs-here : (d : Desk) (s : PageSide) (state : State) (es backs : List Inverse) → DeskStandsFor d s state
-    → backs ≡ back_all page_after way_back es (saved_at s)
-    → backs ≡ back_all page_after way_back es (saved_now state)
-backs-here d s state es backs before is = is ∙ ap (λ (p : Saved). back_all page_after way_back es p) (here-saved d s state before)
-
-pub undone-both : (d d1 : Desk) (h h1 : Marks Inverse) (s s1 : PageSide) (state : State) (id : ℕ) (es backs : List Inverse)
-    → BothStandFor d h s state → d.is_on ≡ true → handed_out h.past ≡ Some es
-    → DeskStandsFor d1 s1 (kept_steps es state).state → saved_at s1 ≡ after_all page_after es (saved_at s) → s1.page.next ≡ s.page.next
-    → backs ≡ back_all page_after way_back es (saved_at s) → h1 ≡ future_pushed backs (past_popped h)
-    → BothStandFor d1 h1 s1 (command_step id Undo state).state
-undone-both d d1 h h1 s s1 state id es backs both on out stands saved next backs_is h_is =
-    let u = undo-hands h es state both.kept out in
-    let after = (kept_steps es state).state in
-    let same : h1 ≡ future_pushed (back_all page_after way_back es (saved_now state)) (past_popped h) =
-    h_is ∙ ap (λ (l : List Inverse). future_pushed l (past_popped h)) (backs-here d s state es backs both.stands backs_is) in
-    carried-both d s state id Undo (Some es) (undone state.client.marks) both.stands on
-    (undo-is (Some es) state u.edits) d1 s1 h1 es refl stands
-    (subst (λ (x : Marks Inverse). Keeps x (with_marks (undone state.client.marks) after)) (sym same)
-    (u.kept after (led-saved d d1 s s1 state es both.stands stands saved next) (led-next d d1 s s1 state es both.stands stands saved next)))
-
-pub redone-both : (d d1 : Desk) (h h1 : Marks Inverse) (s s1 : PageSide) (state : State) (id : ℕ) (es backs : List Inverse)
-    → BothStandFor d h s state → d.is_on ≡ true → handed_out h.future ≡ Some es
-    → DeskStandsFor d1 s1 (kept_steps es state).state → saved_at s1 ≡ after_all page_after es (saved_at s) → s1.page.next ≡ s.page.next
-    → backs ≡ back_all page_after way_back es (saved_at s) → h1 ≡ past_pushed backs (future_popped h)
-    → BothStandFor d1 h1 s1 (command_step id Redo state).state
-redone-both d d1 h h1 s s1 state id es backs both on out stands saved next backs_is h_is =
-    let u = redo-hands h es state both.kept out in
-    let after = (kept_steps es state).state in
-    let same : h1 ≡ past_pushed (back_all page_after way_back es (saved_now state)) (future_popped h) =
-    h_is ∙ ap (λ (l : List Inverse). past_pushed l (future_popped h)) (backs-here d s state es backs both.stands backs_is) in
-    carried-both d s state id Redo (Some es) (redone state.client.marks) both.stands on
-    (redo-is (Some es) state u.edits) d1 s1 h1 es refl stands
-    (subst (λ (x : Marks Inverse). Keeps x (with_marks (redone state.client.marks) after)) (sym same)
-    (u.kept after (led-saved d d1 s s1 state es both.stands stands saved next) (led-next d d1 s s1 state es both.stands stands saved next)))
-
-pub undone-sent : (d : Desk) (h : Marks Inverse) (s : PageSide) (state : State) (id : ℕ) (es : List Inverse) (old middle new : List ℕ)
-    → BothStandFor d h s state → d.is_on ≡ true → handed_out h.past ≡ Some es
-    → middle ≡ old ++ frames_of_moves (kept_steps es state).moves → new ≡ middle ++ framed (reply_text id Nothing)
-    → new ≡ old ++ frames_of_moves (command_step id Undo state).moves
-undone-sent d h s state id es old middle new both on out first last =
-    carried-sent d s state id Undo (Some es) (undone state.client.marks) both.stands on
-    (undo-is (Some es) state (undo-hands h es state both.kept out).edits) es old middle new refl first last
-
-pub redone-sent : (d : Desk) (h : Marks Inverse) (s : PageSide) (state : State) (id : ℕ) (es : List Inverse) (old middle new : List ℕ)
-    → BothStandFor d h s state → d.is_on ≡ true → handed_out h.future ≡ Some es
-    → middle ≡ old ++ frames_of_moves (kept_steps es state).moves → new ≡ middle ++ framed (reply_text id Nothing)
-    → new ≡ old ++ frames_of_moves (command_step id Redo state).moves
-redone-sent d h s state id es old middle new both on out first last =
-    carried-sent d s state id Redo (Some es) (redone state.client.marks) both.stands on
-    (redo-is (Some es) state (redo-hands h es state both.kept out).edits) es old middle new refl first last
-
-module _ (d : Desk) (h h1 : Marks Inverse) (s : PageSide) (state : State) (id : ℕ) (both : BothStandFor d h s state)
-    (on : d.is_on ≡ true) where
-  -- nothing is left to take back
-  module _ (out : handed_out h.past ≡ None) where
-    pub unundone-both : h.crossed ≡ false → h1 ≡ past_popped h → BothStandFor d h1 s (command_step id Undo state).state
-    unundone-both free is =
-        let u = undo-hands-none h state both.kept out in
-        nothing-both d s state id Undo None (undone state.client.marks) both.stands on (undo-is None state u.edits) h1 refl
-        (sym u.crossed ∙ free) (subst (λ (x : Marks Inverse). Keeps x state) (sym is) u.kept)
-
-    pub unundone-sent : h.crossed ≡ false → (old new : List ℕ) → new ≡ old ++ framed (reply_text id Nothing)
-        → new ≡ old ++ frames_of_moves (command_step id Undo state).moves
-    unundone-sent free old new sent =
-        let u = undo-hands-none h state both.kept out in
-        nothing-sent d s state id Undo None (undone state.client.marks) both.stands on (undo-is None state u.edits) old new refl
-        (sym u.crossed ∙ free) sent
-
-    pub barred-undo-both : h.crossed ≡ true → h1 ≡ past_popped h → BothStandFor d h1 s (command_step id Undo state).state
-    barred-undo-both crossed is =
-        let u = undo-hands-none h state both.kept out in
-        emptied-both d s state id Undo None (undone state.client.marks) both.stands on (undo-is None state u.edits) h1 refl
-        (sym u.crossed ∙ crossed) (subst (λ (x : Marks Inverse). Keeps x state) (sym is) u.kept)
-
-    pub barred-undo-sent : h.crossed ≡ true → (old new : List ℕ) → new ≡ old ++ frames_of_moves (refusing (Some id) Crossed state).moves
-        → new ≡ old ++ frames_of_moves (command_step id Undo state).moves
-    barred-undo-sent crossed old new sent =
-        let u = undo-hands-none h state both.kept out in
-        emptied-sent d s state id Undo None (undone state.client.marks) both.stands on (undo-is None state u.edits) old new refl
-        (sym u.crossed ∙ crossed) sent
-
-  -- or to do again
-  module _ (out : handed_out h.future ≡ None) where
-    pub unredone-both : h.crossed ≡ false → h1 ≡ future_popped h → BothStandFor d h1 s (command_step id Redo state).state
-    unredone-both free is =
-        let u = redo-hands-none h state both.kept out in
-        nothing-both d s state id Redo None (redone state.client.marks) both.stands on (redo-is None state u.edits) h1 refl
-        (sym u.crossed ∙ free) (subst (λ (x : Marks Inverse). Keeps x state) (sym is) u.kept)
-
-    pub unredone-sent : h.crossed ≡ false → (old new : List ℕ) → new ≡ old ++ framed (reply_text id Nothing)
-        → new ≡ old ++ frames_of_moves (command_step id Redo state).moves
-    unredone-sent free old new sent =
-        let u = redo-hands-none h state both.kept out in
-        nothing-sent d s state id Redo None (redone state.client.marks) both.stands on (redo-is None state u.edits) old new refl
-        (sym u.crossed ∙ free) sent
-
-    pub barred-redo-both : h.crossed ≡ true → h1 ≡ future_popped h → BothStandFor d h1 s (command_step id Redo state).state
-    barred-redo-both crossed is =
-        let u = redo-hands-none h state both.kept out in
-        emptied-both d s state id Redo None (redone state.client.marks) both.stands on (redo-is None state u.edits) h1 refl
-        (sym u.crossed ∙ crossed) (subst (λ (x : Marks Inverse). Keeps x state) (sym is) u.kept)
-
-    pub barred-redo-sent : h.crossed ≡ true → (old new : List ℕ) → new ≡ old ++ frames_of_moves (refusing (Some id) Crossed state).moves
-        → new ≡ old ++ frames_of_moves (command_step id Redo state).moves
-    barred-redo-sent crossed old new sent =
-        let u = redo-hands-none h state both.kept out in
-        emptied-sent d s state id Redo None (redone state.client.marks) both.stands on (redo-is None state u.edits) old new refl
-        (sym u.crossed ∙ crossed) sent
+    -- where the edits led, which are carried out
+    pub group-both : (d1 : Desk) (h1 : Marks Inverse) (s1 : PageSide) (es backs : List Inverse) → handed_out (groups_of way h) ≡ Some es
+        → DeskStandsFor d1 s1 (kept_steps es state).state → saved_at s1 ≡ after_all page_after es (saved_at s)
+        → s1.page.next ≡ s.page.next → backs ≡ back_all page_after way_back es (saved_at s)
+        → h1 ≡ group_pushed way backs (group_popped way h)
+        → BothStandFor d1 h1 s1 (command_step id (taking_command way) state).state
+    group-both d1 h1 s1 es backs out stands saved next backs_is h_is =
+        let after = (kept_steps es state).state in
+        let marks = group_moved way state.client.marks in
+        let now : s1.page.next ≡ after.side.page.next = ap (λ (p : PageValue). p.next) stands.page_is in
+        let then : s.page.next ≡ state.side.page.next = ap (λ (p : PageValue). p.next) both.stands.page_is in
+        let led : saved_now after ≡ after_all page_after es (saved_now state) =
+        sym (here-saved d1 s1 after stands) ∙ saved ∙ ap (λ (p : Saved). after_all page_after es p) (here-saved d s state both.stands) in
+        let same : h1 ≡ group_pushed way (back_all page_after way_back es (saved_now state)) (group_popped way h) =
+        h_is ∙ ap (λ (l : List Inverse). group_pushed way l (group_popped way h))
+        (backs_is ∙ ap (λ (p : Saved). back_all page_after way_back es p) (here-saved d s state both.stands)) in
+        subst (λ (done : Step). BothStandFor d1 h1 s1 done.state) (sym (taking (Some es) out))
+        (record {
+          stands = marks-stands marks d1 s1 after stands;
+          kept = subst (λ (x : Marks Inverse). Keeps x (with_marks marks after)) (sym same)
+              ((hands-group way h es state both.kept out).kept after led (omega (arith, now, then, next)));
+        })
 
 -- ---- a mark
 

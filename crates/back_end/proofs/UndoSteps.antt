@@ -17,24 +17,25 @@ use Rattle.cdp_messages.specs.declared.down.ReplyBody.TheVariants.{Nothing}
 use Rattle.cdp_messages.specs.declared.command.Why.TheVariants.{Crossed}
 use Rattle.client_views.specs.Views.{ShownSheet}
 use Rattle.client_views.specs.Moves.{replied}
-use Rattle.undo_marks.specs.Marks.{Marks, handed_out, marked, taken_back, done_again, undone, redone}
-use Rattle.undo_marks.specs.Changes.{HistoryEntry as Entry, after_all, AllTaken, page_undone, page_redone}
+use Rattle.undo_marks.specs.Marks.{Marks, handed_out, marked, groups_of, group_moved}
+use Rattle.undo_marks.specs.declared.histories.Direction.{Direction}
+use Rattle.undo_marks.specs.declared.histories.Direction.TheVariants as directions
+use Rattle.undo_marks.specs.Changes.{HistoryEntry as Entry, after_all, AllTaken}
 use Rattle.undo_marks.specs.Saved.{SavedSheet, Saved}
 use Rattle.undo_marks.specs.SavedEdits.{saved_sheet, sheet_at, page_after, TakesSheet, MeetsNoFault}
 use Rattle.undo_marks.specs.declared.inverse_lists.Inverse.{Inverse}
 use Rattle.undo_marks.specs.declared.inverse_lists.Inverse.TheVariants.{Tree, Sheet}
 use Rattle.back_end.specs.Sheets.{entry_of_sheet, as_book}
 use Rattle.back_end.specs.States.{State, saved_now, HoldsNow, TakesWell, HasHistory, IsState}
-use Rattle.back_end.specs.Steps.{Step, with_marks, refusing, answering, idle, kept_step, kept_steps, undo_edits, redo_edits, taken_step}
-use Rattle.back_end.specs.Steps.{undo_step, redo_step, mark_step}
+use Rattle.back_end.specs.Steps.{Step, with_marks, refusing, answering, idle, kept_step, kept_steps, taken_edits, taken_step}
+use Rattle.back_end.specs.Steps.{mark_step}
 use Rattle.back_end.specs.Laws.{HasRoom, MayAnswer, UndoRestores}
 use Rattle.back_end.proofs.WellSteps.{Well, HasNumbers, room-numbers, stays, then-well, more, well-marked, well-answered}
 use Rattle.back_end.proofs.StepLemmas.{edit-is, edit-well}
 use Rattle.back_end.proofs.SpliceSteps.{splice-is, splice-well, splice-events, splice-saved}
 use Rattle.back_end.proofs.TurnAnswers.{AreEvents, events-append, shown-edit-events}
-use Rattle.back_end.proofs.HistoryLemmas.{kept_in, history-kept, Undoes, Redoes, undo-hands, redo-hands, undo-hands-none, redo-hands-none}
-use Rattle.back_end.proofs.GroupCounts.{trees_in, trees-in-length, SameCounts, undone-counts, redone-counts, FewEdits, undo-few, redo-few}
-use Rattle.back_end.proofs.GroupCounts.{no-past, no-future}
+use Rattle.back_end.proofs.HistoryLemmas.{kept_in, history-kept, page_led, Hands, HandsNone, hands-group, hands-none}
+use Rattle.back_end.proofs.GroupCounts.{trees_in, trees-in-length, SameCounts, moved-counts, FewEdits, few-taken}
 use Rattle.back_end.proofs.KeptSteps.{Recalls, recalls-same, recalls-marked, steps-well}
 use Rattle.back_end.proofs.AnsweredSteps.{Answered, reply-answered, refusal-answered}
 
@@ -194,70 +195,50 @@ kept-events (e ∷ es) state =
 
 -- ---- what is carried out, and the history then
 
--- the history hands out these edits, and it is this one where they led
-pub record Hands (es : List Inverse) (marks : Marks (Entry Saved Inverse)) (state : State) : Type 0 where
-  pub taken : AllTakenIn es state
-  pub history : (later : State) → saved_now later ≡ after_all page_after es (saved_now state) → state.side.page.next ≤ later.side.page.next
-      → HasHistory (with_marks marks later)
-  pub counts : SameCounts state.client.marks marks
-  pub few : FewEdits es state.client.marks
+-- either there is nothing to take back or to do again, or edits are handed out
+pub taken-either : (way : Direction) (P : Option (List Inverse) → Type 0) (state : State) → HasHistory state
+    → (HandsNone way (kept_in state) state → P None) → ((es : List Inverse) → Hands way (kept_in state) es state → P (Some es))
+    → P (taken_edits way state.client.marks)
+taken-either way P state h nothing some = at (handed_out (groups_of way (kept_in state))) refl where
+  at : (o : Option (List Inverse)) → handed_out (groups_of way (kept_in state)) ≡ o → P (taken_edits way state.client.marks)
+  at None out = let u = hands-none way (kept_in state) state (history-kept state h) out in subst P (sym u.edits) (nothing u)
+  at (Some es) out = let u = hands-group way (kept_in state) es state (history-kept state h) out in subst P (sym u.edits) (some es u)
 
-hands-undo : (es : List Inverse) (state : State) → Undoes (kept_in state) es state → Hands es (undone state.client.marks) state
-hands-undo es state u = record {
-  taken = u.taken;
-  history = λ later saved low. (u.kept later saved low).history;
-  counts = undone-counts state.client.marks;
-  few = undo-few state.client.marks es u.edits;
-}
-
-hands-redo : (es : List Inverse) (state : State) → Redoes (kept_in state) es state → Hands es (redone state.client.marks) state
-hands-redo es state u = record {
-  taken = u.taken;
-  history = λ later saved low. (u.kept later saved low).history;
-  counts = redone-counts state.client.marks;
-  few = redo-few state.client.marks es u.edits;
-}
-
--- either there is nothing to take back, or edits are handed out
-pub undo-either : (P : Option (List Inverse) → Type 0) (state : State) → HasHistory state → (undo_edits state.client.marks ≡ None → P None)
-    → ((es : List Inverse) → Undoes (kept_in state) es state → P (Some es)) → P (undo_edits state.client.marks)
-undo-either P state h nothing some = at (handed_out (kept_in state).past) refl where
-  at : (o : Option (List Inverse)) → handed_out (kept_in state).past ≡ o → P (undo_edits state.client.marks)
-  at None out = let u = undo-hands-none (kept_in state) state (history-kept state h) out in subst P (sym u.edits) (nothing u.edits)
-  at (Some es) out = let u = undo-hands (kept_in state) es state (history-kept state h) out in subst P (sym u.edits) (some es u)
-
-pub redo-either : (P : Option (List Inverse) → Type 0) (state : State) → HasHistory state → (redo_edits state.client.marks ≡ None → P None)
-    → ((es : List Inverse) → Redoes (kept_in state) es state → P (Some es)) → P (redo_edits state.client.marks)
-redo-either P state h nothing some = at (handed_out (kept_in state).future) refl where
-  at : (o : Option (List Inverse)) → handed_out (kept_in state).future ≡ o → P (redo_edits state.client.marks)
-  at None out = let u = redo-hands-none (kept_in state) state (history-kept state h) out in subst P (sym u.edits) (nothing u.edits)
-  at (Some es) out = let u = redo-hands (kept_in state) es state (history-kept state h) out in subst P (sym u.edits) (some es u)
+-- where nothing is handed out, nothing changes
+pub none-taken : (id : ℕ) (marks : Marks (Entry Saved Inverse)) (state : State) → (taken_step id None marks state).state ≡ state
+none-taken id marks state = at state.client.marks.crossed where
+  at : (b : Bool) → (cond b (refusing (Some id) Crossed state) (answering id (idle state))).state ≡ state
+  at true = refl
+  at false = refl
 
 -- ---- the steps
 
-taken-answered : (method : List ℕ) (sheet : Option ℕ) (id : ℕ) (es : List Inverse) (marks : Marks (Entry Saved Inverse)) (state : State)
+taken-answered : (method : List ℕ) (sheet : Option ℕ) (way : Direction) (id : ℕ) (es : List Inverse) (state : State)
     → MayAnswer method (replied 0 Nothing)
-    → IsState state → HasRoom state → is_counted id ≡ true → Hands es marks state
-    → Answered method sheet id 0 state (taken_step id (Some es) marks state)
-taken-answered method sheet id es marks state can is room small hands =
+    → IsState state → HasRoom state → is_counted id ≡ true → Hands way (kept_in state) es state
+    → Answered method sheet id 0 state (taken_step id (Some es) (group_moved way state.client.marks) state)
+taken-answered method sheet way id es state can is room small hands =
+    let marks = group_moved way state.client.marks in
+    let few : FewEdits es state.client.marks = few-taken way state.client.marks es hands.edits in
+    let counts : SameCounts state.client.marks marks = moved-counts way state.client.marks in
     let low : HasNumbers state = room-numbers state room in
     let k : Kept es state (kept_steps es state).state = kept-steps es state is.now hands.taken in
     let made : Well state (kept_steps es state) (trees_in es) 0 0 = kept-well es state is.now low
-    (omega (arith, room.ids, room.edits, hands.few.count)) hands.taken in
+    (omega (arith, room.ids, room.edits, few.count)) hands.taken in
     let done : Step = record { state = with_marks marks (kept_steps es state).state; moves = (kept_steps es state).moves } in
     let well : Well state done (trees_in es) 0 0 = well-marked marks made in
     let later : HasNumbers done.state = record {
-      ids = omega (arith, room.ids, room.edits, hands.few.count, trees-in-length es, made.few_ids);
+      ids = omega (arith, room.ids, room.edits, few.count, trees-in-length es, made.few_ids);
       serials = omega (arith, low.serials, made.few_serials);
       sheets = omega (arith, low.sheets, made.few_sheets);
     } in
     let recalls : Recalls state done.state 0 0 = record {
-      history = hands.history (kept_steps es state).state k.saved (omega (arith, k.next));
-      few_trees = omega (arith, hands.counts.trees);
-      few_edits = omega (arith, hands.counts.count);
+      history = (hands.kept (kept_steps es state).state k.saved (omega (arith, k.next))).history;
+      few_trees = omega (arith, counts.trees);
+      few_edits = omega (arith, counts.count);
     } in
     reply-answered method sheet id 0 Nothing state done can (kept-events es state)
-    (steps-well {ids = trees_in es} (omega (arith, hands.few.trees)) (omega arith)
+    (steps-well {ids = trees_in es} (omega (arith, few.trees)) (omega arith)
     (more (omega arith) (omega arith) (omega arith) (well-answered id small later well)) recalls) recalls.few_edits
 
 -- where there are none
@@ -278,21 +259,14 @@ nothing-answered method sheet id marks state can is room small = at state.client
       (steps-well {ids = 0} (omega arith) (omega arith)
       (more (omega arith) (omega arith) (omega arith) (well-answered id small low (stays state is.now low))) recalls) recalls.few_edits
 
-pub undo-answered : (method : List ℕ) (sheet : Option ℕ) (id : ℕ) (state : State) → MayAnswer method (replied 0 Nothing) → IsState state
-    → HasRoom state → is_counted id ≡ true
-    → Answered method sheet id 0 state (undo_step id state)
-undo-answered method sheet id state can is room small =
-    undo-either (λ o. Answered method sheet id 0 state (taken_step id o (undone state.client.marks) state)) state is.history
-    (λ e. nothing-answered method sheet id (undone state.client.marks) state can is room small)
-    (λ es u. taken-answered method sheet id es (undone state.client.marks) state can is room small (hands-undo es state u))
-
-pub redo-answered : (method : List ℕ) (sheet : Option ℕ) (id : ℕ) (state : State) → MayAnswer method (replied 0 Nothing) → IsState state
-    → HasRoom state → is_counted id ≡ true
-    → Answered method sheet id 0 state (redo_step id state)
-redo-answered method sheet id state can is room small =
-    redo-either (λ o. Answered method sheet id 0 state (taken_step id o (redone state.client.marks) state)) state is.history
-    (λ e. nothing-answered method sheet id (redone state.client.marks) state can is room small)
-    (λ es u. taken-answered method sheet id es (redone state.client.marks) state can is room small (hands-redo es state u))
+pub group-answered : (method : List ℕ) (sheet : Option ℕ) (way : Direction) (id : ℕ) (state : State) → MayAnswer method (replied 0 Nothing)
+    → IsState state → HasRoom state → is_counted id ≡ true
+    → Answered method sheet id 0 state (taken_step id (taken_edits way state.client.marks) (group_moved way state.client.marks) state)
+group-answered method sheet way id state can is room small =
+    let marks = group_moved way state.client.marks in
+    taken-either way (λ o. Answered method sheet id 0 state (taken_step id o marks state)) state is.history
+    (λ u. nothing-answered method sheet id marks state can is room small)
+    (λ es u. taken-answered method sheet way id es state can is room small u)
 
 pub mark-answered : (method : List ℕ) (sheet : Option ℕ) (id : ℕ) (state : State) → MayAnswer method (replied 0 Nothing) → IsState state
     → HasRoom state → is_counted id ≡ true
@@ -315,48 +289,38 @@ faultless next [] page all = tt
 faultless next (Tree e ∷ es) page all = (all.0.taken.taken.fits, faultless next es (page_after (Tree e) page) all.1)
 faultless next (Sheet s ∷ es) page all = (all.0.taken, faultless next es (page_after (Sheet s) page) all.1)
 
--- where nothing is handed out, nothing changes
-nothing-page : (id : ℕ) (marks : Marks (Entry Saved Inverse)) (state : State)
-    → saved_now (taken_step id None marks state).state ≡ saved_now state
-nothing-page id marks state = at state.client.marks.crossed where
-  at : (b : Bool) → saved_now (cond b (refusing (Some id) Crossed state) (answering id (idle state))).state ≡ saved_now state
-  at true = refl
-  at false = refl
+-- the page is the saved one, and the history the one after it
+led-page : (way : Direction) (state : State) → IsState state → (id : ℕ)
+    → saved_now (taken_step id (taken_edits way state.client.marks) (group_moved way state.client.marks) state).state
+    ≡ page_led way state.client.marks (saved_now state)
+led-page way state is id =
+    let marks = group_moved way state.client.marks in
+    taken-either way (λ o. saved_now (taken_step id o marks state).state ≡ page_led way state.client.marks (saved_now state)) state
+    is.history
+    (λ u. ap saved_now (none-taken id marks state) ∙ sym u.ends)
+    (λ es u. (kept-steps es state is.now u.taken).saved ∙ u.ends)
 
-nothing-marks : (id : ℕ) (marks : Marks (Entry Saved Inverse)) (state : State)
-    → (taken_step id None marks state).state.client.marks ≡ state.client.marks
-nothing-marks id marks state = at state.client.marks.crossed where
-  at : (b : Bool) → (cond b (refusing (Some id) Crossed state) (answering id (idle state))).state.client.marks ≡ state.client.marks
-  at true = refl
-  at false = refl
+led-marks : (way : Direction) (state : State) → IsState state → (id : ℕ)
+    → (taken_step id (taken_edits way state.client.marks) (group_moved way state.client.marks) state).state.client.marks
+    ≡ group_moved way state.client.marks
+led-marks way state is id =
+    let marks = group_moved way state.client.marks in
+    taken-either way (λ o. (taken_step id o marks state).state.client.marks ≡ marks) state is.history
+    (λ u. ap (λ (after : State). after.client.marks) (none-taken id marks state) ∙ sym u.stays)
+    (λ es u. refl)
+
+led-faultless : (way : Direction) (state : State) → IsState state
+    → IfSome (taken_edits way state.client.marks) (λ es. AllTaken page_after MeetsNoFault es (saved_now state))
+led-faultless way state is =
+    taken-either way (λ o. IfSome o (λ es. AllTaken page_after MeetsNoFault es (saved_now state))) state is.history (λ u. tt)
+    (λ es u. faultless state.side.page.next es (saved_now state) u.taken)
 
 pub undo-restores : UndoRestores
-undo-restores state is =
-    let m = state.client.marks in
-    let page = saved_now state in
-    record {
-      undone_page = λ id.
-          undo-either (λ o. saved_now (taken_step id o (undone m) state).state ≡ page_undone m.past page) state is.history
-          (λ e. nothing-page id (undone m) state ∙ ap (λ (past : List (List (Entry Saved Inverse))). page_undone past page)
-          (sym (no-past m e)))
-          (λ es u. (kept-steps es state is.now u.taken).saved ∙ u.ends);
-      undone_marks = λ id.
-          undo-either (λ o. (taken_step id o (undone m) state).state.client.marks ≡ undone m) state is.history
-          (λ e. nothing-marks id (undone m) state ∙ ap (λ (past : List (List (Entry Saved Inverse))). taken_back past m)
-          (sym (no-past m e)))
-          (λ es u. refl);
-      undo_faultless = undo-either (λ o. IfSome o (λ es. AllTaken page_after MeetsNoFault es page)) state is.history (λ e. tt)
-          (λ es u. faultless state.side.page.next es page u.taken);
-      redone_page = λ id.
-          redo-either (λ o. saved_now (taken_step id o (redone m) state).state ≡ page_redone m.future page) state is.history
-          (λ e. nothing-page id (redone m) state ∙ ap (λ (future : List (List (Entry Saved Inverse))). page_redone future page)
-          (sym (no-future m e)))
-          (λ es u. (kept-steps es state is.now u.taken).saved ∙ u.ends);
-      redone_marks = λ id.
-          redo-either (λ o. (taken_step id o (redone m) state).state.client.marks ≡ redone m) state is.history
-          (λ e. nothing-marks id (redone m) state ∙ ap (λ (future : List (List (Entry Saved Inverse))). done_again future m)
-          (sym (no-future m e)))
-          (λ es u. refl);
-      redo_faultless = redo-either (λ o. IfSome o (λ es. AllTaken page_after MeetsNoFault es page)) state is.history (λ e. tt)
-          (λ es u. faultless state.side.page.next es page u.taken);
-    }
+undo-restores state is = record {
+  undone_page = led-page directions.Undo state is;
+  undone_marks = led-marks directions.Undo state is;
+  undo_faultless = led-faultless directions.Undo state is;
+  redone_page = led-page directions.Redo state is;
+  redone_marks = led-marks directions.Redo state is;
+  redo_faultless = led-faultless directions.Redo state is;
+}

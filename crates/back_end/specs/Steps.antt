@@ -69,6 +69,8 @@ use Rattle.undo_marks.specs.Saved.{Saved}
 use Rattle.undo_marks.specs.SavedEdits.{page_after, way_back}
 use Rattle.undo_marks.specs.declared.inverse_lists.Inverse.{Inverse}
 use Rattle.undo_marks.specs.declared.inverse_lists.Inverse.TheVariants as kept
+use Rattle.undo_marks.specs.declared.histories.Direction.{Direction}
+use Rattle.undo_marks.specs.declared.histories.Direction.TheVariants as directions
 use Rattle.back_end.specs.declared.faults.ActFault.{ActFault}
 use Rattle.cdp_messages.specs.declared.dom_edit.DomEdit.{DomEdit}
 use Rattle.cdp_messages.specs.declared.dom_edit.DomEdit.TheVariants as tree
@@ -305,6 +307,16 @@ undo_edits m = option_map (λ g. reverse (backs_of way_back g)) (newest m.past)
 -- what does the group again that was taken back last: of each entry the edit, the oldest first
 abbrev pub redo_edits : Marks (Entry Saved Inverse) → Option (List Inverse)
 redo_edits m = option_map (λ g. map (λ e. e.edit) g) (newest m.future)
+
+-- what a group comes to that is taken back, or done again
+abbrev pub taken_edits : Direction → Marks (Entry Saved Inverse) → Option (List Inverse)
+taken_edits directions.Undo m = undo_edits m
+taken_edits directions.Redo m = redo_edits m
+
+-- the command that takes a group back, and the one that does it again
+abbrev pub taking_command : Direction → Command
+taking_command directions.Undo = Undo
+taking_command directions.Redo = Redo
 
 -- These edits are carried out, and the history is this one then. Where there are none, nothing changes; but where a change that is
 -- not the client's has emptied the history, that is refused.

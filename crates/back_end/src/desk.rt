@@ -33,7 +33,7 @@ use dom_breakpoints::Watches;
 use dom_search::Searches;
 use shown_pages::Mode;
 use std::alloc::{AllocError, Global};
-use undo_marks::History;
+use undo_marks::{Direction, History};
 
 /// What a seat works with: whether the domains DOM and CSS are on, and what the client knows of the page, which nodes it
 /// watches, and what its searches found.
@@ -233,8 +233,8 @@ impl Desk {
             Command::EditDom(edit) => self.answer_tree_edit(history, side, guest, id, edit, out),
             Command::AskSearch(ask) => self.answer_search(side, id, &ask, out),
             Command::MarkUndoableState => self.end_group(history, side, id, out),
-            Command::Undo => self.undo(history, side, guest, id, out),
-            Command::Redo => self.redo(history, side, guest, id, out),
+            Command::Undo => self.take_group(history, side, guest, id, Direction::Undo, out),
+            Command::Redo => self.take_group(history, side, guest, id, Direction::Redo, out),
             Command::CssEnable => self.enable_css(side, id, out),
             Command::CssDisable => self.disable_css(side, id, out),
             Command::AskCss(ask) => self.answer_styles(side, id, &ask, out),

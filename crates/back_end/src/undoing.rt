@@ -7,7 +7,7 @@ ghost use Rattle.undo_marks.specs.SavedEdits.{saved_of, saved_sheet, page_after,
 ghost use Rattle.client_views.specs.Moves.{frames_of_moves};
 ghost use Rattle.back_end.specs.States.{State, TakesWell};
 ghost use Rattle.cdp_messages.specs.declared.command.Command.TheVariants as commands;
-ghost use Rattle.back_end.specs.Steps.{command_step, kept_step, kept_steps, splice_step};
+ghost use Rattle.back_end.specs.Steps.{command_step, kept_step, kept_steps, splice_step, taking_command};
 ghost use Rattle.back_end.specs.Seats.{BothStandFor, DeskStandsFor, HasNumbersLeft, edits_in};
 ghost use Rattle.undo_marks.specs.declared.inverse_lists.Inverse.TheVariants as kept;
 ghost use Rattle.back_end.specs.Outside.{command_outward};
@@ -19,7 +19,7 @@ use crate::side::PageSide;
 use cdp_messages::{Event, ReplyBody, Why, write_reply};
 use std::alloc::AllocError;
 use style_edits::Splice;
-use undo_marks::{History, Inverse, Popped};
+use undo_marks::{Direction, History, Inverse, Popped};
 
 impl Desk {
     /// `DOM.markUndoableState`
@@ -149,13 +149,14 @@ impl Desk {
         Ok(backs)
     }
 
-    /// `DOM.undo`, which is refused where a change that is not the client's emptied the history.
-    pub(crate) fn undo(
+    /// `DOM.undo` and `DOM.redo`, which are refused where a change that is not the client's emptied the history.
+    pub(crate) fn take_group(
         &mut self,
         history: &mut History,
         side: &mut PageSide,
         guest: &mut Option<Guest>,
         id: u64,
+        direction: Direction,
         out: &mut Vec<u8>,
     ) -> Result<(), AllocError>
         requires on { self.old.is_on ≡ true }
@@ -164,48 +165,16 @@ impl Desk {
         requires standing { ∥ ((state : State) × BothStandFor self.old history.old side.old state) ∥₁ }
         requires can_hear { CanHear kept_before_step guest.old side.old }
         ensures stands { (state : State) → BothStandFor self.old history.old side.old state
-            → OnOk result (BothStandFor self.new history.new side.new (command_step id commands.Undo state).state) }
+            → OnOk result (BothStandFor self.new history.new side.new (command_step id (taking_command direction) state).state) }
         ensures sent { (state : State) → BothStandFor self.old history.old side.old state
-            → OnOk result (out.new.items ≡ out.old.items ++ frames_of_moves (command_step id commands.Undo state).moves) }
+            → OnOk result (out.new.items ≡ out.old.items ++ frames_of_moves (command_step id (taking_command direction) state).moves) }
         ensures told { (state other : State) → BothStandFor self.old history.old side.old state → GuestStands guest.old side.old other
-            → OnOk result (Hears guest.old guest.new side.new (heard_step (command_outward commands.Undo state) other)) }
+            → OnOk result (Hears guest.old guest.new side.new (heard_step (command_outward (taking_command direction) state) other)) }
     {
-        match history.pop_undo() {
+        match history.pop(direction) {
             Popped::Group(edits) => {
                 let backs = self.apply_all(side, guest, edits.into_vec(), out)?;
-                history.push_undone(backs)?;
-                write_reply(self.alloc, id, &ReplyBody::Nothing, out)
-            }
-            Popped::Nothing => write_reply(self.alloc, id, &ReplyBody::Nothing, out),
-            Popped::Crossed => self.refuse(id, Why::Crossed, out),
-        }
-    }
-
-    /// `DOM.redo`, which is refused as `DOM.undo` is.
-    pub(crate) fn redo(
-        &mut self,
-        history: &mut History,
-        side: &mut PageSide,
-        guest: &mut Option<Guest>,
-        id: u64,
-        out: &mut Vec<u8>,
-    ) -> Result<(), AllocError>
-        requires on { self.old.is_on ≡ true }
-        requires room { HasNumbersLeft self.old side.old }
-        requires few { edits_in history.old < kept_before_step }
-        requires standing { ∥ ((state : State) × BothStandFor self.old history.old side.old state) ∥₁ }
-        requires can_hear { CanHear kept_before_step guest.old side.old }
-        ensures stands { (state : State) → BothStandFor self.old history.old side.old state
-            → OnOk result (BothStandFor self.new history.new side.new (command_step id commands.Redo state).state) }
-        ensures sent { (state : State) → BothStandFor self.old history.old side.old state
-            → OnOk result (out.new.items ≡ out.old.items ++ frames_of_moves (command_step id commands.Redo state).moves) }
-        ensures told { (state other : State) → BothStandFor self.old history.old side.old state → GuestStands guest.old side.old other
-            → OnOk result (Hears guest.old guest.new side.new (heard_step (command_outward commands.Redo state) other)) }
-    {
-        match history.pop_redo() {
-            Popped::Group(edits) => {
-                let backs = self.apply_all(side, guest, edits.into_vec(), out)?;
-                history.push_redone(backs)?;
+                history.push(direction, backs)?;
                 write_reply(self.alloc, id, &ReplyBody::Nothing, out)
             }
             Popped::Nothing => write_reply(self.alloc, id, &ReplyBody::Nothing, out),

@@ -18,6 +18,7 @@ use Rattle.css_agent.specs.Edits.{CssEdited, css_edited, css_splices}
 use Rattle.style_edits.specs.declared.splice.Splice.{Splice}
 use Rattle.dom_breakpoints.specs.declared.pauses.Pause.{Pause}
 use Rattle.dom_breakpoints.specs.Pauses.{pause_of}
+use Rattle.undo_marks.specs.declared.histories.Direction.TheVariants as directions
 use Rattle.undo_marks.specs.Changes.{AllTaken}
 use Rattle.undo_marks.specs.SavedEdits.{page_after, saved_of}
 use Rattle.undo_marks.specs.declared.inverse_lists.Inverse.{Inverse}
@@ -33,7 +34,7 @@ use Rattle.back_end.specs.Texts.{HasServedTexts, HasTreeTexts}
 use Rattle.back_end.specs.Outside.{Outward, made, turned, unchanged, plan_outward, tree_outward, sheet_outward, taken_outward, own_outward}
 use Rattle.back_end.specs.Outside.{served_outward, asked_outward, outside_one, outside_all, outside_step}
 use Rattle.back_end.proofs.OwnTexts.{AskedTexts}
-use Rattle.back_end.proofs.GroupCounts.{trees_in, FewEdits, undo-few, redo-few}
+use Rattle.back_end.proofs.GroupCounts.{trees_in, FewEdits, few-taken}
 use Rattle.back_end.proofs.WellSteps.{Well, HasNumbers, stays, then-well, more}
 use Rattle.back_end.proofs.SpliceSteps.{splice-well}
 use Rattle.back_end.proofs.UndoSteps.{takes-splice, AllTakenIn, TakenIn, taken-rest}
@@ -148,8 +149,8 @@ served-few (EditDom edit) state texts is =
     tree-few (method_name (EditDom edit)) edit state (tree_edits state) texts (asks-for edit) is
 served-few (AskSearch ask) state texts is = omega arith
 served-few MarkUndoableState state texts is = omega arith
-served-few Undo state texts is = taken-few (undo_edits state.client.marks) state (λ es e. undo-few state.client.marks es e)
-served-few Redo state texts is = taken-few (redo_edits state.client.marks) state (λ es e. redo-few state.client.marks es e)
+served-few Undo state texts is = taken-few (undo_edits state.client.marks) state (λ es e. few-taken directions.Undo state.client.marks es e)
+served-few Redo state texts is = taken-few (redo_edits state.client.marks) state (λ es e. few-taken directions.Redo state.client.marks es e)
 served-few CssEnable state texts is = omega arith
 served-few CssDisable state texts is = omega arith
 served-few (AskCss ask) state texts is = omega arith

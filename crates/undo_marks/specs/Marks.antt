@@ -2,6 +2,8 @@
 use Rattle.std.specs.Prelude.{ℕ, ◌+◌, ◌==◌, Bool, true, false, not, ◌&&◌, ◌||◌, cond, List, [], ◌∷◌, ◌++◌, length, reverse, Option, Some}
 use Rattle.std.specs.Prelude.{None, is_none, refl}
 use Rattle.std.specs.Coded.{Coded, code_by, coded×, coded_list, coded_bool}
+use Rattle.undo_marks.specs.declared.histories.Direction.{Direction}
+use Rattle.undo_marks.specs.declared.histories.Direction.TheVariants.{Undo, Redo}
 
 -- the two lists and the two flags of a history
 pub record Marks (A : Type 0) : Type 0 where
@@ -124,3 +126,25 @@ module _ {A : Type 0} where
   -- a group is put on the future
   abbrev pub future_pushed : List A → Marks A → Marks A
   future_pushed g m = record { past = m.past; future = g ∷ m.future; going = false; crossed = m.crossed }
+
+  -- ---- the same by what is done with a group
+
+  -- the groups that can be taken back, or done again, the next one first
+  abbrev pub groups_of : Direction → Marks A → List (List A)
+  groups_of Undo m = m.past
+  groups_of Redo m = m.future
+
+  -- the marks after an undo, or a redo
+  abbrev pub group_moved : Direction → Marks A → Marks A
+  group_moved Undo m = undone m
+  group_moved Redo m = redone m
+
+  -- the next group is handed out
+  abbrev pub group_popped : Direction → Marks A → Marks A
+  group_popped Undo m = past_popped m
+  group_popped Redo m = future_popped m
+
+  -- what came of it is put on the other list
+  abbrev pub group_pushed : Direction → List A → Marks A → Marks A
+  group_pushed Undo g m = future_pushed g m
+  group_pushed Redo g m = past_pushed g m

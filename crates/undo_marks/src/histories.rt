@@ -1,11 +1,18 @@
 ghost use Rattle.std.specs.Prelude.{◌≡◌, ◌+◌, None, OnOk, OnErr};
 ghost use Rattle.undo_marks.specs.Marks.{no_marks, entry_count, handed_out, noted, marked, crossed_over, past_popped, future_popped};
-ghost use Rattle.undo_marks.specs.Marks.{past_pushed, future_pushed};
+ghost use Rattle.undo_marks.specs.Marks.{past_pushed, future_pushed, groups_of, group_popped, group_pushed};
 
 use crate::groups::Groups;
 use crate::inverse_lists::{Inverse, Inverses, Popped};
 use std::alloc::{AllocError, Global};
 use std::marker::Model;
+
+/// What is done with a group of edits: it is taken back, or done again.
+#[derive(Clone, Copy)]
+pub enum Direction {
+    Undo,
+    Redo,
+}
 
 /// A history of edits: groups that can be taken back, and groups that were taken back and can be done again.
 #[derive(Drop)]
@@ -120,6 +127,28 @@ impl History {
         self.past.push(group)?;
         self.going = false;
         Ok(())
+    }
+
+    /// `pop_undo` or `pop_redo`, by the direction. What applying the group gives goes to `push`. Takes no memory.
+    pub fn pop(&mut self, direction: Direction) -> Popped
+        ensures popped { IsPopped result (handed_out (groups_of direction self.old)) self.old.crossed }
+        ensures after { self.new ≡ group_popped direction self.old }
+    {
+        match direction {
+            Direction::Undo => self.pop_undo(),
+            Direction::Redo => self.pop_redo(),
+        }
+    }
+
+    /// `push_undone` or `push_redone`, by the direction.
+    pub fn push(&mut self, direction: Direction, group: Vec<Inverse>) -> Result<(), AllocError>
+        ensures ok { OnOk result (self.new ≡ group_pushed direction group.items self.old) }
+        ensures err { OnErr result (self.new ≡ self.old) }
+    {
+        match direction {
+            Direction::Undo => self.push_undone(group),
+            Direction::Redo => self.push_redone(group),
+        }
     }
 
     /// Forgets all edits at a change that is not the client's, and keeps that some were forgotten. Takes no memory.

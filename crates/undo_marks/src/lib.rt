@@ -4,7 +4,8 @@
 //! the two flags (whether a group is going on, whether a script's change crossed the history).
 //!
 //! Way in: `History`: `note` an edit by the one that leads back, `mark` the end of a group, `pop_undo` and `pop_redo` hand out a
-//! group, `push_undone` and `push_redone` put back what was carried out, `cross` and `clear` empty it.
+//! group, `push_undone` and `push_redone` put back what was carried out (`pop` and `push` take the direction), `cross` and `clear`
+//! empty it.
 //!
 //! Laws, in src/laws.rt: `saved_pages_law` (the kept edits lead through the very pages that were saved, with no fault and no
 //! limit) and `history_law` (the same for any edits whose inverses keep three laws). Histories by saved pages stand in
@@ -16,6 +17,6 @@ mod histories;
 mod inverse_lists;
 mod laws;
 
-pub use histories::History;
+pub use histories::{Direction, History};
 pub use inverse_lists::{Inverse, Inverses, Popped};
 pub use laws::{history_law, saved_pages_law};

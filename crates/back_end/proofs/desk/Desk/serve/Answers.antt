@@ -181,23 +181,24 @@ returns-in-MarkUndoableState-clause-sent c = λ state both.
 
 pub returns-in-Undo-clause-stands : goal.returns-in-Undo-clause-stands
 returns-in-Undo-clause-stands c = λ state both.
-    part-both c.undo.result c.undo.new.self c.undo.new.side c.undo.new.history state c.args.id commands.Undo c.args.command
-    (sym c.in-Undo.is) (c.undo.ensures.stands state both)
+    part-both c.take_group.result c.take_group.new.self c.take_group.new.side c.take_group.new.history state c.args.id commands.Undo
+    c.args.command (sym c.in-Undo.is) (c.take_group.ensures.stands state both)
 
 pub returns-in-Undo-clause-sent : goal.returns-in-Undo-clause-sent
 returns-in-Undo-clause-sent c = λ state both.
-    part-sent c.undo.result state c.args.id commands.Undo c.args.command c.args.out.now.items c.undo.new.out.items
-    (sym c.in-Undo.is) (c.undo.ensures.sent state both)
+    part-sent c.take_group.result state c.args.id commands.Undo c.args.command c.args.out.now.items c.take_group.new.out.items
+    (sym c.in-Undo.is) (c.take_group.ensures.sent state both)
 
 pub returns-in-Redo-clause-stands : goal.returns-in-Redo-clause-stands
 returns-in-Redo-clause-stands c = λ state both.
-    part-both c.redo.result c.redo.new.self c.redo.new.side c.redo.new.history state c.args.id commands.Redo c.args.command
-    (sym c.in-Redo.is) (c.redo.ensures.stands state both)
+    part-both c.take_group-in-Redo.result c.take_group-in-Redo.new.self c.take_group-in-Redo.new.side
+    c.take_group-in-Redo.new.history state c.args.id commands.Redo c.args.command (sym c.in-Redo.is)
+    (c.take_group-in-Redo.ensures.stands state both)
 
 pub returns-in-Redo-clause-sent : goal.returns-in-Redo-clause-sent
 returns-in-Redo-clause-sent c = λ state both.
-    part-sent c.redo.result state c.args.id commands.Redo c.args.command c.args.out.now.items c.redo.new.out.items
-    (sym c.in-Redo.is) (c.redo.ensures.sent state both)
+    part-sent c.take_group-in-Redo.result state c.args.id commands.Redo c.args.command c.args.out.now.items
+    c.take_group-in-Redo.new.out.items (sym c.in-Redo.is) (c.take_group-in-Redo.ensures.sent state both)
 
 pub returns-in-ReplayLoad-clause-stands : goal.returns-in-ReplayLoad-clause-stands
 returns-in-ReplayLoad-clause-stands c = λ state both.
@@ -263,11 +264,13 @@ end_group-requires c = record {
       c.args.command c.in-MarkUndoableState.is refl c.requires.met;
 }
 
-pub undo-requires-clause-on : goal.undo-requires-clause-on
-undo-requires-clause-on c = met-on c.args.self.now.is_on c.args.self.now.css (commands.Undo) c.args.command c.in-Undo.is refl c.requires.met
+pub take_group-requires-clause-on : goal.take_group-requires-clause-on
+take_group-requires-clause-on c =
+    met-on c.args.self.now.is_on c.args.self.now.css (commands.Undo) c.args.command c.in-Undo.is refl c.requires.met
 
-pub redo-requires-clause-on : goal.redo-requires-clause-on
-redo-requires-clause-on c = met-on c.args.self.now.is_on c.args.self.now.css (commands.Redo) c.args.command c.in-Redo.is refl c.requires.met
+pub take_group-requires-in-Redo-clause-on : goal.take_group-requires-in-Redo-clause-on
+take_group-requires-in-Redo-clause-on c =
+    met-on c.args.self.now.is_on c.args.self.now.css (commands.Redo) c.args.command c.in-Redo.is refl c.requires.met
 
 pub watch-requires : goal.watch-requires
 watch-requires c = record {
@@ -370,17 +373,17 @@ returns-in-EditCss-clause-told c = λ state other both stands.
 
 pub returns-in-Undo-clause-told : goal.returns-in-Undo-clause-told
 returns-in-Undo-clause-told c = λ state other both stands.
-    part-hears c.undo.result c.args.guest.now c.undo.new.guest c.undo.new.side state other
+    part-hears c.take_group.result c.args.guest.now c.take_group.new.guest c.take_group.new.side state other
     commands.Undo c.args.command
     (sym c.in-Undo.is)
-    (c.undo.ensures.told state other both stands)
+    (c.take_group.ensures.told state other both stands)
 
 pub returns-in-Redo-clause-told : goal.returns-in-Redo-clause-told
 returns-in-Redo-clause-told c = λ state other both stands.
-    part-hears c.redo.result c.args.guest.now c.redo.new.guest c.redo.new.side state other
+    part-hears c.take_group-in-Redo.result c.args.guest.now c.take_group-in-Redo.new.guest c.take_group-in-Redo.new.side state other
     commands.Redo c.args.command
     (sym c.in-Redo.is)
-    (c.redo.ensures.told state other both stands)
+    (c.take_group-in-Redo.ensures.told state other both stands)
 
 pub returns-in-ReplayLoad-clause-told : goal.returns-in-ReplayLoad-clause-told
 returns-in-ReplayLoad-clause-told c = λ state other both stands.
