@@ -360,6 +360,10 @@ def scripts():
     yield "a show of styles", [load(PAGE), *KNOWN, *styles]
     yield "a later load", [load(PAGE), *KNOWN, load({"flat": [{"up": 0, "e": "p"}, {"up": 1, "t": "x"}]}), *SHOWS]
     pieces = [text({"up": 20}), text({"up": 99}), text({"down": 70}), text({"raw": "{}"}), text({"close": 1})]
+    wide = {"document": [{"e": "html", "c": [{"e": "p"}] * 130}]}
+    turns = [act(do="insert", parent=2, before=70, node={"e": "b"}), act(do="remove", node=71)]
+    turns.append(act(do="insert", parent=2, before=0, node={"t": "x"}))
+    yield "a row of 130 children", [load(wide), *KNOWN, *turns, show("front")]
     yield "raw frames, pieces and a panel that is dropped", [load(PAGE), ask("DOM.getDocument"), *pieces, *SHOWS]
 
 
