@@ -49,7 +49,7 @@ returns-in-Err g c =
       follows = c.in-Err.ensures.goes.follows;
       some = tt;
       runs = act-stops c.in-Err.stop (g.L.Link.honest c.args.link.now) (g.L.Link.honest c.change_page.new.link)
-          (g.L.Link.up c.args.link.now) (g.L.Link.down c.args.link.now) (g.L.Link.up c.change_page.new.link) (g.L.Link.down c.change_page.new.link)
-          (g.K.Sink.taken c.args.out.now) c.args.ends.now c.change_page.new.self (numbered_line c.args.number (act c.args.change))
-          (λ w. turned run_turn (acts c.args.change) w) c.in-Err.ensures.goes.steps;
+          (g.L.Link.up c.args.link.now) (g.L.Link.down c.args.link.now) (g.L.Link.up c.change_page.new.link)
+          (g.L.Link.down c.change_page.new.link) (g.K.Sink.taken c.args.out.now) c.args.ends.now c.change_page.new.self
+          (numbered_line c.args.number (act c.args.change)) (λ w. turned run_turn (acts c.args.change) w) c.in-Err.ensures.goes.steps;
     }
