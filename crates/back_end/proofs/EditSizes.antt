@@ -89,7 +89,8 @@ two_at Greater Equal e c d more_c more_d n other fc fd both ic id = let h = fc i
 two_at Greater Less e c d more_c more_d n other fc fd both ic id = let h = both ic id in omega arith
 two_at Greater Greater e c d more_c more_d n other fc fd both ic id = let h = both ic id in omega arith
 
-two-members : (k l : List ℕ) (ms : Members) (c d : Data) → (k ≡ l → ⊥) → get_member k ms ≡ Some c → get_member l ms ≡ Some d
+-- two members of other names have six bytes at least
+pub two-members : (k l : List ℕ) (ms : Members) (c d : Data) → (k ≡ l → ⊥) → get_member k ms ≡ Some c → get_member l ms ≡ Some d
     → 6 ≤ members_size ms
 two-members k l no_members c d other is_c is_d = absurd cc
 two-members k l (member m e ms) c d other is_c is_d =
@@ -130,12 +131,13 @@ object-size (string s) ms e = absurd cc
 object-size (array ds) ms e = absurd cc
 object-size (object ns) ms e = let same : ns ≡ ms = cc in ap (λ os. 2 + members_size os) same
 
--- what is read of parameters was there
-then-is : {A B E : Type 0} (r : Result A E) (f : A → Result B E) (y : B) → then_ok r f ≡ Ok y → (x : A) × (r ≡ Ok x) × (f x ≡ Ok y)
+-- what comes of a result that is no refusal
+pub then-is : {A B E : Type 0} (r : Result A E) (f : A → Result B E) (y : B) → then_ok r f ≡ Ok y → (x : A) × (r ≡ Ok x) × (f x ≡ Ok y)
 then-is (Ok x) f y e = (x, refl, e)
 then-is {A} {B} {E} (Err why) f y e = let no : ◌≡◌ {A = Result B E} (Err why) (Ok y) = e in absurd cc
 
-field-is : {T : Type 0} (reads : Data → Option T) (o : Option Data) (x : T) → field_from reads o ≡ Is x
+-- a field that is there was read of a member
+pub field-is : {T : Type 0} (reads : Data → Option T) (o : Option Data) (x : T) → field_from reads o ≡ Is x
     → (d : Data) × (o ≡ Some d) × (reads d ≡ Some x)
 field-is reads None x e = let no : ◌≡◌ {A = Field _} Missing (Is x) = e in absurd cc
 field-is reads (Some d) x e = (d, refl, there (reads d) e)
@@ -307,11 +309,13 @@ pub record IsFrameOf (own : Bool) (frame : List ℕ) (a : Asked) : Type 0 where
   pub method_is : field_of as_str (codes "method") members ≡ Is method
   pub command_is : command_of own method (get_member (codes "params") members) (get_member (codes "sessionId") members) ≡ Ok a.command
 
-utf8-read : (b : Bool) (o : Option Data) (d : Data) → cond b o None ≡ Some d → o ≡ Some d
+-- what is read of a text is read of its bytes
+pub utf8-read : (b : Bool) (o : Option Data) (d : Data) → cond b o None ≡ Some d → o ≡ Some d
 utf8-read true o d e = e
 utf8-read false o d e = absurd cc
 
-method-in : (f : Field (List ℕ)) (m : List ℕ) → method_in f ≡ Ok m → f ≡ Is m
+-- a method that is no refusal is that of its field
+pub method-in : (f : Field (List ℕ)) (m : List ℕ) → method_in f ≡ Ok m → f ≡ Is m
 method-in Missing m e = let no : ◌≡◌ {A = Result (List ℕ) Why} (method_in Missing) (Ok m) = e in absurd cc
 method-in WrongKind m e = let no : ◌≡◌ {A = Result (List ℕ) Why} (method_in WrongKind) (Ok m) = e in absurd cc
 method-in (Is n) m e = let same : n ≡ m = cc in ap Is same
@@ -321,7 +325,8 @@ by-id id (Ok c) a e = let same : ◌≡◌ {A = Asked} (record { id = id; comman
     (ap (λ (x : Asked). x.id) same, ap (λ (x : Asked). Ok x.command) same)
 by-id id (Err why) a e = let no : ◌≡◌ {A = Result Asked Refused} (asked_by id (Err why)) (Ok a) = e in absurd cc
 
-with-id : (f : Field ℕ) (r : Result Command Why) (a : Asked) → with_id f r ≡ Ok a → (f ≡ Is a.id) × (r ≡ Ok a.command)
+-- what was asked has the id and the command that were read
+pub with-id : (f : Field ℕ) (r : Result Command Why) (a : Asked) → with_id f r ≡ Ok a → (f ≡ Is a.id) × (r ≡ Ok a.command)
 with-id Missing r a e = let no : ◌≡◌ {A = Result Asked Refused} (with_id Missing r) (Ok a) = e in absurd cc
 with-id WrongKind r a e = let no : ◌≡◌ {A = Result Asked Refused} (with_id WrongKind r) (Ok a) = e in absurd cc
 with-id (Is id) r a e = let p = by-id id r a e in (ap Is p.0, p.1)
@@ -359,7 +364,8 @@ frame-size own frame a f =
     let size = object-size f.value f.members f.object_is in
     omega arith
 
-names-apart : codes "id" ≡ codes "method" → ⊥
+-- an id has another name than a method
+pub names-apart : codes "id" ≡ codes "method" → ⊥
 names-apart e = let n : length (codes "id") ≡ length (codes "method") = ap length e in omega arith
 
 -- a frame that is no refusal has eight bytes at least
@@ -372,7 +378,8 @@ frame-long own frame a e =
     let two = two-members (codes "id") (codes "method") f.members id.0 method.0 names-apart id.1 method.1 in
     omega arith
 
-params-within : (ms : Members) (o : Option Data) → get_member (codes "params") ms ≡ o → params_size o ≤ members_size ms
+-- parameters are no larger than all members
+pub params-within : (ms : Members) (o : Option Data) → get_member (codes "params") ms ≡ o → params_size o ≤ members_size ms
 params-within ms None e = omega arith
 params-within ms (Some d) e = let h = member-size (codes "params") ms d e in omega arith
 

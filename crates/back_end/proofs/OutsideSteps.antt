@@ -166,7 +166,8 @@ outside-rest e es state is all =
     subst (λ (side : Side). AllTaken page_after (TakesWell side.page.next) es (saved_of side.page.tree (as_book side.sheets)))
     (kept-side-one e state ∙ sym (outside-side-one e state)) kept
 
-outside-well : (es : List Inverse) (state : State) → HoldsNow state → HasNumbers state
+-- edits of another client are well, one after the other
+pub outside-well : (es : List Inverse) (state : State) → HoldsNow state → HasNumbers state
     → 200001 * trees_in es + length state.client.session.pushed < 2 ^ 52 → AllTakenIn es state
     → Well state (outside_all es state) (200001 * trees_in es) 0 0
 outside-well [] state is low ids all = stays state is low
@@ -304,6 +305,11 @@ done-none state after is same = record {
   led = same;
 }
 
+-- edits of the tree are as many as their list is long
+pub trees-few : (es : List TreeEdit) → trees_in (map (λ e. Tree e) es) ≤ length es
+trees-few [] = omega arith
+trees-few (e ∷ es) = omega (arith, trees-few es)
+
 -- an edit of the tree
 put-side : (id : ℕ) (put : Option ℕ) (done : Step) → (put_answer id put done).state.side ≡ done.state.side
 put-side id None done = refl
@@ -328,10 +334,6 @@ planned-done id None e state is planned =
       };
       led = put-side id (node_put e state.side.page) _ ∙ trees-side plan.edits (with_page plan.page state);
     }
-  where
-    trees-few : (es : List TreeEdit) → trees_in (map (λ e. Tree e) es) ≤ length es
-    trees-few [] = omega arith
-    trees-few (e ∷ es) = omega (arith, trees-few es)
 
 tree-done : (method : List ℕ) (id : ℕ) (edit : DomEdit) (state : State) → HasTreeTexts edit → AsksFor method edit → IsState state
     → IsDone state (tree_outward (edit_named (serial_now state) (lowered edit)) state)
@@ -344,11 +346,12 @@ tree-done method id edit state texts asks is = at (edit_named (serial_now state)
       let named = named-is method (serial_now state) (lowered edit) e (lowered-texts edit texts) (lowered-asks method edit asks) h in
       planned-done id (node_edit_fault e state.side.page) e state is (λ fits. node-edit-planned method state e is.now named.0 fits)
 
--- an edit of sheets
-no-trees-among : (ss : List Splice) → trees_in (map (λ s. Sheet s) ss) ≡ 0
+-- edits of sheets are none of the tree
+pub no-trees-among : (ss : List Splice) → trees_in (map (λ s. Sheet s) ss) ≡ 0
 no-trees-among [] = refl
 no-trees-among (s ∷ ss) = omega (arith, no-trees-among ss)
 
+-- an edit of sheets
 sheet-done : (id : ℕ) (x : CssEdit) (state : State) → HasEditTexts x → IsState state → HasRoom state
     → IsDone state (sheet_outward (css_edited (book_in state) x) (css_splices (book_in state) x) state)
     (restyled_step id (css_edited (book_in state) x) (css_splices (book_in state) x) state).state.side

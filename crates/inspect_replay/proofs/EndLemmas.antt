@@ -1,7 +1,6 @@
 -- What the calls on the link and on the ends make of a run.
 use Rattle.std.proofs.Common.{◌≡◌, ℕ, suc, ◌+◌, ◌*◌, ◌-◌, ◌<◌, ◌≤◌, ◌^◌, min, List, [], ◌∷◌, ◌++◌, length, take, drop, get_or, drop-cons}
 use Rattle.std.proofs.Common.{add-one, Bool, true, false, not, cond, Ok, Err, Option, Some, None, refl, sym, ◌∙◌, ap, subst, Result, arith}
-use Rattle.std.proofs.lemmas.List.{take_min}
 use Rattle.front_mirror.specs.declared.panels.Panel.{Ghosts}
 use Rattle.pipe_frames.specs.Pipe.{Pipe, waiting}
 use Rattle.pipe_frames.specs.Frames.{IsText, Frames, framed, frames_of, frames_from, held_after, continued}
@@ -51,7 +50,7 @@ use Rattle.replay_parts.proofs.SendLemmas.{SentUp, sent-up, SentDown, sent-down}
 use Rattle.replay_parts.specs.Stops.{GoesWell}
 use Rattle.back_end.proofs.SeatLemmas.{on_ok}
 use Rattle.session_runs.proofs.Worlds.{answered-cons, put-nil}
-use Rattle.inspect_world.proofs.Pipes.{waiting-is}
+use Rattle.session_runs.proofs.LinkRuns.{waiting-is, came-front}
 use Rattle.inspect_world.proofs.Scripts.{turn-left}
 use Rattle.inspect_world.proofs.FetchesFit.{fetched-if-spends, few-then}
 use Rattle.inspect_world.proofs.Ends.{world-room, world-ids, world-sent, world-fetched, world-raw, world-turned, world-answered}
@@ -260,15 +259,6 @@ fetched_in up0 down0 up down up1 down1 w e sheet whole frame bytes there front1 
 
 -- ---- bytes come
 
--- as many bytes as are asked for and are there
-take-min : (n there : ℕ) (bytes : List ℕ) → there ≡ length bytes → take (min n there) bytes ≡ take n bytes
-take-min n there bytes is = ap (λ m. take (min n m) bytes) is ∙ take_min n bytes
-
-pub came : (up0 now : Pipe) (start : Pipe) (n there max : ℕ) (piece : List ℕ) (s : Stream)
-    → waiting now ≡ s.flying → there ≡ length s.flying → max ≡ min n there → piece ≡ take max (waiting now) → piece ≡ take n s.flying
-came up0 now start n there max piece s waits is max_is front =
-    front ∙ ap (take max) waits ∙ ap (λ m. take m s.flying) max_is ∙ take-min n there s.flying is
-
 -- bytes come up, and are cut into frames
 pub given_in : (up0 down0 up down up1 down1 : Pipe) (w : World RunState) (e : Ends) (n there max : ℕ) (piece : List ℕ) (s s1 : Frames)
     → InWorld up0 down0 up down w (s.whole ++ awaited w.up) e → s.whole ≡ [] → s.rest ≡ e.back_rest
@@ -281,13 +271,14 @@ pub given_in : (up0 down0 up down up1 down1 : Pipe) (w : World RunState) (e : En
 given_in up0 down0 up down up1 down1 w e n there max piece s s1 in_world none rest max_is front moved same_down left cut =
     let start : InWorld up0 down0 up down w (awaited w.up) e = subst
     (λ whole. InWorld up0 down0 up down w (whole ++ awaited w.up) e) none in_world in
+    let on = in_world.on_link in
     let part : piece ≡ take n w.up.flying =
-    came up0 up up0 n e.up_there max piece w.up (waiting-is up0 up w.up in_world.up_is) in_world.up_left max_is front in
+    came-front up n e.up_there max piece w.up (waiting-is up0 up w.up on.up_is) on.up_left max_is front in
     let rest_is : s1.rest ≡ held_after e.back_rest piece = ap (λ (f : Frames). f.rest) cut ∙ ap (λ held. held_after held piece) rest in
     let whole : s1.whole ≡ arriving n w.up =
     ap (λ (f : Frames). f.whole) cut
     ∙ ap (λ frames. frames ++ frames_from s.rest piece) none
-    ∙ ap (λ held. frames_from held piece) (rest ∙ in_world.back_is)
+    ∙ ap (λ held. frames_from held piece) (rest ∙ on.back_is)
     ∙ ap (λ bytes. frames_from (frames_of w.up.given).rest bytes) part in
     let all : InWorld up0 down0 up1 down (given_up n w) (arriving n w.up ++ awaited (passed n w.up))
     (record e { back_rest = s1.rest; up_there = there }) =
@@ -308,8 +299,9 @@ pub delivered_in : (up0 down0 up down up1 down1 : Pipe) (w : World RunState) (fr
     → front1 ≡ after_take e.front piece
     → InWorld up0 down0 up1 down1 (delivered_down n w) frames (record e { front = front1; down_there = there })
 delivered_in up0 down0 up down up1 down1 w frames e n there max piece front1 in_world max_is front moved same_up left front_is =
+    let on = in_world.on_link in
     let part : piece ≡ take n w.down.flying =
-    came down0 down down0 n e.down_there max piece w.down (waiting-is down0 down w.down in_world.down_is) in_world.down_left max_is front in
+    came-front down n e.down_there max piece w.down (waiting-is down0 down w.down on.down_is) on.down_left max_is front in
     let all : InWorld up0 down0 up down1 (delivered_down n w) frames (record e { front = after_take e.front piece; down_there = there }) =
     world-delivered_down up0 down0 up down down1 w frames e n there piece in_world part moved.0 moved.1 left in
     subst (λ pipe. InWorld up0 down0 pipe down1 (delivered_down n w) frames (record e { front = front1; down_there = there })) (sym same_up)
@@ -323,8 +315,9 @@ pub no_fault : (up0 down0 up down : Pipe) (w : World RunState) (frames : List (L
     → max ≡ min n e.down_there → piece ≡ take max (waiting down)
     → front1 ≡ after_take e.front piece → front1.fault ≡ Some f → ⊥
 no_fault up0 down0 up down w frames e n max piece front1 f in_world max_is front front_is fault =
+    let on = in_world.on_link in
     let part : piece ≡ take n w.down.flying =
-    came down0 down down0 n e.down_there max piece w.down (waiting-is down0 down w.down in_world.down_is) in_world.down_left max_is front in
+    came-front down n e.down_there max piece w.down (waiting-is down0 down w.down on.down_is) on.down_left max_is front in
     let none : (after_take e.front piece).fault ≡ None = never-refuses up0 down0 up down w frames e n piece in_world part in
     let both : ◌≡◌ {A = Option FrontFault} (Some f) None = sym fault ∙ ap (λ (s : FrontState). s.fault) front_is ∙ none in
     cc
@@ -442,7 +435,7 @@ pub settle_goes : {P : Type 0} {g : Ghosts P} {T : Type 0} (result : Result T St
     → GoesWell result × OnOk result (InRun honest1 up0 down0 up1 down1 (settled run_step w) e1)
 settle_goes result honest honest1 up0 down0 up down up1 down1 w n e e1 all run steps =
     let same : delivered_down e.ends.down_there (delivered_up run_step n w) ≡ settled run_step w =
-    ap (λ m. delivered_down m (delivered_up run_step n w)) run.so_far.in_world.down_left
+    ap (λ m. delivered_down m (delivered_up run_step n w)) run.so_far.in_world.on_link.down_left
     ∙ ap (λ m. delivered_down (length (delivered_up run_step m w).down.flying) (delivered_up run_step m w)) all in
     subst (λ v. GoesWell result × OnOk result (InRun honest1 up0 down0 up1 down1 v e1)) same
     (steps up0 down0 (delivered_up run_step n w) run)
@@ -541,7 +534,7 @@ pub refresh_goes : {P : Type 0} {g : Ghosts P} {T : Type 0} (result : Result T S
 refresh_goes result honest honest0 honest1 up0 down0 up down up1 down1 up2 down2 w e e1 e2 left run run1 fetches =
     let w1 = settled run_step w in
     let front_is : front_in replay (first_value []) w1 ≡ Ok e1.front.value = run-front honest0 up0 down0 up1 down1 w1 e1 run1 in
-    let fits : Fits w1 = subst (λ frames. FitsWith w1 (frames ++ awaited w1.up)) run1.none_whole run1.so_far.in_world.fits in
+    let fits : Fits w1 = subst (λ frames. FitsWith w1 (frames ++ awaited w1.up)) run1.none_whole run1.so_far.in_world.on_link.fits in
     let few : length (stale_of e1.front.value.sheets) ≤ most_sheets = few-then w e1.front.value fits front_is in
     let room : w.spent.fetches + (0 + 1) * most_sheets ≤ most_fetches = left.fetches in
     subst (λ numbers. GoesWell result

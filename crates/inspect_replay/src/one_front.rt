@@ -32,7 +32,6 @@ use std::alloc::{AllocError, Global};
 
 /// What stands at the ends of the link: the page's side with one client, and a front end; and how many of the replies and of the pauses
 /// were told. The seat stands for the page's side, as long as it is not dead.
-#[derive(Drop)]
 pub(crate) struct OneFront<P: Panel> {
     pub(crate) alloc: Global,
     pub(crate) side: PageSide,
@@ -42,6 +41,25 @@ pub(crate) struct OneFront<P: Panel> {
     pub(crate) told: usize,
     pub(crate) told_pauses: usize,
     ghost seated: { IsSeated seat side },
+}
+
+// By hand, so that who lets both ends go need not know of their parts.
+impl<P: Panel> Drop for OneFront<P> {
+    fn drop(self) {
+        let OneFront {
+            alloc: _alloc,
+            side,
+            seat,
+            ends,
+            front,
+            told: _told,
+            told_pauses: _told_pauses,
+        } = self;
+        drop(side);
+        drop(seat);
+        drop(ends);
+        drop(front);
+    }
 }
 
 impl<P: Panel> OneFront<P> {

@@ -1,8 +1,7 @@
 -- The ends follow the run as bytes are sent and given.
-use Rattle.std.proofs.Common.{◌≡◌, refl, false, ℕ, ◌+◌, ◌-◌, ◌^◌, ◌<◌, ◌≤◌, List, [], ◌∷◌, ◌++◌, length, take, drop, Option, Some, None}
+use Rattle.std.proofs.Common.{◌≡◌, refl, false, ℕ, ◌+◌, ◌-◌, ◌^◌, ◌<◌, ◌≤◌, List, [], ◌∷◌, ◌++◌, length, take, Option, Some, None}
 use Rattle.std.proofs.Common.{sym, ◌∙◌}
-use Rattle.std.proofs.Common.{ap, subst, append_assoc, append-nil, Result, Ok, Err, arith, length-append}
-use Rattle.std.proofs.lemmas.List.{take-append-drop}
+use Rattle.std.proofs.Common.{ap, append_assoc, Result, Ok, Err, arith}
 use Rattle.page_forms.specs.Pages.{LoadedPage, CanLoadPage}
 use Rattle.pipe_frames.specs.Pipe.{Pipe, waiting}
 use Rattle.pipe_frames.specs.Frames.{IsText, framed, frames_of, held_after}
@@ -14,18 +13,20 @@ use Rattle.front_mirror.specs.Front as front
 use Rattle.front_mirror.specs.Front.{FrontValue, FrontState, first_state, first_value, take_frame, Folded, after_message, fetch_ask}
 use Rattle.front_mirror.specs.Front.{after_ask, after_fetch, after_take}
 use Rattle.replay_script.specs.Forms.{AskForm, ask}
-use Rattle.session_runs.specs.Stream.{Stream, sent, put_last, passed, held, arriving, awaited}
-use Rattle.session_runs.specs.World.{steps, sent_up}
-use Rattle.inspect_world.specs.World.{World, AlreadyTold, nothing_told, Spent, one_ask, one_fetch, one_raw, raw, turned}
+use Rattle.session_runs.specs.Stream.{sent, passed, held, arriving, awaited}
+use Rattle.session_runs.specs.World.{sent_up}
+use Rattle.inspect_world.specs.World.{World, AlreadyTold, nothing_told, Audience, audience, Spent, nothing_spent, one_ask, one_fetch}
+use Rattle.inspect_world.specs.World.{one_raw, raw, turned}
 use Rattle.session_runs.specs.World.{answered, given_up, delivered_down}
 use Rattle.cdp_json.specs.Lookups.{then_ok}
 use Rattle.session_runs.specs.Fold.{folded, asks_joined}
+use Rattle.session_runs.specs.LinkRuns.{Pipes, LinkCounts, OnLink}
 use Rattle.back_end.specs.declared.seat.Seat.{Seat}
 use Rattle.back_end.specs.declared.side.PageSide.{PageSide}
 use Rattle.back_end.specs.States.{loaded_state}
 use Rattle.back_end.specs.Steps.{Turn}
 use Rattle.inspect_world.specs.StepBytes.{step, turn}
-use Rattle.inspect_world.specs.RunStates.{RunState, run_step, run_turn}
+use Rattle.inspect_world.specs.RunStates.{RunState, run_start, run_step, run_turn}
 use Rattle.back_end.specs.Laws.{HasRoom}
 use Rattle.back_end.specs.Seats.{StandsFor, HasRoomLeft}
 use Rattle.inspect_world.specs.Costs.{ask_edits, least_line, line_cost}
@@ -36,16 +37,16 @@ use Rattle.inspect_world.specs.Scripts.{sends, loaded_world}
 use Rattle.page_forms.specs.Texts.{PageHasTexts}
 use Rattle.replay_script.specs.Sound.{CanSend}
 use Rattle.inspect_world.specs.Held.{Ends, good_front, with_panels, InWorld}
-use Rattle.inspect_world.specs.Carried.{Carries}
-use Rattle.session_runs.proofs.Frames.{sent-passed, awaited-passed, whole-sent, whole-given, rest-given}
-use Rattle.session_runs.proofs.Worlds.{whole-after, fits-sent_up, fits-turned, fits-given_up, fits-answered_one}
+use Rattle.session_runs.proofs.Frames.{sent-passed, rest-given}
+use Rattle.session_runs.proofs.Worlds.{whole-after}
 use Rattle.inspect_world.proofs.FitLemmas.{world_laws, fit-room}
 use Rattle.inspect_world.proofs.Messages.{IsText-sent, ask_in-sent, IsNext-sent}
 use Rattle.inspect_world.proofs.FetchForms.{fetcher-text, fetcher-asks, fetcher-next}
-use Rattle.inspect_world.proofs.Scripts.{frame-left, edits-left, fits-loaded}
+use Rattle.inspect_world.proofs.Scripts.{frame-left, edits-left, fit-first}
 use Rattle.back_end.proofs.SeatRoom.{has-room-left}
-use Rattle.session_runs.proofs.Folds.{Halves, folded-append, folded-halves, folded-rest, joined-append}
-use Rattle.inspect_world.proofs.Pipes.{carries-start, carries-put, carries-get, waiting-is}
+use Rattle.session_runs.proofs.Folds.{joined-append}
+use Rattle.session_runs.proofs.LinkRuns.{link-waits, link-first, link-sent_up, link-given_up, link-answered, link-turned}
+use Rattle.session_runs.proofs.LinkRuns.{link-delivered_down, TakesMore, link-takes}
 
 -- ---- the front end's own fold
 
@@ -60,22 +61,26 @@ front-folded (frame ∷ frames) v w e =
       | Err kind ↦ λ rest. let no : ◌≡◌ {A = Result FrontValue FrontKind} (Err kind) (Ok w) = rest in cc
     ]) e
 
--- how many bytes are left of a stream
-left-passed : (n there there' : ℕ) (piece : List ℕ) (s : Stream) → there ≡ length s.flying → piece ≡ take n s.flying
-    → there' ≡ there - length piece → there' ≡ length (passed n s).flying
-left-passed n there there' piece s is front after =
-    let whole : length (take n s.flying) + length (drop n s.flying) ≡ length s.flying =
-    sym (length-append (take n s.flying) (drop n s.flying)) ∙ ap length (take-append-drop n s.flying) in
-    let same : length piece ≡ length (take n s.flying) = ap length front in
-    omega (arith, is, after, whole, same)
+-- ---- the link
+
+-- the two pipes at one moment
+abbrev pipes : Pipe → Pipe → Pipes
+pipes up down = record { up = up; down = down }
+
+-- what the ends count
+abbrev counts : Ends → LinkCounts
+counts e = record { back_rest = e.back_rest; up_there = e.up_there; down_there = e.down_there }
+
+-- the link carries the run of a replay
+abbrev OnReplay : Pipes → Pipes → World RunState → List (List ℕ) → LinkCounts → Type 0
+OnReplay = OnLink replay IsFit (first_value [])
 
 -- what the ends count waits in the link
 pub world-waits : (up0 down0 up down : Pipe) (w : World RunState) (frames : List (List ℕ)) (e : Ends)
     → InWorld up0 down0 up down w frames e → (e.up_there ≤ length (waiting up)) × (e.down_there ≤ length (waiting down))
 world-waits up0 down0 up down w frames e in_world =
-    let above : length (waiting up) ≡ length w.up.flying = ap length (waiting-is up0 up w.up in_world.up_is) in
-    let below : length (waiting down) ≡ length w.down.flying = ap length (waiting-is down0 down w.down in_world.down_is) in
-    (omega (arith, above, in_world.up_left), omega (arith, below, in_world.down_left))
+    link-waits replay AlwaysRoom IsNextIn IsNextTurn IsFit world_laws (first_value []) (pipes up0 down0) (pipes up down) w frames (counts e)
+    in_world.on_link
 
 -- ---- bytes go down
 
@@ -90,19 +95,13 @@ pub record Takes (front1 : FrontState) (w : World RunState) (n : ℕ) : Type 0 w
 takes : (up0 down0 up down : Pipe) (w : World RunState) (frames : List (List ℕ)) (e : Ends) (n : ℕ) (piece : List ℕ)
     → InWorld up0 down0 up down w frames e → piece ≡ take n w.down.flying → Takes (after_take e.front piece) w n
 takes up0 down0 up down w frames e n piece in_world front_part =
-    let start = asks_joined join (first_value []) (frames_of (sent w.up)).whole in
-    let given = (frames_of w.down.given).whole in
-    let all : folded take_frame start (given ++ awaited w.down) ≡ Ok in_world.fits.front =
-    ap (folded take_frame start) (sym (whole-sent w.down)) ∙ in_world.fits.is_fold in
-    let coming : folded take_frame in_world.value (awaited w.down) ≡ Ok in_world.fits.front =
-    folded-rest take_frame start in_world.value in_world.fits.front given (awaited w.down) in_world.is_fold all in
-    let halves : Halves take_frame in_world.value in_world.fits.front (arriving n w.down) (awaited (passed n w.down)) =
-    folded-halves take_frame in_world.value in_world.fits.front (arriving n w.down) (awaited (passed n w.down))
-    (ap (folded take_frame in_world.value) (sym (awaited-passed n w.down)) ∙ coming) in
-    let taken : front.front_folded in_world.value (arriving n w.down) ≡ record { value = halves.middle; fault = None } =
-    front-folded (arriving n w.down) in_world.value halves.middle halves.before in
+    let more : TakesMore replay AlwaysRoom IsNextIn IsNextTurn IsFit world_laws (first_value []) w in_world.value n =
+    link-takes replay AlwaysRoom IsNextIn IsNextTurn IsFit world_laws (first_value []) (pipes up0 down0) (pipes up down) w frames (counts e)
+    in_world.value n in_world.on_link in_world.is_fold in
+    let taken : front.front_folded in_world.value (arriving n w.down) ≡ record { value = more.after; fault = None } =
+    front-folded (arriving n w.down) in_world.value more.after more.coming in
     record {
-      value = halves.middle;
+      value = more.after;
       front_is =
           ap (λ state. after_take state piece) in_world.front_is
           ∙ ap (λ bytes. after_take
@@ -116,13 +115,9 @@ takes up0 down0 up down w frames e n piece in_world front_part =
             dead = false;
             panels = w.told.panels;
           }) taken
-          ∙ ap (λ rest. with_panels w.told.panels (good_front halves.middle rest (w.spent.asks + 1) w.spent.fetches))
+          ∙ ap (λ rest. with_panels w.told.panels (good_front more.after rest (w.spent.asks + 1) w.spent.fetches))
           (sym (rest-given n w.down));
-      is_fold =
-          ap (folded take_frame start) (whole-given n w.down)
-          ∙ folded-append take_frame start given (arriving n w.down)
-          ∙ ap (λ result. then_ok result (λ next. folded take_frame next (arriving n w.down))) in_world.is_fold
-          ∙ halves.before;
+      is_fold = more.is_fold;
     }
 
 -- bytes are delivered down
@@ -134,26 +129,13 @@ pub world-delivered_down : (up0 down0 up down down1 : Pipe) (w : World RunState)
 world-delivered_down up0 down0 up down down1 w frames e n there piece in_world front_part sent_is given_is left =
     let took : Takes (after_take e.front piece) w n = takes up0 down0 up down w frames e n piece in_world front_part in
     record {
-      up_is = in_world.up_is;
-      down_is = carries-get down0 down down1 piece n w.down in_world.down_is sent_is given_is front_part;
+      on_link = link-delivered_down replay AlwaysRoom IsNextIn IsNextTurn IsFit world_laws (first_value []) (pipes up0 down0)
+          (pipes up down) down1 w frames (counts e) n there piece in_world.on_link front_part sent_is given_is left;
       stands = in_world.stands;
-      back_is = in_world.back_is;
       value = took.value;
       front_is = took.front_is;
       is_fold = took.is_fold;
-      up_left = in_world.up_left;
-      down_left = left-passed n e.down_there there piece w.down in_world.down_left front_part left;
       told_is = in_world.told_is;
-      fits = record {
-        front = in_world.fits.front;
-        is_fold =
-            ap (λ bytes. folded take_frame (asks_joined join (first_value []) (frames_of (sent w.up)).whole) (frames_of bytes).whole)
-            (sent-passed n w.down)
-            ∙ in_world.fits.is_fold;
-        fit = in_world.fits.fit;
-        up_whole = in_world.fits.up_whole;
-        down_whole = ap (λ bytes. (frames_of bytes).rest) (sent-passed n w.down) ∙ in_world.fits.down_whole;
-      };
     }
 
 -- the front end meets no fault
@@ -175,24 +157,20 @@ pub world-sent_up : (up0 down0 up down up1 : Pipe) (w : World RunState) (e : End
 world-sent_up up0 down0 up down up1 w e text more front1 there in_world letters is_next front_is sent_is given_is left =
     let start = asks_joined join (first_value []) (frames_of (sent w.up)).whole in
     record {
-      up_is = carries-put up0 up up1 (framed text) w.up in_world.up_is sent_is given_is;
-      down_is = in_world.down_is;
+      on_link = link-sent_up replay AlwaysRoom IsNextIn IsNextTurn IsFit world_laws (first_value []) (pipes up0 down0) (pipes up down) up1
+          w (counts e) text more there in_world.on_link letters is_next sent_is given_is left;
       stands = in_world.stands;
-      back_is = in_world.back_is;
       value = join in_world.value text;
       front_is = front_is;
       is_fold =
           ap (λ frames. folded take_frame (asks_joined join (first_value []) frames) (frames_of w.down.given).whole)
           (ap (λ bytes. (frames_of bytes).whole) (sym (append_assoc w.up.given w.up.flying (framed text)))
-          ∙ whole-after (sent w.up) (framed text) in_world.fits.up_whole
+          ∙ whole-after (sent w.up) (framed text) in_world.on_link.fits.up_whole
           ∙ ap (λ fs. (frames_of (sent w.up)).whole ++ fs.whole) (frames_of-one text letters))
           ∙ ap (λ front. folded take_frame front (frames_of w.down.given).whole)
           (joined-append join (first_value []) (frames_of (sent w.up)).whole (text ∷ []))
           ∙ world_laws.later text start in_world.value (frames_of w.down.given).whole in_world.is_fold;
-      up_left = left ∙ ap (λ n. n + length (framed text)) in_world.up_left ∙ sym (length-append w.up.flying (framed text));
-      down_left = in_world.down_left;
       told_is = in_world.told_is;
-      fits = fits-sent_up replay AlwaysRoom IsNextIn IsNextTurn IsFit world_laws (first_value []) text more w letters is_next in_world.fits;
     }
 
 -- the ask of a line is sent
@@ -255,35 +233,17 @@ pub world-given_up : (up0 down0 up down up1 : Pipe) (w : World RunState) (e : En
     → InWorld up0 down0 up1 down (given_up n w) (arriving n w.up ++ awaited (passed n w.up))
     (record e { back_rest = rest; up_there = there })
 world-given_up up0 down0 up down up1 w e n there piece rest in_world front_part sent_is given_is left rest_is = record {
-  up_is = carries-get up0 up up1 piece n w.up in_world.up_is sent_is given_is front_part;
-  down_is = in_world.down_is;
+  on_link = link-given_up replay AlwaysRoom IsNextIn IsNextTurn IsFit world_laws (first_value []) (pipes up0 down0) (pipes up down) up1 w
+      (counts e) n there piece rest in_world.on_link front_part sent_is given_is left rest_is;
   stands = in_world.stands;
-  back_is =
-      rest_is ∙ ap (λ held. held_after held piece) in_world.back_is
-      ∙ ap (λ bytes. held_after (held w.up) bytes) front_part ∙ sym (rest-given n w.up);
   value = in_world.value;
   front_is = in_world.front_is;
   is_fold =
       ap (λ bytes. folded take_frame (asks_joined join (first_value []) (frames_of bytes).whole) (frames_of w.down.given).whole)
       (sent-passed n w.up)
       ∙ in_world.is_fold;
-  up_left = left-passed n e.up_there there piece w.up in_world.up_left front_part left;
-  down_left = in_world.down_left;
   told_is = in_world.told_is;
-  fits = fits-given_up replay AlwaysRoom IsNextIn IsNextTurn IsFit world_laws (first_value []) n w in_world.fits;
 }
-
--- what a step sends is put_last down
-down-put : (down0 down down1 : Pipe) (w : World RunState) (out bytes : List ℕ) → Carries down0 down w.down → out ≡ bytes
-    → down1.sent ≡ down.sent ++ out → down1.given ≡ down.given → Carries down0 down1 (put_last bytes w.down)
-down-put down0 down down1 w out bytes carries is sent_is given_is =
-    subst (λ piece. Carries down0 down1 (put_last piece w.down)) is (carries-put down0 down down1 out w.down carries sent_is given_is)
-
-left-put : (w : World RunState) (there left : ℕ) (out bytes : List ℕ) → left ≡ length w.down.flying → out ≡ bytes
-    → there ≡ left + length out
-    → there ≡ length (w.down.flying ++ bytes)
-left-put w there left out bytes before is after =
-    after ∙ ap (λ n. n + length out) before ∙ sym (length-append w.down.flying out) ∙ ap (λ piece. length (w.down.flying ++ piece)) is
 
 -- a frame that came up whole is answered
 pub world-answered : (up0 down0 up down down1 : Pipe) (w : World RunState) (frame : List ℕ) (frames : List (List ℕ)) (e : Ends)
@@ -292,21 +252,15 @@ pub world-answered : (up0 down0 up down down1 : Pipe) (w : World RunState) (fram
     → StandsFor seat side (step w.state.back frame).state → out ≡ (step w.state.back frame).sent
     → down1.sent ≡ down.sent ++ out → down1.given ≡ down.given → there ≡ e.down_there + length out
     → InWorld up0 down0 up down1 (answered run_step (frame ∷ []) w) frames (record e { seat = seat; side = side; down_there = there })
-world-answered up0 down0 up down down1 w frame frames e seat side out there in_world stands out_is sent_is given_is left =
-    let all : out ≡ (steps run_step w.state (frame ∷ [])).sent = out_is ∙ sym (append-nil (step w.state.back frame).sent) in
-    record {
-      up_is = in_world.up_is;
-      down_is = down-put down0 down down1 w out (steps run_step w.state (frame ∷ [])).sent in_world.down_is all sent_is given_is;
-      stands = stands;
-      back_is = in_world.back_is;
-      value = in_world.value;
-      front_is = in_world.front_is;
-      is_fold = in_world.is_fold;
-      up_left = in_world.up_left;
-      down_left = left-put w there e.down_there out (steps run_step w.state (frame ∷ [])).sent in_world.down_left all left;
-      told_is = in_world.told_is;
-      fits = fits-answered_one replay AlwaysRoom IsNextIn IsNextTurn IsFit world_laws (first_value []) frame frames w tt in_world.fits;
-    }
+world-answered up0 down0 up down down1 w frame frames e seat side out there in_world stands out_is sent_is given_is left = record {
+  on_link = link-answered replay AlwaysRoom IsNextIn IsNextTurn IsFit world_laws (first_value []) (pipes up0 down0) (pipes up down) down1 w
+      frame frames (counts e) out there in_world.on_link tt out_is sent_is given_is left;
+  stands = stands;
+  value = in_world.value;
+  front_is = in_world.front_is;
+  is_fold = in_world.is_fold;
+  told_is = in_world.told_is;
+}
 
 -- the script makes a step by itself
 pub world-turned : (up0 down0 up down down1 : Pipe) (w : World RunState) (e : Ends) (x : Turn)
@@ -316,17 +270,13 @@ pub world-turned : (up0 down0 up down down1 : Pipe) (w : World RunState) (e : En
     → down1.sent ≡ down.sent ++ out → down1.given ≡ down.given → there ≡ e.down_there + length out
     → InWorld up0 down0 up down1 (turned run_turn x w) (awaited w.up) (record e { seat = seat; side = side; down_there = there })
 world-turned up0 down0 up down down1 w e x seat side out there in_world next stands out_is sent_is given_is left = record {
-  up_is = in_world.up_is;
-  down_is = down-put down0 down down1 w out (turn x w.state.back).sent in_world.down_is out_is sent_is given_is;
+  on_link = link-turned replay AlwaysRoom IsNextIn IsNextTurn IsFit world_laws (first_value []) (pipes up0 down0) (pipes up down) down1 w x
+      (counts e) out there in_world.on_link tt next out_is sent_is given_is left;
   stands = stands;
-  back_is = in_world.back_is;
   value = in_world.value;
   front_is = in_world.front_is;
   is_fold = in_world.is_fold;
-  up_left = in_world.up_left;
-  down_left = left-put w there e.down_there out (turn x w.state.back).sent in_world.down_left out_is left;
   told_is = in_world.told_is;
-  fits = fits-turned replay AlwaysRoom IsNextIn IsNextTurn IsFit world_laws (first_value []) x w tt next in_world.fits;
 }
 
 -- ---- there is room
@@ -335,7 +285,7 @@ world-turned up0 down0 up down down1 w e x seat side out there in_world next sta
 pub world-room : (up0 down0 up down : Pipe) (w : World RunState) (frames : List (List ℕ)) (e : Ends) → InWorld up0 down0 up down w frames e
     → HasRoomLeft e.seat e.side
 world-room up0 down0 up down w frames e in_world =
-    let room : HasRoom w.state.back = fit-room w.spent in_world.fits.front w.state frames in_world.fits.fit in
+    let room : HasRoom w.state.back = fit-room w.spent in_world.on_link.fits.front w.state frames in_world.on_link.fits.fit in
     has-room-left e.seat e.side w.state.back in_world.stands room
 
 -- and at the front end
@@ -344,10 +294,28 @@ pub world-ids : (up0 down0 up down : Pipe) (w : World RunState) (frames : List (
 world-ids up0 down0 up down w frames e in_world few_fetches =
     let next : e.front.next ≡ w.spent.asks + 1 = ap (λ (f : FrontState). f.next) in_world.front_is in
     let fetches : e.front.fetches ≡ w.spent.fetches = ap (λ (f : FrontState). f.fetches) in_world.front_is in
-    let few : w.spent.asks + w.spent.raws ≤ most_frames = in_world.fits.fit.few in
+    let few : w.spent.asks + w.spent.raws ≤ most_frames = in_world.on_link.fits.fit.few in
     (omega (arith, next, few), omega (arith, fetches, few_fetches))
 
--- ---- the replies
+-- ---- the replies and the panels
+
+-- who is told of the run says nothing of the link
+on-told : (start now : Pipes) (w : World RunState) (frames : List (List ℕ)) (c : LinkCounts) (told : Audience)
+    → OnReplay start now w frames c → OnReplay start now (record w { told = told }) frames c
+on-told start now w frames c told on = record {
+  up_is = on.up_is;
+  down_is = on.down_is;
+  back_is = on.back_is;
+  up_left = on.up_left;
+  down_left = on.down_left;
+  fits = record {
+    front = on.fits.front;
+    is_fold = on.fits.is_fold;
+    fit = on.fits.fit;
+    up_whole = on.fits.up_whole;
+    down_whole = on.fits.down_whole;
+  };
+}
 
 -- what was told says nothing of the link
 pub world-told : (up0 down0 up down : Pipe) (w : World RunState) (frames : List (List ℕ)) (e : Ends) (n : AlreadyTold)
@@ -355,26 +323,13 @@ pub world-told : (up0 down0 up down : Pipe) (w : World RunState) (frames : List 
     → InWorld up0 down0 up down (record w { told = record w.told { so_far = n } }) frames
     (record e { told = n })
 world-told up0 down0 up down w frames e n in_world = record {
-  up_is = in_world.up_is;
-  down_is = in_world.down_is;
+  on_link = on-told (pipes up0 down0) (pipes up down) w frames (counts e) (record w.told { so_far = n }) in_world.on_link;
   stands = in_world.stands;
-  back_is = in_world.back_is;
   value = in_world.value;
   front_is = in_world.front_is;
   is_fold = in_world.is_fold;
-  up_left = in_world.up_left;
-  down_left = in_world.down_left;
   told_is = refl;
-  fits = record {
-    front = in_world.fits.front;
-    is_fold = in_world.fits.is_fold;
-    fit = in_world.fits.fit;
-    up_whole = in_world.fits.up_whole;
-    down_whole = in_world.fits.down_whole;
-  };
 }
-
--- ---- the panels
 
 -- nor do the panels
 pub world-panels : (up0 down0 up down : Pipe) (w : World RunState) (frames : List (List ℕ)) (e : Ends) (panels : List (Option PanelKind))
@@ -382,23 +337,12 @@ pub world-panels : (up0 down0 up down : Pipe) (w : World RunState) (frames : Lis
     → InWorld up0 down0 up down (record w { told = record w.told { panels = panels } }) frames
     (record e { front = with_panels panels e.front })
 world-panels up0 down0 up down w frames e panels in_world = record {
-  up_is = in_world.up_is;
-  down_is = in_world.down_is;
+  on_link = on-told (pipes up0 down0) (pipes up down) w frames (counts e) (record w.told { panels = panels }) in_world.on_link;
   stands = in_world.stands;
-  back_is = in_world.back_is;
   value = in_world.value;
   front_is = ap (with_panels panels) in_world.front_is;
   is_fold = in_world.is_fold;
-  up_left = in_world.up_left;
-  down_left = in_world.down_left;
   told_is = in_world.told_is;
-  fits = record {
-    front = in_world.fits.front;
-    is_fold = in_world.fits.is_fold;
-    fit = in_world.fits.fit;
-    up_whole = in_world.fits.up_whole;
-    down_whole = in_world.fits.down_whole;
-  };
 }
 
 -- ---- the start
@@ -411,15 +355,11 @@ pub world-first : (up0 down0 : Pipe) (kinds : List PanelKind) (page : LoadedPage
     (record { seat = seat; side = side; back_rest = []; front = first_state kinds; up_there = 0; down_there = 0; told = nothing_told })
 unfolding frames_of
 world-first up0 down0 kinds page seat side can texts up_level down_level stands = record {
-  up_is = carries-start up0 up_level;
-  down_is = carries-start down0 down_level;
+  on_link = link-first replay AlwaysRoom IsNextIn IsNextTurn IsFit world_laws (first_value []) (pipes up0 down0) nothing_spent
+      (audience kinds) (run_start page) up_level down_level (fit-first page can texts);
   stands = stands;
-  back_is = refl;
   value = first_value [];
   front_is = refl;
   is_fold = refl;
-  up_left = refl;
-  down_left = refl;
   told_is = refl;
-  fits = fits-loaded kinds page can texts;
 }

@@ -1,6 +1,5 @@
 pub mod KeepLemmas
 pub mod AskLemmas
-pub mod Pipes
 pub mod Replies
 pub mod Growing
 pub mod Messages

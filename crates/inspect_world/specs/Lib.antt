@@ -2,7 +2,6 @@ pub mod World
 pub mod StepBytes
 pub mod RunStates
 pub mod Keeping
-pub mod Carried
 pub mod Fits
 pub mod Held
 pub mod ShownReplies

@@ -125,6 +125,16 @@ same-both f g old new es fs same is =
     ∙ ap (λ xs. option_or (row_at f old q) (lookup (eq_by_cmp nat_cmp q) xs)) is
     ∙ sym (get-both f old es q))
 
+-- a row without numbers beside a tree without entries
+pub blank-both : (first : ℕ) (row : List (Option ℕ)) (es : List (ℕ × ℕ)) → ((q : ℕ) → row_at first row q ≡ None) → es ≡ []
+    → both first row es ≡ map.empty
+blank-both first row es blank none =
+    map.same_map nat_cmp_total map.nat_cmp-IsAntisymmetric _ _
+    (λ q. get-both first row es q
+    ∙ ap (λ o. option_or o (lookup (eq_by_cmp nat_cmp q) es)) (blank q)
+    ∙ ap (lookup (eq_by_cmp nat_cmp q)) none
+    ∙ sym (map.get-empty nat_cmp q))
+
 -- ---- the keys of a map as a set
 
 or-cond : (b x : Bool) → cond b true x ≡ (b || x)

@@ -1,6 +1,7 @@
 -- Places in a list of numbers, how often a number stands in it, and the seats of its numbers.
 use Rattle.std.proofs.Common.{◌≡◌, ℕ, zero, suc, ◌+◌, ◌<◌, ◌≤◌, ◌==◌, Bool, true, false, cond, is_some, List, [], ◌∷◌, ◌++◌, length}
-use Rattle.std.proofs.Common.{take, drop, slice_get, slice_index_or, get_or, Option, Some, None, IfSome, refl, sym, ap, subst, ◌∙◌, inl, inr, arith}
+use Rattle.std.proofs.Common.{take, drop, slice_get, slice_index_or, get_or, Option, Some, None, IfSome}
+use Rattle.std.proofs.Common.{refl, sym, ap, subst, ◌∙◌, inl, inr, arith}
 use Rattle.std.proofs.lemmas.Bool.{eq-eqb, ne_eqb, cases_eq}
 use Rattle.std.proofs.lemmas.Option.{slice_get_read}
 use Rattle.std.specs.List.{insert, remove}
@@ -158,7 +159,8 @@ seats-put seats ks n v has free x = elim (cases_eq n x) [
   | inl same ↦
       let h = has n in
       let f = ap (λ (b : Bool). cond {A = ℕ} b 1 0) free in
-      let g = ap (λ (o : Option ℕ). cond {A = ℕ} (is_some o) 1 0) (get-put seats n v n ∙ ap (λ b. cond b (Some v) (map.get seats n)) (eq-eqb n n refl)) in
+      let g = ap (λ (o : Option ℕ). cond {A = ℕ} (is_some o) 1 0) (get-put seats n v n
+      ∙ ap (λ b. cond b (Some v) (map.get seats n)) (eq-eqb n n refl)) in
       let b = ap (λ (c : Bool). cond {A = ℕ} c 1 0) (eq-eqb n n refl) in
       let all : times_in n (n ∷ ks) ≤ cond {A = ℕ} (is_some (map.get (map.insert seats n v) n)) 1 0 = omega (arith, h, f, g, b) in
       subst (λ y. times_in y (n ∷ ks) ≤ cond {A = ℕ} (is_some (map.get (map.insert seats n v) y)) 1 0) same all

@@ -186,3 +186,11 @@ row-long first row wide new place key same is =
     ap (λ xs. row_at first xs key) (same ∙ is) ∙ row-append first row (replicate (place - length row) None) key
     ∙ ap (option_or (row_at first row key)) (row-blank (first + length row) (place - length row) key)
     ∙ option_or-none _
+
+-- a row of places without a number
+pub row-fresh : (first n m : ℕ) (none_yet row : List (Option ℕ)) (key : ℕ) → none_yet ≡ []
+    → row ≡ take n none_yet ++ replicate m None → row_at first row key ≡ None
+row-fresh first n m none_yet row key empty is =
+    ap (λ xs. row_at first xs key) (is ∙ ap (λ xs. take n xs ++ replicate m None) empty
+    ∙ ap (λ xs. xs ++ replicate m None) (take_past n [] (omega arith)))
+    ∙ row-blank first m key

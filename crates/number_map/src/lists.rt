@@ -16,13 +16,16 @@ const LEAST_TURNS: usize = 256;
 /// A list bears one turn for so many of its numbers.
 const NUMBERS_A_TURN: usize = 64;
 
+/// For so many seats a number there is room at most in the row of their map.
+const MOST_ROOM: usize = 2;
+
 /// A list of numbers in which the place of a number is found in a few steps, however long it is.
 ///
 /// Up to 128 numbers are searched from the front, and each takes 8 bytes. A longer list keeps beside that where each number
-/// stood when it came: 16 bytes more a number, where they follow one another or nearly, and some more where not. A search
-/// then looks at the places near that one: at no more of them than 512 or a thirty-second of the list. A number that is put
-/// in or taken out moves those behind it, as in a `Vec`. A list in which a number stands twice is searched from the front.
-/// None of this is a clause.
+/// stood when it came, or since then: 16 to 32 bytes more a number, where they follow one another or nearly, and some more
+/// where not. A search then looks at the places near that one: at about 512 of them, or a thirty-second of the list where that
+/// is more, and mostly at few. A number that is put in or taken out moves those behind it, as in a `Vec`. A list in which a
+/// number stood twice while it was long is searched from the front. None of this is a clause.
 #[derive(Drop)]
 pub struct NumberList {
     alloc: Global,
@@ -218,7 +221,8 @@ fn has_seat(seats: &Option<Box<Seats>>, number: u64) -> bool
 
 /// Takes the seat of a number that was taken out.
 fn unseat(seats: &mut Option<Box<Seats>>, number: u64)
-    ensures { (ks : List ℕ) → IfSome seats.old (λ s. HasSeats s.value.places (number ∷ ks)) → IfSome seats.new (λ s. HasSeats s.value.places ks) }
+    ensures { (ks : List ℕ) → IfSome seats.old (λ s. HasSeats s.value.places (number ∷ ks))
+        → IfSome seats.new (λ s. HasSeats s.value.places ks) }
 {
     if let Some(seated) = seats {
         seated.places.remove(number);
@@ -256,7 +260,7 @@ fn seat_anew(seats: &mut Option<Box<Seats>>, alloc: Global, numbers: &[u64])
 fn seats_of(alloc: Global, numbers: &[u64]) -> Result<Option<Box<Seats>>, AllocError>
     ensures { IfOk result (λ seats. IfSome seats (λ s. HasSeats s.value.places numbers.now)) }
 {
-    let mut places = NumberMap::new(alloc);
+    let mut places = room_for(alloc, numbers)?;
     for i in 0..numbers.len() {
         let number = numbers[i];
         if places.get(number).is_some() {
@@ -265,4 +269,30 @@ fn seats_of(alloc: Global, numbers: &[u64]) -> Result<Option<Box<Seats>>, AllocE
         places.insert(number, i as u64)?;
     }
     Ok(Some(Box::new(alloc, Seats { places, turns: 0 })?))
+}
+
+/// A map for the seats of these numbers, without keys yet: its row begins at the least, and reaches to the greatest where that
+/// takes no more room than it may.
+fn room_for(alloc: Global, numbers: &[u64]) -> Result<NumberMap, AllocError>
+    ensures { IfOk result (λ places. places ≡ map.empty) }
+{
+    let (least, greatest) = ends(numbers);
+    let span = (greatest.saturating_sub(least) as usize).saturating_add(1);
+    let places = NumberMap::spanning(
+        alloc,
+        least,
+        span.min(numbers.len().saturating_mul(MOST_ROOM)),
+    )?;
+    Ok(places)
+}
+
+/// The least and the greatest of the numbers.
+fn ends(numbers: &[u64]) -> (u64, u64) {
+    let mut least = u64::MAX;
+    let mut greatest = 0;
+    for i in 0..numbers.len() {
+        least = least.min(numbers[i]);
+        greatest = greatest.max(numbers[i]);
+    }
+    (least, greatest)
 }

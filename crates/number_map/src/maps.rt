@@ -1,4 +1,4 @@
-ghost use Rattle.std.specs.Prelude.{◌≡◌, ◌++◌, ℕ, OnOk, OnErr};
+ghost use Rattle.std.specs.Prelude.{◌≡◌, ◌++◌, ℕ, IfOk, OnOk, OnErr};
 ghost use Rattle.std.specs.Ordering.{nat_cmp};
 ghost use Rattle.std.specs.Coded.{coded_ℕ};
 ghost use Rattle.std.specs.FinMap as map;
@@ -90,6 +90,20 @@ impl NumberMap {
             row: Row::new(alloc),
             others: BTreeMap::new(alloc),
         }
+    }
+
+    /// The map without keys, with room in its row for so many from that one on.
+    pub(crate) fn spanning(
+        alloc: Global,
+        first: u64,
+        places: usize,
+    ) -> Result<NumberMap, AllocError>
+        ensures { IfOk result (λ spanned. spanned ≡ map.empty) }
+    {
+        Ok(NumberMap {
+            row: Row::spanning(alloc, first, places)?,
+            others: BTreeMap::new(alloc),
+        })
     }
 
     /// The number under the key, if there is one.

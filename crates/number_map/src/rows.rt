@@ -33,6 +33,15 @@ impl Row {
         }
     }
 
+    /// A row without numbers, with so many places from that key on.
+    pub(crate) fn spanning(alloc: Global, first: u64, places: usize) -> Result<Row, AllocError>
+        ensures { IfOk result (λ row. (key : ℕ) → row_at row.first row.numbers.items key ≡ None) }
+    {
+        let mut numbers = Vec::new(alloc);
+        numbers.resize(places, None)?;
+        Ok(Row { first, numbers })
+    }
+
     /// The number under the key, if there is one.
     pub(crate) fn get(&self, key: u64) -> Option<u64>
         ensures { result ≡ row_at self.now.first self.now.numbers.items key }

@@ -1,18 +1,18 @@
 -- The slots of a page, and the zippers that they are seen as.
 use Rattle.std.proofs.Common.{◌≡◌, ◌⊎◌, ℕ, zero, suc, ◌+◌, ◌-◌, ◌<◌, ◌≤◌, ◌==◌, Bool, cond, List, [], ◌∷◌, length, slice_get, Option, Some}
-use Rattle.std.proofs.Common.{None, unwrap_or, IsSome, IfSome, refl, sym, ap, subst, ◌∙◌, inl, inr, arith}
+use Rattle.std.proofs.Common.{None, unwrap_or, IfSome, refl, sym, ap, subst, ◌∙◌, inl, inr, arith}
 use Rattle.std.proofs.lemmas.Bool.{eq-eqb, ne_eqb}
 use Rattle.std.specs.Option.{option_and_then, option_map, option_map_or}
 use Rattle.std.proofs.lemmas.Option.{option_and_then_some}
 use Rattle.node_tree.specs.Nodes.{Nodes, none, node, Branch, alone, tree_at, width}
 use Rattle.node_tree.specs.Keys.{tally}
 use Rattle.node_tree.specs.Arena.{Keeps}
-use Rattle.node_tree.proofs.KeyLemmas.{tally_row, tally_below, tally_cases, find-absent, found_key}
+use Rattle.node_tree.proofs.KeyLemmas.{tally_row, tally_below, tally_cases}
 use Rattle.node_tree.proofs.ChangeLemmas.{tally_in-at}
 use Rattle.node_tree.proofs.NodeLemmas.{node_count-map_rows}
 use Rattle.node_tree.proofs.ArenaLemmas.{keeps-tree_at}
 use Rattle.page_tree.specs.Forms.{max_nodes}
-use Rattle.page_tree.specs.Pages.{PageRow, row_serial, row_label, IsValid, times_in, find_in, node_at, parent_at}
+use Rattle.page_tree.specs.Pages.{PageRow, row_serial, row_label, node_at, parent_at}
 use Rattle.page_tree.specs.Zippers.{Generation, Zipper, generation_of, serial_of, zipper_of, ancestors_in, in_row, find_zipper, zipper_at}
 use Rattle.page_tree.specs.Zippers.{first_node, root_of, earlier, later, parent_of, previous_of, next_of, first_child_of}
 use Rattle.page_tree.specs.Arenas.{page_slots, slot_row, slots_in, Stored, slot_of, is_numbered, place_in, branch_in, tree_of, IsPage}
@@ -129,55 +129,10 @@ row_under : (tree : Branch PageRow) (above : List Generation) (row : Nodes PageR
 row_under tree [] row p e fits = absurd (cc)
 row_under tree (g ∷ above) row p e fits = let same : zipper_of g above ≡ p = cc in fits.0 ∙ ap (λ (z : Zipper). z.branch.children) same
 
--- ---- the place of a node among its parent's children
-
 found_at : (tree : Branch PageRow) (o : Option Zipper) (b : Branch PageRow) → option_map (λ (z : Zipper). z.branch) o ≡ Some b
     → o ≡ Some (unwrap_or o (root_of tree))
 found_at tree (Some z) b e = refl
 found_at tree None b e = absurd (cc)
-
-some_branch : (o : Option (Branch PageRow)) → IsSome o → (b : Branch PageRow) × (o ≡ Some b)
-some_branch None some = absurd (cc)
-some_branch (Some b) some = (b, refl)
-
-none_there : (n x : ℕ) → x ≡ 0 → (0 < n → 1 ≤ x) → n ≡ 0
-none_there zero x e least = refl
-none_there (suc n) x e least = absurd (let low : 1 ≤ x = least (omega arith) in omega arith)
-
--- a valid page has no serial 0
-not_at_zero : (tree : Branch PageRow) (next : ℕ) → IsValid (record { tree = tree; next = next }) → (x : ℕ) → x ≡ 0
-    → IsSome (find_in x tree) → ⊥
-not_at_zero tree next valid x zero_is some =
-    let few : times_in x tree ≡ 0 = none_there (times_in x tree) x zero_is (valid.least x) in
-    let gone : find_in x tree ≡ None = find-absent row_serial x (alone tree) (omega arith) in
-    let clash : IsSome {T = Branch PageRow} None = subst (λ (o : Option (Branch PageRow)). IsSome o) gone some in
-    absurd (cc)
-
--- the child at the place of a node is the node
-pub stands-place : (tree : Branch PageRow) (next : ℕ) → IsValid (record { tree = tree; next = next }) → (x : ℕ)
-    → IsSome (find_in x tree) → IsSome (find_in (parent_at x tree) tree)
-    → option_map (λ (b : Branch PageRow). b.row.serial)
-    (tree_at (length (zipper_at x tree).before) (node_at (parent_at x tree) tree).children) ≡ Some x
-stands-place tree next valid x live above =
-    let (b, b_is) = some_branch (find_in x tree) live in
-    let z = zipper_at x tree in
-    let found = found_at tree (find_zipper x tree) b (sym (branch-found x [] [] (alone tree)) ∙ b_is) in
-    let of = of-find tree x z found in
-    let serial_is = found_key row_serial x (alone tree) z.branch (live-of tree x z found) in
-    let by = subst (ParentBy tree z) (sym (parent_at-of tree x z found)) (parent_by tree valid.distinct z of) in
-    elim by [
-      | at_top is leads ↦ absurd (not_at_zero tree next valid (parent_at x tree) is above)
-      | under p leads same over ↦
-          let here : Nodes PageRow = node z.branch.row z.branch.children z.after in
-          let row_is = row_under tree z.above (siblings_of z.before here) p leads of in
-          let over_is = ap (λ (o : Option (Branch PageRow)). unwrap_or o tree) (live-of tree (parent_at x tree) p over) in
-          let whole = ap (λ (a : Branch PageRow). a.children) over_is ∙ sym row_is in
-          let i : length z.before ≡ length z.before + 0 = omega arith in
-          ap (λ (n : Nodes PageRow). option_map (λ (b : Branch PageRow). b.row.serial) (tree_at (length z.before) n)) whole
-          ∙ ap (λ (k : ℕ). option_map (λ (b : Branch PageRow). b.row.serial) (tree_at k (siblings_of z.before here))) i
-          ∙ ap (λ (o : Option (Branch PageRow)). option_map (λ (b : Branch PageRow). b.row.serial) o) (at-place z.before here 0)
-          ∙ ap (λ (y : ℕ). Some y) serial_is
-    ]
 
 -- ---- slots that are seen as zippers
 

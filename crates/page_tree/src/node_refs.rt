@@ -2,9 +2,8 @@
 
 ghost use Rattle.std.specs.Prelude.{◌≡◌, ◌<◌, length, option_map, Some, IsSome, slice_get};
 ghost use Rattle.node_tree.specs.Labels.{value_of};
-ghost use Rattle.node_tree.specs.Nodes.{tree_at};
 ghost use Rattle.page_tree.specs.Forms.{max_nodes};
-ghost use Rattle.page_tree.specs.Pages.{find_in, node_at, parent_at};
+ghost use Rattle.page_tree.specs.Pages.{find_in};
 ghost use Rattle.page_tree.specs.Zippers.{zipper_at, earlier, later, parent_of, previous_of, next_of, first_child_of};
 ghost use Rattle.page_tree.specs.Arenas.{slot_row};
 
@@ -53,18 +52,6 @@ impl Page {
             },
             None => unreachable!(),
         }
-    }
-
-    /// The place of the node among its parent's children, counted from 0; 0 for the document. No sibling is looked at.
-    pub fn place(&self, serial: u64) -> usize
-        requires { IsSome (find_in serial self.now.tree) }
-        ensures place { result ≡ length (zipper_at serial self.now.tree).before }
-        ensures stands { IsSome (find_in (parent_at serial self.now.tree) self.now.tree)
-            → option_map (λ b. b.row.serial) (tree_at result (node_at (parent_at serial self.now.tree) self.now.tree).children)
-            ≡ Some serial }
-    {
-        self.valid();
-        self.node_ref(serial).place()
     }
 }
 

@@ -35,7 +35,7 @@ use Rattle.pair_replay.specs.declared.two_fronts.TwoFronts.{TwoFronts}
 use Rattle.pair_replay.specs.PairAnswers.{PairRunTook, RoomTold}
 use Rattle.pair_replay.specs.Running.{InPairPlay}
 use Rattle.pair_replay.specs.Playing.{PairCarries, numbered_pair, text_unless}
-use Rattle.pair_replay.proofs.SessionSizes.{utf8-read}
+use Rattle.back_end.proofs.EditSizes.{utf8-read}
 use Rattle.pair_replay.proofs.PairTheory.{together-fewer}
 
 -- ---- a line that has a form

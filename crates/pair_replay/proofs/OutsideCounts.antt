@@ -1,9 +1,8 @@
 -- How much a frame of one client draws for the other one.
-use Rattle.std.proofs.Common.{◌≡◌, ℕ, ◌+◌, ◌*◌, ◌^◌, ◌<◌, ◌≤◌, Bool, true, false, not, ◌&&◌, cond, List, [], ◌∷◌, map, length}
-use Rattle.std.proofs.Common.{Option, Some, None, Result, Ok, Err, refl, sym, ◌∙◌, ap, subst, arith}
+use Rattle.std.proofs.Common.{◌≡◌, ℕ, ◌+◌, ◌*◌, ◌≤◌, Bool, true, false, not, ◌&&◌, cond, List, [], ◌∷◌, length}
+use Rattle.std.proofs.Common.{Option, Some, None, Result, Ok, Err, refl, sym, subst, arith}
 use Rattle.std.specs.Prelude.{⊤}
 use Rattle.page_tree.specs.Pages.{PageValue}
-use Rattle.page_tree.specs.declared.edits.TreeEdit.{TreeEdit}
 use Rattle.page_tree.specs.declared.edit_faults.EditFault.{EditFault}
 use Rattle.cdp_messages.specs.declared.command.Why.{Why}
 use Rattle.cdp_messages.specs.declared.command.Asked.{Asked}
@@ -16,85 +15,26 @@ use Rattle.cdp_messages.specs.declared.dom_edit.DomEdit.{DomEdit}
 use Rattle.cdp_messages.specs.Asked.{method_name}
 use Rattle.css_agent.specs.Edits.{CssEdited, css_edited, css_splices}
 use Rattle.style_edits.specs.declared.splice.Splice.{Splice}
-use Rattle.dom_breakpoints.specs.declared.pauses.Pause.{Pause}
-use Rattle.dom_breakpoints.specs.Pauses.{pause_of}
 use Rattle.undo_marks.specs.declared.histories.Direction.TheVariants as directions
-use Rattle.undo_marks.specs.Changes.{AllTaken}
-use Rattle.undo_marks.specs.SavedEdits.{page_after, saved_of}
 use Rattle.undo_marks.specs.declared.inverse_lists.Inverse.{Inverse}
-use Rattle.undo_marks.specs.declared.inverse_lists.Inverse.TheVariants.{Tree, Sheet}
-use Rattle.back_end.specs.Sheets.{as_book}
-use Rattle.back_end.specs.States.{Side, State, book_in, HoldsNow, IsState, TakesWell}
+use Rattle.back_end.specs.States.{Side, State, book_in, HoldsNow, IsState}
 use Rattle.back_end.specs.Plans.{Plan, node_edit_fault, node_edit_plan}
 use Rattle.back_end.specs.OwnMethods.{load_asked, act_asked}
-use Rattle.back_end.specs.Steps.{Step, with_page, pause_step, push_step, push_steps, kept_step, undo_edits, redo_edits, edit_named, lowered}
+use Rattle.back_end.specs.Steps.{Step, with_page, undo_edits, redo_edits, edit_named, lowered}
 use Rattle.back_end.specs.Steps.{serial_now, acts, loads, turn_step, Turn, needs_on, needs_css, asked_step}
 use Rattle.back_end.specs.Laws.{most_ids, tree_edits, edits_kept, HasRoom}
 use Rattle.back_end.specs.Texts.{HasServedTexts, HasTreeTexts}
 use Rattle.back_end.specs.Outside.{Outward, made, turned, unchanged, plan_outward, tree_outward, sheet_outward, taken_outward, own_outward}
-use Rattle.back_end.specs.Outside.{served_outward, asked_outward, outside_one, outside_all, outside_step}
+use Rattle.back_end.specs.Outside.{served_outward, asked_outward, outside_all, outside_step}
 use Rattle.back_end.proofs.OwnTexts.{AskedTexts}
 use Rattle.back_end.proofs.GroupCounts.{trees_in, FewEdits, few-taken}
-use Rattle.back_end.proofs.WellSteps.{Well, HasNumbers, stays, then-well, more}
-use Rattle.back_end.proofs.SpliceSteps.{splice-well}
-use Rattle.back_end.proofs.UndoSteps.{takes-splice, AllTakenIn, TakenIn, taken-rest}
+use Rattle.back_end.proofs.WellSteps.{Well, HasNumbers}
 use Rattle.back_end.proofs.TreeSteps.{AsksFor, lowered-texts, lowered-asks, named-is, node-edit-planned}
-use Rattle.back_end.proofs.StepLemmas.{Planned, script-well, with-page-is, turn-steps-well}
+use Rattle.back_end.proofs.StepLemmas.{Planned, with-page-is, turn-steps-well}
 use Rattle.back_end.proofs.FrameLemmas.{asks-for}
-use Rattle.back_end.proofs.OutsideSteps.{side_after, CanMake, IsDone, asked-done}
+use Rattle.back_end.proofs.OutsideSteps.{CanMake, IsDone, outside-well, trees-few, no-trees-among, asked-done}
 use Rattle.inspect_world.proofs.TurnLemmas.{TurnKeeps, turn-keeps}
 use Rattle.back_end.specs.Guests.{drawn_by_outside}
-
--- ---- edits of another client are well
-
--- a pause leaves the page's side as it is
-pushes-side : (o : Option ℕ) (state : State) → (push_steps o state).state.side ≡ state.side
-pushes-side None state = refl
-pushes-side (Some serial) state = refl
-
-pause-side : (o : Option Pause) (state : State) → (pause_step o state).state.side ≡ state.side
-pause-side None state = refl
-pause-side (Some p) state = pushes-side p.target (push_step p.node state).state
-
--- an edit leads it on, whoever made it
-outside-side-one : (e : Inverse) (state : State) → (outside_one e state).state.side ≡ side_after e state.side
-outside-side-one (Tree e) state =
-    ap (side_after (Tree e)) (pause-side (pause_of state.client.watched state.side.page.tree e) state)
-outside-side-one (Sheet s) state = refl
-
-kept-side-one : (e : Inverse) (state : State) → (kept_step e state).state.side ≡ side_after e state.side
-kept-side-one (Tree e) state = refl
-kept-side-one (Sheet s) state = refl
-
-outside-one-well : (e : Inverse) (state : State) → HoldsNow state → HasNumbers state
-    → 200001 * trees_in (e ∷ []) + length state.client.session.pushed < 2 ^ 52 → TakenIn e state
-    → Well state (outside_one e state) (200001 * trees_in (e ∷ [])) 0 0
-outside-one-well (Tree e) state is low ids t =
-    more (omega arith) (omega arith) (omega arith) (script-well state e is low (omega (arith, ids)) t.taken.taken t.own).0
-outside-one-well (Sheet s) state is low ids t = splice-well s state is low (takes-splice s state.side.sheets t.taken)
-
-outside-rest : (e : Inverse) (es : List Inverse) (state : State) → HoldsNow state → AllTakenIn (e ∷ es) state
-    → AllTakenIn es (outside_one e state).state
-outside-rest e es state is all =
-    let kept : AllTakenIn es (kept_step e state).state = taken-rest e es state is all in
-    subst (λ (side : Side). AllTaken page_after (TakesWell side.page.next) es (saved_of side.page.tree (as_book side.sheets)))
-    (kept-side-one e state ∙ sym (outside-side-one e state)) kept
-
-outside-well : (es : List Inverse) (state : State) → HoldsNow state → HasNumbers state
-    → 200001 * trees_in es + length state.client.session.pushed < 2 ^ 52 → AllTakenIn es state
-    → Well state (outside_all es state) (200001 * trees_in es) 0 0
-outside-well [] state is low ids all = stays state is low
-outside-well (e ∷ es) state is low ids all =
-    let first : Well state (outside_one e state) (200001 * trees_in (e ∷ [])) 0 0 =
-    outside-one-well e state is low (omega (arith, ids)) all.0 in
-    let next : HasNumbers (outside_one e state).state = record {
-      ids = omega (arith, ids, first.few_ids);
-      serials = omega (arith, low.serials, first.few_serials);
-      sheets = omega (arith, low.sheets, first.few_sheets);
-    } in
-    more (omega arith) (omega arith) (omega arith)
-    (then-well first (outside-well es (outside_one e state).state first.now next (omega (arith, ids, first.few_ids))
-    (outside-rest e es state is all)))
 
 -- ---- how many edits of the tree a frame comes to
 
@@ -102,14 +42,6 @@ outside-well (e ∷ es) state is low ids all =
 abbrev FewTrees : ℕ → Outward → Type 0
 FewTrees n (made page es) = trees_in es ≤ n + 2
 FewTrees n (turned x) = ⊤
-
-trees-few : (es : List TreeEdit) → trees_in (map (λ e. Tree e) es) ≤ length es
-trees-few [] = omega arith
-trees-few (e ∷ es) = omega (arith, trees-few es)
-
-no-trees : (ss : List Splice) → trees_in (map (λ s. Sheet s) ss) ≡ 0
-no-trees [] = refl
-no-trees (s ∷ ss) = omega (arith, no-trees ss)
 
 planned-few : (fault : Option EditFault) (e : _) (state : State) (n : ℕ)
     → (fault ≡ None → Planned state (node_edit_plan e state.side.page)) → FewTrees n (plan_outward fault e state)
@@ -130,7 +62,7 @@ tree-few method edit state n texts asks is = at (edit_named (serial_now state) (
 
 sheet-few : (r : CssEdited) (ss : List Splice) (state : State) (n : ℕ) → FewTrees n (sheet_outward r ss state)
 sheet-few (Err f) ss state n = omega arith
-sheet-few (Ok d) ss state n = omega (arith, no-trees ss)
+sheet-few (Ok d) ss state n = omega (arith, no-trees-among ss)
 
 taken-few : (o : Option (List Inverse)) (state : State) → ((es : List Inverse) → o ≡ Some es → FewEdits es state.client.marks)
     → FewTrees (tree_edits state) (taken_outward o state)

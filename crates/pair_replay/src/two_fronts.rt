@@ -38,7 +38,6 @@ pub(crate) struct ToldCounts {
 
 /// What stands at the ends of the link: the page's side with two clients, and two front ends; and what was told of each front end. The
 /// clients' seats stand for the page's side, as long as they are not dead.
-#[derive(Drop)]
 pub(crate) struct TwoFronts<P: Panel> {
     pub(crate) alloc: Global,
     pub(crate) side: PageSide,
@@ -48,6 +47,25 @@ pub(crate) struct TwoFronts<P: Panel> {
     pub(crate) first_told: ToldCounts,
     pub(crate) second_told: ToldCounts,
     ghost seated: { IsPairSeated mux side },
+}
+
+// By hand, so that who lets both ends go need not know of their parts.
+impl<P: Panel> Drop for TwoFronts<P> {
+    fn drop(self) {
+        let TwoFronts {
+            alloc: _alloc,
+            side,
+            mux,
+            ends,
+            fronts,
+            first_told: _first_told,
+            second_told: _second_told,
+        } = self;
+        drop(side);
+        drop(mux);
+        drop(ends);
+        drop(fronts);
+    }
 }
 
 // Nothing was told.

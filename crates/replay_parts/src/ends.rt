@@ -76,6 +76,7 @@ impl Ends {
         ensures count { self.old.up_there ≤ length (waiting (L.up link.old))
             → OnOk result (self.new.up_there ≡ self.old.up_there + length bytes.now) }
         ensures ends { self.new ≡ record self.old { up_there = self.new.up_there } }
+        ensures kept { OnErr result (self.new ≡ self.old) }
         ensures honest { L.honest link.old → L.honest link.new }
         ensures never { GoesWell result }
         ensures cause { StopRose (two_counts 0 0 (L.faults link.old) (L.faults link.new)) result }
@@ -99,6 +100,7 @@ impl Ends {
         ensures count { self.old.up_there ≤ length (waiting (L.up link.old))
             → OnOk result (self.new.up_there ≡ self.old.up_there + length (framed text.now)) }
         ensures ends { self.new ≡ record self.old { up_there = self.new.up_there } }
+        ensures kept { OnErr result (self.new ≡ self.old) }
         ensures honest { L.honest link.old → L.honest link.new }
         ensures never { GoesWell result }
         ensures cause { StopRose (two_counts 0 0 (L.faults link.old) (L.faults link.new)) result }
@@ -116,6 +118,7 @@ impl Ends {
         ensures count { self.old.down_there ≤ length (waiting (L.down link.old))
             → OnOk result (self.new.down_there ≡ self.old.down_there + length bytes.now) }
         ensures ends { self.new ≡ record self.old { down_there = self.new.down_there } }
+        ensures kept { OnErr result (self.new ≡ self.old) }
         ensures honest { L.honest link.old → L.honest link.new }
         ensures never { GoesWell result }
         ensures cause { StopRose (two_counts 0 0 (L.faults link.old) (L.faults link.new)) result }
@@ -136,6 +139,7 @@ impl Ends {
         ensures took { OnOk result (TookUp n (⟦<L as Watched>⟧.at link.old self.old) (⟦<L as Watched>⟧.at link.new self.new)) }
         ensures failed { UnlessMemory result (L.up link.new ≡ L.up link.old) }
         ensures down { L.down link.new ≡ L.down link.old }
+        ensures kept { UnlessMemory result (self.new ≡ self.old) }
         ensures honest { L.honest link.old → L.honest link.new }
         ensures never { GoesWell result }
         ensures cause { StopRose (two_counts 0 0 (L.faults link.old) (L.faults link.new)) result }
@@ -175,6 +179,7 @@ impl Ends {
         ensures failed { OnErr result (L.down link.new ≡ L.down link.old) }
         ensures up { L.up link.new ≡ L.up link.old }
         ensures ends { self.new ≡ record self.old { down_there = self.new.down_there } }
+        ensures kept { OnErr result (self.new ≡ self.old) }
         ensures honest { L.honest link.old → L.honest link.new }
         ensures never { GoesWell result }
         ensures cause { StopRose (two_counts 0 0 (L.faults link.old) (L.faults link.new)) result }

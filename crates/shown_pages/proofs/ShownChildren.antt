@@ -39,15 +39,15 @@ child-at serial old new (node r c t) e =
 
 module _ (mode : Mode) where
   -- the tree that stands first, shown or hidden, before what is shown of the others
-  abbrev shown_before : PageRow → Nodes PageRow → Nodes PageRow → Nodes PageRow
-  shown_before r c t = cond (hidden_in mode r.label) t (node r (shown_nodes mode c) t)
+  abbrev headed : PageRow → Nodes PageRow → Nodes PageRow → Nodes PageRow
+  headed r c t = cond (hidden_in mode r.label) t (node r (shown_nodes mode c) t)
 
   -- ---- one goes out
 
   taken_shown_at : (serial : ℕ) (old : Branch PageRow) (r : PageRow) (c t : Nodes PageRow) (b : Bool) → (r.serial == serial) ≡ b
       → cond b (Some (tree_of r c)) (child_of row_serial serial t) ≡ Some old → hidden_in mode old.row.label ≡ false
       → (child_of row_serial serial t ≡ Some old → shown_nodes mode (taken_out serial t) ≡ taken_out serial (shown_nodes mode t))
-      → shown_nodes mode (cond b t (node r c (taken_out serial t))) ≡ taken_out serial (shown_before r c (shown_nodes mode t))
+      → shown_nodes mode (cond b t (node r c (taken_out serial t))) ≡ taken_out serial (headed r c (shown_nodes mode t))
   taken_shown_at serial old r c t true is e f k =
       let same : tree_of r c ≡ old = cc in
       let g : hidden_in mode r.label ≡ false = ap (λ (o : Branch PageRow). hidden_in mode o.row.label) same ∙ f in
@@ -70,12 +70,12 @@ module _ (mode : Mode) where
   taken_hidden_at : (serial : ℕ) (old : Branch PageRow) (r : PageRow) (c t : Nodes PageRow) (b : Bool)
       → cond b (Some (tree_of r c)) (child_of row_serial serial t) ≡ Some old → hidden_in mode old.row.label ≡ true
       → (child_of row_serial serial t ≡ Some old → shown_nodes mode (taken_out serial t) ≡ shown_nodes mode t)
-      → shown_nodes mode (cond b t (node r c (taken_out serial t))) ≡ shown_before r c (shown_nodes mode t)
+      → shown_nodes mode (cond b t (node r c (taken_out serial t))) ≡ headed r c (shown_nodes mode t)
   taken_hidden_at serial old r c t true e f k =
       let same : tree_of r c ≡ old = cc in
       let g : hidden_in mode r.label ≡ true = ap (λ (o : Branch PageRow). hidden_in mode o.row.label) same ∙ f in
       rw g refl
-  taken_hidden_at serial old r c t false e f k = ap (shown_before r c) (k e)
+  taken_hidden_at serial old r c t false e f k = ap (headed r c) (k e)
 
   -- and a hidden one leaves it as it is
   pub taken-hidden : (serial : ℕ) (old : Branch PageRow) (n : Nodes PageRow) → child_of row_serial serial n ≡ Some old
@@ -87,7 +87,7 @@ module _ (mode : Mode) where
   child_shown_at : (serial : ℕ) (old : Branch PageRow) (r : PageRow) (c t : Nodes PageRow) (b : Bool) → (r.serial == serial) ≡ b
       → cond b (Some (tree_of r c)) (child_of row_serial serial t) ≡ Some old → hidden_in mode old.row.label ≡ false
       → (child_of row_serial serial t ≡ Some old → child_of row_serial serial (shown_nodes mode t) ≡ Some (shown_branch mode old))
-      → child_of row_serial serial (shown_before r c (shown_nodes mode t)) ≡ Some (shown_branch mode old)
+      → child_of row_serial serial (headed r c (shown_nodes mode t)) ≡ Some (shown_branch mode old)
   child_shown_at serial old r c t true is e f k =
       let same : tree_of r c ≡ old = cc in
       let g : hidden_in mode r.label ≡ false = ap (λ (o : Branch PageRow). hidden_in mode o.row.label) same ∙ f in
@@ -116,13 +116,13 @@ module _ (mode : Mode) where
       elim (r.serial == before) as (λ b. shown_nodes mode (cond b (node w.row w.children (node r c t)) (node r c (put_before before w t)))
       ≡ shown_nodes mode (node r c t)) [
         | true ↦ rw f refl
-        | false ↦ ap (shown_before r c) (put-hidden before w t f)
+        | false ↦ ap (headed r c) (put-hidden before w t f)
       ]
 
   put_shown_at : (before place : ℕ) (w : Branch PageRow) (r : PageRow) (c t : Nodes PageRow) → (r.serial == place) ≡ false
       → shown_nodes mode (put_before before w t) ≡ put_before place (shown_branch mode w) (shown_nodes mode t)
-      → shown_before r c (shown_nodes mode (put_before before w t))
-      ≡ put_before place (shown_branch mode w) (shown_before r c (shown_nodes mode t))
+      → headed r c (shown_nodes mode (put_before before w t))
+      ≡ put_before place (shown_branch mode w) (headed r c (shown_nodes mode t))
   put_shown_at before place w r c t other k =
       elim (hidden_in mode r.label) as (λ h. cond h (shown_nodes mode (put_before before w t))
       (node r (shown_nodes mode c) (shown_nodes mode (put_before before w t)))
@@ -155,7 +155,7 @@ module _ (mode : Mode) where
       → hidden_in mode new.row.label ≡ true
       → (child_of row_serial serial t ≡ Some old → shown_nodes mode (child_put serial new t) ≡ taken_out serial (shown_nodes mode t))
       → shown_nodes mode (cond b (node new.row new.children t) (node r c (child_put serial new t)))
-      ≡ taken_out serial (shown_before r c (shown_nodes mode t))
+      ≡ taken_out serial (headed r c (shown_nodes mode t))
   gone_at serial old new r c t true is e f h k =
       let same : tree_of r c ≡ old = cc in
       let g : hidden_in mode r.label ≡ false = ap (λ (o : Branch PageRow). hidden_in mode o.row.label) same ∙ f in
@@ -180,12 +180,12 @@ module _ (mode : Mode) where
       → cond b (Some (tree_of r c)) (child_of row_serial serial t) ≡ Some old → hidden_in mode old.row.label ≡ true
       → hidden_in mode new.row.label ≡ true
       → (child_of row_serial serial t ≡ Some old → shown_nodes mode (child_put serial new t) ≡ shown_nodes mode t)
-      → shown_nodes mode (cond b (node new.row new.children t) (node r c (child_put serial new t))) ≡ shown_before r c (shown_nodes mode t)
+      → shown_nodes mode (cond b (node new.row new.children t) (node r c (child_put serial new t))) ≡ headed r c (shown_nodes mode t)
   hidden_at serial old new r c t true e f h k =
       let same : tree_of r c ≡ old = cc in
       let g : hidden_in mode r.label ≡ true = ap (λ (o : Branch PageRow). hidden_in mode o.row.label) same ∙ f in
       rw (g, h) refl
-  hidden_at serial old new r c t false e f h k = ap (shown_before r c) (k e)
+  hidden_at serial old new r c t false e f h k = ap (headed r c) (k e)
 
   -- one that was hidden and is hidden changes nothing
   pub child-hidden : (serial : ℕ) (old new : Branch PageRow) (n : Nodes PageRow) → child_of row_serial serial n ≡ Some old
@@ -202,7 +202,7 @@ module _ (mode : Mode) where
       ≡ put_before (shown_after mode serial t) (shown_branch mode new) (shown_nodes mode t))
       → shown_nodes mode (cond b (node new.row new.children t) (node r c (child_put serial new t)))
       ≡ put_before (cond b (first_serial (shown_nodes mode t)) (shown_after mode serial t)) (shown_branch mode new)
-      (shown_before r c (shown_nodes mode t))
+      (headed r c (shown_nodes mode t))
   came_at serial old new r c t true e f h keys k =
       let same : tree_of r c ≡ old = cc in
       let g : hidden_in mode r.label ≡ true = ap (λ (o : Branch PageRow). hidden_in mode o.row.label) same ∙ f in

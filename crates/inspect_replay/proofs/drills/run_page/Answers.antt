@@ -1,8 +1,9 @@
 -- The lines of a drill are carried out, and its numbers told.
-use Rattle.std.proofs.Common.{sym, subst, map, Result}
+use Rattle.std.proofs.Common.{sym, subst, map, Result, Err}
 use Rattle.page_forms.specs.Pages.{loaded_page}
 use Rattle.inspect_world.specs.Scripts.{loaded_world, after_lines}
 use Rattle.replay_parts.specs.declared.stop.Stop.{Stop}
+use Rattle.replay_parts.proofs.CauseLemmas.{link-cause}
 use Rattle.replay_parts.specs.declared.stop.Stop.TheVariants.{Memory}
 use Rattle.replay_parts.specs.Answers.{Prints}
 use Rattle.inspect_replay.specs.Tallies.{tallied}
@@ -99,6 +100,9 @@ returns-clause-well g c = λ honest up_level down_level.
 pub returns-clause-took : goal.returns-clause-took
 returns-clause-took g c = λ honest up_level down_level.
     prints-none c.in-Err.stop _ _
+
+pub returns-clause-cause : goal.returns-clause-cause
+returns-clause-cause g c = link-cause (Err c.in-Err.stop) _ _ _ c.in-Err.ensures.cause
 
 pub returns-clause-nothing : goal.returns-clause-nothing
 returns-clause-nothing g c = writes-none c.in-Err.stop _

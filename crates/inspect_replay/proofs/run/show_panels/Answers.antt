@@ -1,15 +1,16 @@
 -- After a settle the panels show the faces of what the client sees of the page.
-use Rattle.std.proofs.Common.{rules}
+use Rattle.std.proofs.Common.{rules, Err}
 use Rattle.replay_script.specs.Forms.{show_panels}
 use Rattle.inspect_replay.specs.Prints.{numbered_line}
 use Rattle.inspect_replay.proofs.RunLemmas.{panels-carries, show-stops}
 use Rattle.inspect_replay.proofs.FollowLemmas.{kept-run}
+use Rattle.replay_parts.proofs.CauseLemmas.{link-cause, settled-cause}
 use Rattle.inspect_replay.proofs.run.show_panels.Goals as goal
 
 pub returns-in-Ok : goal.returns-in-Ok
 returns-in-Ok g c = record {
   honest = search rules;
-  cause = search rules;
+  cause = settled-cause c.print_panels.result _ _ _ _ c.in-Ok.ensures.cause c.print_panels.ensures.cause;
   follows = λ state0 up0 down0 run.
       kept-run c.print_panels.result state0 up0 down0 _ _ c.settle.new.self c.print_panels.ensures.never
       (c.in-Ok.ensures.follows state0 up0 down0 run).0;
@@ -23,7 +24,7 @@ returns-in-Ok g c = record {
 pub returns-in-Err : goal.returns-in-Err
 returns-in-Err g c = record {
   honest = search rules;
-  cause = search rules;
+  cause = link-cause (Err c.in-Err.stop) _ _ _ c.in-Err.ensures.cause;
   follows = c.in-Err.ensures.follows;
   some = tt;
   runs = λ number.

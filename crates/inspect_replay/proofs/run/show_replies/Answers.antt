@@ -4,13 +4,14 @@ use Rattle.replay_script.specs.Forms.{show_replies}
 use Rattle.inspect_replay.specs.Prints.{numbered_line}
 use Rattle.inspect_replay.proofs.RunLemmas.{Untold, show-stops, replies-carried, replies-stop}
 use Rattle.inspect_replay.proofs.FollowLemmas.{kept-run, told-run}
+use Rattle.replay_parts.proofs.CauseLemmas.{link-cause, settled-cause}
 use Rattle.replay_parts.proofs.StopLemmas.{some-printed}
 use Rattle.inspect_replay.proofs.run.show_replies.Goals as goal
 
 pub returns-in-Err : goal.returns-in-Err
 returns-in-Err g c = record {
   honest = search rules;
-  cause = search rules;
+  cause = link-cause (Err c.in-Err.stop) _ _ _ c.in-Err.ensures.cause;
   follows = c.in-Err.ensures.follows;
   some = tt;
   runs = λ number.
@@ -23,7 +24,7 @@ returns-in-Err g c = record {
 pub returns-in-Ok-print_replies : goal.returns-in-Ok-print_replies
 returns-in-Ok-print_replies g c = record {
   honest = search rules;
-  cause = search rules;
+  cause = settled-cause (Ok c.in-Ok-print_replies.field-0) _ _ _ _ c.in-Ok.ensures.cause c.in-Ok-print_replies.ensures.cause;
   follows = λ state0 up0 down0 run.
       kept-run (Ok c.in-Ok-print_replies.field-0) state0 up0 down0 _ _ c.tell_replies.new.self tt
       (told-run state0 up0 down0 _ _ c.settle.new.self c.tell_replies.new.self
@@ -49,7 +50,7 @@ returns-in-Ok-print_replies g c = record {
 pub returns-in-Err-print_replies : goal.returns-in-Err-print_replies
 returns-in-Err-print_replies g c = record {
   honest = search rules;
-  cause = search rules;
+  cause = settled-cause (Err c.in-Err-print_replies.stop) _ _ _ _ c.in-Ok.ensures.cause c.in-Err-print_replies.ensures.cause;
   follows = λ state0 up0 down0 run.
       kept-run {T = Unit {0}} (Err c.in-Err-print_replies.stop) state0 up0 down0 _ _ c.settle.new.self c.in-Err-print_replies.ensures.never
       (c.in-Ok.ensures.follows state0 up0 down0 run).0;

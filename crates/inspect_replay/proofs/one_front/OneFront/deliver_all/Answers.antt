@@ -16,7 +16,7 @@ returns-in-Ok g c = record {
       settle_goes c.deliver_down.result (g.L.Link.honest c.deliver_up.new.link) (g.L.Link.honest c.deliver_down.new.link) up0 down0
       (g.L.Link.up c.deliver_up.new.link) (g.L.Link.down c.deliver_up.new.link) (g.L.Link.up c.deliver_down.new.link)
       (g.L.Link.down c.deliver_down.new.link) w c.up_there-up.result c.deliver_up.new.self c.deliver_down.new.self
-      (c.up_there-up.ensures ∙ run.so_far.in_world.up_left) (c.in-Ok.ensures.steps up0 down0 w run).1
+      (c.up_there-up.ensures ∙ run.so_far.in_world.on_link.up_left) (c.in-Ok.ensures.steps up0 down0 w run).1
       (subst (λ n. Steps (moment (g.L.Link.honest c.deliver_up.new.link) (g.L.Link.up c.deliver_up.new.link)
       (g.L.Link.down c.deliver_up.new.link) c.deliver_up.new.self)
       (moment (g.L.Link.honest c.deliver_down.new.link) (g.L.Link.up c.deliver_down.new.link)

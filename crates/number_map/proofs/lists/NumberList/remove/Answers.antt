@@ -13,4 +13,5 @@ seat_anew-requires c =
     held-same c.turn.new.seats (λ s. s.value.places) (remove old c.args.i) c.as_slice.result.now
     (λ x. ap (times_in x) (c.as_slice.ensures.value ∙ c.remove-number.ensures.items))
     (c.turn.ensures _ (c.unseat.ensures (remove old c.args.i)
-    (held-same c.self.inside.seats (λ s. s.value.places) old (n ∷ remove old c.args.i) (λ x. times-remove x old c.args.i n at) c.self.invariant)))
+    (held-same c.self.inside.seats (λ s. s.value.places) old (n ∷ remove old c.args.i) (λ x. times-remove x old c.args.i n at)
+    c.self.invariant)))
