@@ -6,8 +6,7 @@
 // program's word where it is not `replay`. `brief` has a list of a script, which runs with a panel that shows a lie before it is told of
 // anything, and gives up at its second call.
 use crate::brief_panels::BriefPanel;
-use crate::row_parts::{Answer, list_at, number_or_zero, push_layers, text_or_empty};
-use cdp_json::texts_of;
+use crate::row_parts::{Answer, list_at, number_or_zero, push_layers, text_or_empty, texts_of};
 use front_mirror::Panel;
 use inspect_replay::{Status, exit_code, inspect, status_line};
 use pipe_frames::{Link, LyingLink, MemLink, MemSink, MemSource};

@@ -168,3 +168,15 @@ pub(crate) fn push_layers(
     }
     Ok(())
 }
+
+/// `None` where an item is no text.
+pub(crate) fn texts_of(alloc: Global, items: &[Value]) -> Result<Option<Vec<String>>, AllocError> {
+    let mut texts = Vec::new(alloc);
+    for item in items {
+        let Some(text) = item.as_str() else {
+            return Ok(None);
+        };
+        texts.push(String::from_str(alloc, text)?)?;
+    }
+    Ok(Some(texts))
+}

@@ -124,9 +124,6 @@ any_object_takes (number n) x e = absurd cc
 any_object_takes null x e = absurd cc
 any_object_takes (array ds) x e = absurd cc
 
-pub any_object_lawful : LawfulKind any_object
-any_object_lawful = record { takes = any_object_takes; again = λ x f. refl; plain = λ x f l. l }
-
 -- ---- kinds made of a kind
 
 pub refined_lawful : {T : Type 0} {k : Kind T} (test : T → Bool) → LawfulKind k → LawfulKind (refined k test)

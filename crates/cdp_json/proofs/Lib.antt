@@ -3,7 +3,6 @@ pub mod KindLaws
 pub mod RowLaws
 mod Order
 pub mod ReadBack
-pub mod SpelledLaws
 pub mod TokenTexts
 pub mod ReadTexts
 pub mod ReadPlain

@@ -24,12 +24,14 @@ mod write;
 pub use cursor::Cursor;
 pub use fields::{Field, depth_field, flag_field, int_field, list_field, object_field, text_field};
 pub use laws::read_back_law;
-pub use lists::{texts_of, whole_list, wholes_of};
+pub use lists::{whole_list, wholes_of};
 pub use token_write::{write_text_field, write_whole_field};
 pub use tokens::{
     ScanErr, is_counted, take_any_key, take_begin_array, take_begin_object, take_counted_field,
     take_end_object, take_key, take_text, take_text_field, take_whole, take_whole_field,
 };
-pub use values::{depth_of, flag_of, list_of, object_of, signed_of, text_of, whole_of};
+pub use values::{
+    COUNTED_LIMIT, depth_of, flag_of, list_of, object_of, signed_of, text_of, whole_of,
+};
 pub use whole::all_whole;
 pub use write::{ObjectBuilder, put};

@@ -1,10 +1,9 @@
-// Lists of numbers and of texts.
-ghost use Rattle.std.specs.Prelude.{◌≡◌, option_map, map, string_bytes, IfOk};
-ghost use Rattle.serde_json.specs.Find.{as_str};
+// Lists of numbers.
+ghost use Rattle.std.specs.Prelude.{◌≡◌, option_map, IfOk};
 ghost use Rattle.serde_json.specs.View.{view, items_view};
-ghost use Rattle.cdp_json.specs.Kinds.{as_whole, read_items, whole, text, list_of};
+ghost use Rattle.cdp_json.specs.Kinds.{as_whole, read_items, whole, list_of};
 
-use crate::values::{text_of, whole_of};
+use crate::values::whole_of;
 use serde_json::Value;
 use std::alloc::{AllocError, Global};
 
@@ -21,21 +20,6 @@ pub fn wholes_of(alloc: Global, items: &[Value]) -> Result<Option<Vec<u64>>, All
         numbers.push(number)?;
     }
     Ok(Some(numbers))
-}
-
-/// `None` where an item is no text.
-pub fn texts_of(alloc: Global, items: &[Value]) -> Result<Option<Vec<String>>, AllocError>
-    ensures { IfOk result (λ o. option_map (λ v. map string_bytes v.items) o
-        ≡ read_items as_str (items_view items.now)) }
-{
-    let mut texts = Vec::new(alloc);
-    for item in items {
-        let Some(text) = text_of(item) else {
-            return Ok(None);
-        };
-        texts.push(String::from_str(alloc, text)?)?;
-    }
-    Ok(Some(texts))
 }
 
 /// An array of these numbers.

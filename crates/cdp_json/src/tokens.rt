@@ -6,6 +6,7 @@ ghost use Rattle.cdp_json.specs.declared.tokens.ScanErr.TheVariants.{OtherForm};
 ghost use Rattle.cdp_json.specs.Kinds.{whole, text as text_kind, is_counted};
 ghost use Rattle.cdp_json.specs.Tokens.{field_tokens, IsOther, IsOtherKind, IsNoWhole, IsNoWholeField, IsNoTextField};
 
+use crate::values::COUNTED_LIMIT;
 use json::{Reader, Token};
 use std::alloc::{AllocError, AllocFailed};
 use thiserror::Error;
@@ -168,7 +169,7 @@ pub fn take_whole_field(reader: &mut Reader<'_>, name: &str) -> Result<u64, Scan
 pub fn is_counted(number: u64) -> bool
     ensures { result ≡ is_counted number }
 {
-    number < 1 << 53
+    number < COUNTED_LIMIT
 }
 
 /// The member of that name, which is a number from 0 to 2^53-1 spelled as it is written.

@@ -6,12 +6,18 @@ ghost use Rattle.cdp_json.specs.Kinds.{as_whole, as_depth, as_signed};
 
 use serde_json::{Map, Value};
 
+/// The numbers of a message are below this: those that a number of JavaScript holds exactly.
+pub const COUNTED_LIMIT: u64 = 1 << 53;
+
+/// The same limit, of numbers that may be negative.
+const SIGNED_LIMIT: i64 = 1 << 53;
+
 /// A whole number from 0 to 2^53-1, spelled without point and exponent.
 pub fn whole_of(value: &Value) -> Option<u64>
     ensures { result ≡ as_whole (view value.now) }
 {
     match value.as_u64() {
-        Some(n) => if n < 1 << 53 { Some(n) } else { None },
+        Some(n) => if n < COUNTED_LIMIT { Some(n) } else { None },
         None => None,
     }
 }
@@ -21,7 +27,7 @@ pub fn depth_of(value: &Value) -> Option<i64>
     ensures { result ≡ as_depth (view value.now) }
 {
     match value.as_i64() {
-        Some(n) => if n == -1 || 0 < n && n < 1 << 53 {
+        Some(n) => if n == -1 || 0 < n && n < SIGNED_LIMIT {
             Some(n)
         } else {
             None

@@ -33,12 +33,6 @@ fewer (object ms) new = shorter begin_object (members_tokens (members_outline ms
 pub fewer_left : (d : Data) (new : List Token) {left now : List Token} → now ≡ left → now ≡ data_tokens d ++ new → length new < length left
 fewer_left d new same e = subst (λ (ts : List Token). length new < length ts) (sym e ∙ same) (fewer d new)
 
--- an empty list under its name
-pub none_listed : {name : List ℕ} {old r1 r2 new : List Token} → old ≡ key name ∷ r1 → r1 ≡ begin_array ∷ r2 → after_end_array r2 ≡ Some new
-    → old ≡ field_tokens name (Some (empty_list.spell tt)) ++ new
-none_listed {name = name} {r2 = r2} {new = new} e1 e2 e3 =
-    e1 ∙ ap (λ ts. key name ∷ ts) (e2 ∙ ap (λ ts. begin_array ∷ ts) (array_ended r2 new e3))
-
 -- a list that was read whole
 pub listed_read : {T : Type 0} {k : Kind T} {start left new : List Token} {xs ys : List T} → ys ≡ xs → ListTaken k start xs left
     → after_end_array left ≡ Some new → start ≡ data_tokens ((list_of k).spell ys) ++ new

@@ -5,7 +5,7 @@ ghost use Rattle.cdp_json.specs.Left.{left};
 ghost use Rattle.cdp_json.specs.Rows.{left_with, need, may};
 ghost use Rattle.css_objects.specs.Sheets.{sheet_text, sheet_in, sheet_kind, origin_named, origin_kind, header_kind};
 
-use cdp_json::{Cursor, ObjectBuilder, text_of};
+use cdp_json::{COUNTED_LIMIT, Cursor, ObjectBuilder, text_of};
 use node_tree::Origin;
 use serde_json::Value;
 use std::alloc::{AllocError, Global};
@@ -32,7 +32,11 @@ pub fn number_in(digits: &str) -> Option<u64>
         return None;
     }
     match digits.parse::<u64>() {
-        Ok(number) => if number < 1 << 53 { Some(number) } else { None },
+        Ok(number) => if number < COUNTED_LIMIT {
+            Some(number)
+        } else {
+            None
+        },
         Err(_) => None,
     }
 }

@@ -350,9 +350,6 @@ longest_is number rest h =
     let c = number_cut (number ++ rest) (omega (arith, least, number_some number h.form)) in
     omega (arith, least, c.len, h.longest c.front c.rest c.is c.form)
 
-percent_first : (rest : List ℕ) → begins (λ c. c == 37) (37 ∷ rest) ≡ true
-percent_first rest = refl
-
 start_no_percent : (text : List ℕ) → starts_ident text ≡ true → begins (λ c. c == 37) text ≡ false
 start_no_percent [] starts = cc
 start_no_percent (c ∷ rest) starts =

@@ -97,9 +97,6 @@ pub record AsEqual (name word rest left : List ℕ) : Type 0 where
   pub on : lower (unescaped name) ≡ word → lower (unescaped rest) ≡ left
   pub back : lower (unescaped rest) ≡ left → lower (unescaped name) ≡ word
 
-pub equal_start : (name word : List ℕ) → AsEqual name word name word
-equal_start name word = record { on = λ e. e; back = λ e. e }
-
 pub skip_line : (name word rest left new : List ℕ) (n : ℕ) → begins_line rest ≡ true → n ≡ 1 + newline_len (drop 1 rest)
     → new ≡ drop n rest → AsEqual name word rest left → AsEqual name word new left
 skip_line name word [] left new n is is_n is_new so_far = absurd (cc)

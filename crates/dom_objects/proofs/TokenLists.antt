@@ -132,16 +132,6 @@ shown_written parent count id serial label o ts b r old {t1 = t1} {t2 = t2} {t3 
     (after t2 (data_tokens (array (tree_items (nodes_of ts.items)))) (tail_tokens b.row) e3 e4))
     ∙ ap (λ xs. old ++ xs) written
 
-pub hidden_written : (parent count id serial : ℕ) (label : Label) (o : Option (Vec (Branch Told) Global)) (b : Branch Told) (r : Told)
-    (old : List Token) {t1 new : List Token}
-    → told_tree parent count id serial label o ≡ b → o ≡ None → r ≡ unshown b.row → t1 ≡ old ++ head_tokens r → new ≡ t1 ++ tail_tokens r
-    → new ≡ old ++ data_tokens (tree_data b)
-hidden_written parent count id serial label o b r old {t1 = t1} {new = new} told is same head tail =
-    let e1 : t1 ≡ old ++ head_tokens b.row = head ∙ ap (λ x. old ++ head_tokens x) same in
-    let e2 : new ≡ t1 ++ tail_tokens b.row = tail ∙ ap (λ x. t1 ++ tail_tokens x) same in
-    let written = tree_tokens parent count id serial label None b (subst (λ x. told_tree parent count id serial label x ≡ b) is told) in
-    after old (head_tokens b.row) (tail_tokens b.row) e1 e2 ∙ ap (λ xs. old ++ xs) written
-
 -- ---- the items of an array
 
 abbrev pub pair_tokens : Pair → List Token

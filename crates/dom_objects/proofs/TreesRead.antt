@@ -40,19 +40,6 @@ tree_of-read m top (object ms) o e =
     (ap (children_told m) (sym (object_inside (members_of (node_row.writes (fields_of o))) ms t.0)) ∙ children_of-members m
     (fields_of o))
 
-pub tree_of-unread : (m : Manner) (top : Bool) (d : Data) → node_fields.reads d ≡ None → tree_told m top d ≡ None
-tree_of-unread m top null e = refl
-tree_of-unread m top (boolean b) e = refl
-tree_of-unread m top (number n) e = refl
-tree_of-unread m top (string s) e = refl
-tree_of-unread m top (array ds) e = refl
-tree_of-unread m top (object ms) e = ap (λ o. over (option_and_then (if_holds (tells m top)) o) (children_told m ms)) e
-
--- fields that tell no node
-pub tree_of-untold : (m : Manner) (top : Bool) (d : Data) (o : NodeObject) → node_fields.reads d ≡ Some o → tells m top o ≡ false
-    → tree_told m top d ≡ None
-tree_of-untold m top d o e f = tree_of-read m top d o e ∙ ap (λ b. over (cond b (Some o) None) (trees_of_some m o.children)) f
-
 -- fields that tell a node whose children are no nodes
 pub tree_of-childless : (m : Manner) (top : Bool) (d : Data) (o : NodeObject) (ds : Items) → node_fields.reads d ≡ Some o
     → tells m top o ≡ true → o.children ≡ Some ds → trees_of m ds ≡ None → tree_told m top d ≡ None

@@ -49,10 +49,6 @@ shifted_further : (i : ℕ) (r : Result ℕ ℕ) → shifted i (further r) ≡ s
 shifted_further i (Ok j) = let e : i + suc j ≡ i + 1 + j = omega arith in ap (λ k. Ok k) e
 shifted_further i (Err j) = let e : i + suc j ≡ i + 1 + j = omega arith in ap (λ k. Err k) e
 
-pub shifted_zero : (r : Result ℕ ℕ) → r ≡ shifted 0 r
-shifted_zero (Ok j) = let e : j ≡ 0 + j = omega arith in ap (λ k. Ok k) e
-shifted_zero (Err j) = let e : j ≡ 0 + j = omega arith in ap (λ k. Err k) e
-
 module _ (name : List ℕ) (all : List Pair) (i : ℕ) (q : Pair) (at : slice_get all i ≡ Some q)
     (so_far : search_name name all ≡ shifted i (search_name name (drop i all))) where
   opened : search_name name all ≡ shifted i

@@ -6,14 +6,6 @@ use Rattle.pipe_frames.specs.declared.outside.OutErr.{OutErr}
 use Rattle.pipe_frames.specs.declared.outside.OutErr.TheVariants.{Failed}
 use Rattle.pipe_frames.specs.Fault.{Rose, HasCause}
 
--- a count that rose after some calls rose since before them
-pub Rose-before : (start before now : ℕ) → start ≤ before → Rose before now → Rose start now
-Rose-before start before now earlier rose = omega arith
-
--- a count that rose has risen after more calls
-pub Rose-after : (before now end : ℕ) → Rose before now → now ≤ end → Rose before end
-Rose-after before now end rose later = omega arith
-
 -- the cause of the last of some calls is that of all of them, where no count rose before
 pub HasCause-before : {T S : Type 0} (start before now : ℕ) (err : OutErr)
     → before ≡ start → HasCause {T = T} before now (Err err) → HasCause {T = S} start now (Err err)

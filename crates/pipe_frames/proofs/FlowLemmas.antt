@@ -141,10 +141,6 @@ waiting-count flow count within is =
     length-drop (length (take flow.passed flow.sent)) flow.sent in
     omega (arith, gone, size, is, within)
 
--- as much waits in a lying pipe
-pub lies-wait : (place to : ℕ) (flow : Flow) → waiting (lying_pipe place to flow) ≡ waiting (pipe_of flow)
-lies-wait place to flow = ap (λ n. drop n flow.sent) (length-replaced place to (take flow.passed flow.sent))
-
 -- what waits after a put
 pub waiting-put : (old new : Pipe) (piece : List ℕ) → length old.given ≤ length old.sent → new.sent ≡ old.sent ++ piece
     → new.given ≡ old.given → length (waiting new) ≡ length (waiting old) + length piece

@@ -60,12 +60,6 @@ pub frames_of-one : (text : List ℕ) → IsText text → frames_of (framed text
 unfolding frames_of
 frames_of-one text letters = ap frames_of (sym (append-nil (framed text))) ∙ frames_of-framed text [] letters
 
--- a rest and a framed text after it are one framed text
-rest_framed : (rest text more : List ℕ) → rest ++ (framed text ++ more) ≡ framed (rest ++ text) ++ more
-rest_framed rest text more =
-    sym (append_assoc rest (framed text) more)
-    ∙ ap (λ bytes. bytes ++ more) (sym (append_assoc rest text (0 ∷ [])))
-
 -- framed texts and a rest are cut where they were joined
 pub frames_of-bytes_of : (whole : List (List ℕ)) (rest : List ℕ) → All IsText whole → IsText rest
     → frames_of (bytes_of (record { whole = whole; rest = rest })) ≡ record { whole = whole; rest = rest }
@@ -192,33 +186,6 @@ pub held_after-append : (rest first second : List ℕ)
 held_after-append rest first second =
     ap (λ bytes. (frames_of bytes).rest) (sym (append_assoc rest first second))
     ∙ ap (λ frames. frames.rest) (frames_of-append (rest ++ first) second)
-
--- the end of a text ends the frame that the rest has begun
-pub frames_from-framed : (rest text more : List ℕ) → IsText (rest ++ text)
-    → frames_from rest (framed text ++ more) ≡ (rest ++ text) ∷ frames_from [] more
-frames_from-framed rest text more letters =
-    ap (λ bytes. (frames_of bytes).whole) (rest_framed rest text more)
-    ∙ ap (λ frames. frames.whole) (frames_of-framed (rest ++ text) more letters)
-
-pub held_after-framed : (rest text more : List ℕ) → IsText (rest ++ text)
-    → held_after rest (framed text ++ more) ≡ held_after [] more
-held_after-framed rest text more letters =
-    ap (λ bytes. (frames_of bytes).rest) (rest_framed rest text more)
-    ∙ ap (λ frames. frames.rest) (frames_of-framed (rest ++ text) more letters)
-
--- more text gives no frame, and lengthens the rest
-pub frames_from-text : (rest text : List ℕ) → IsText (rest ++ text) → frames_from rest text ≡ []
-frames_from-text rest text letters = ap (λ frames. frames.whole) (frames_of-text (rest ++ text) letters)
-
-pub held_after-text : (rest text : List ℕ) → IsText (rest ++ text) → held_after rest text ≡ rest ++ text
-held_after-text rest text letters = ap (λ frames. frames.rest) (frames_of-text (rest ++ text) letters)
-
--- frames are texts, and so is the rest
-pub All-frames_from : (rest bytes : List ℕ) → All IsText (frames_from rest bytes)
-All-frames_from rest bytes = (Splits-frames_of (rest ++ bytes)).texts
-
-pub IsText-held_after : (rest bytes : List ℕ) → IsText (held_after rest bytes)
-IsText-held_after rest bytes = (Splits-frames_of (rest ++ bytes)).partial
 
 -- frames after a zero byte, given what the whole frames and the rest are now
 pub ended : (old new : List (List ℕ)) (rest left : List ℕ) → IsText rest → new ≡ old ++ rest ∷ [] → left ≡ []

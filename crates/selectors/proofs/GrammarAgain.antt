@@ -636,9 +636,6 @@ compound_again text joint all rest x c stop =
     (item_law text) fuel first.1 c.rest rest c.others c.run enough tt stop)
     ∙ ap (λ (i : Item). some_joined (compound_form joint i.0 ∷ [], i.1) (word_reading text rest)) (sym c.whole)
 
-abbrev some_joint : Joint → WordReading → Option (Joint × WordReading)
-some_joint j r = Some (j, r)
-
 -- the first word of a compound is no combinator
 compound_first : (text : List ℕ) (w : Word) (ws : List Word) (x : Item) → IsCompound text (w ∷ ws) x → combinator_of w.kind ≡ None
 compound_first text w ws x c =

@@ -40,13 +40,6 @@ record Next (text : List ℕ) (ws : List Word) (w : Word) (r : WordReading) : Ty
   words : ws ≡ w ∷ rest
   goes_on : r ≡ word_reading text rest
 
-next_takes : (text : List ℕ) (ws : List Word) (w : Word) (r : WordReading) → next_word (word_reading text ws) ≡ Some (w, r)
-    → Next text ws w r
-next_takes text [] w r e = absurd (none_some (w, r) e)
-next_takes text (v ∷ vs) w r e =
-    let same = some_is {A = Word × WordReading} (v, word_reading text vs) (w, r) e in
-    record { rest = vs; words = ap (λ (p : Word × WordReading). p.0 ∷ vs) same; goes_on = sym (ap (λ (p : Word × WordReading). p.1) same) }
-
 abbrev some_reading : WordReading → Option WordReading
 some_reading r = Some r
 

@@ -99,11 +99,6 @@ pub between_from : (text : List ℕ) (from other to : ℕ) (rs : List Range) →
 between_from text from other to [] less e = omega (arith, less, e)
 between_from text from other to (r ∷ rs) less all = (omega (arith, less, all.0), all.1, all.2)
 
-pub between_to : (text : List ℕ) (from to other : ℕ) (rs : List Range) → to ≤ other → AreBetween text from to rs
-    → AreBetween text from other rs
-between_to text from to other [] less e = omega (arith, less, e)
-between_to text from to other (r ∷ rs) less all = (all.0, all.1, between_to text r.end to other rs less all.2)
-
 -- ranges, and others behind them
 pub between_append : (text : List ℕ) (from seam to : ℕ) (rs ss : List Range) → AreBetween text from seam rs → AreBetween text seam to ss
     → AreBetween text from to (rs ++ ss)

@@ -9,13 +9,6 @@ use Rattle.css_tokens.specs.Marks.{IsCutInside, IsPieceOf}
 use Rattle.selectors.specs.declared.words.Word.{Word}
 use Rattle.selectors.specs.Words.{word_kind, word_of, passed_over, words_by, words_after, opens_word, closes, IsWordOf}
 
-opened_of : (k : TokenKind) (text : List ℕ) (start end c : ℕ) → IsCutInside k text start end → opens_word (word_kind k c) ≡ true
-    → IsCharBoundary text (start + 1)
-opened_of (tokens.Hash true) text start end c inside e = inside
-opened_of (tokens.Hash false) text start end c inside e = absurd (cc)
-opened_of tokens.Str text start end c inside e = inside.0
-opened_of _ text start end c inside e = absurd (cc)
-
 closed_of : (k : TokenKind) (text : List ℕ) (w : Word) (c : ℕ) → IsCutInside k text w.start w.end → closes text w (word_kind k c) ≡ true
     → IsCharBoundary text (w.end - 1)
 closed_of tokens.Function text w c inside e = inside
@@ -24,13 +17,6 @@ closed_of (tokens.Hash false) text w c inside e = absurd (cc)
 closed_of tokens.Str text w c inside e = inside.1 (eqb-true (slice_index text (w.end - 1)) (slice_index text w.start) e)
 closed_of _ text w c inside e = absurd (cc)
 
-pub word_cut : (text : List ℕ) (spaced : Bool) (t : Token) → IsPieceOf text t → IsWordOf text (word_of text spaced t)
-word_cut text spaced t piece = record {
-  some = piece.cut.0;
-  front = piece.cut.1;
-  back = piece.cut.2;
-  opened = opened_of t.kind text t.start t.end (slice_index text t.start) piece.inside;
-  closed = closed_of t.kind text (word_of text spaced t) (slice_index text t.start) piece.inside;
 }
 
 pub passes : (text : List ℕ) (spaced after : Bool) (t : Token) (ts : List Token) → passed_over t.kind spaced ≡ Some after

@@ -192,11 +192,6 @@ some_round : (bs : List Bracket) → has_round bs ≡ true → is_none_open bs �
 some_round [] h = cc
 some_round (b ∷ bs) h = refl
 
-round_more : (b : Bracket) (bs : List Bracket) → has_round bs ≡ true → has_round (b ∷ bs) ≡ true
-round_more Round bs h = refl
-round_more Square bs h = h
-round_more Curly bs h = h
-
 round_stays : (k : TokenKind) (bs : List Bracket) → is_round_close k ≡ false → has_round bs ≡ true → has_round (open_after bs k) ≡ true
 round_stays tokens.Function bs e h = refl
 round_stays tokens.OpenRound bs e h = refl
@@ -367,16 +362,3 @@ selectors_pass text ss found closed rest =
     words_passed text false false (pieces text) list.words (kinds_whole text) list.are_words
     (listed_free text list.words ss list.listed) [] (λ none. cc) rest
     ∙ ap (λ (bs : List Bracket). length (pieces text) + until_in stops.Block bs rest) (closed_opens [] (pieces text) closed)
-
--- Behind a list of selectors whose brackets are closed, the block begins at the first `{`.
-pub selectors_end : (text : List ℕ) (ss : List SelectorForm) → selectors_of text ≡ Some ss → nesting (pieces text) ≡ Closed
-    → (brace : Token) (rest : List Token) → brace.kind ≡ tokens.OpenCurly
-    → until stops.Block (pieces text ++ brace ∷ rest) ≡ length (pieces text)
-selectors_end text ss found closed brace rest is =
-    let list = prelude_spells text (pieces text) ss found in
-    let on = words_passed text false false (pieces text) list.words (kinds_whole text) list.are_words
-    (listed_free text list.words ss list.listed) [] (λ no. cc) (brace ∷ rest) in
-    let shut = closed_opens [] (pieces text) closed in
-    let here = stop_here stops.Block [] brace rest (ap (stops_at stops.Block) is) in
-    let last = ap (λ (bs : List Bracket). until_in stops.Block bs (brace ∷ rest)) shut in
-    omega (arith, on, last, here)

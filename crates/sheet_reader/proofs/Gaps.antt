@@ -28,18 +28,10 @@ abbrev pub AllPassed : Level → List Token → Type 0
 AllPassed level [] = Unit {0}
 AllPassed level (t ∷ ts) = (is_passed level t.kind ≡ true) × AllPassed level ts
 
-pub passed_append : (level : Level) (xs ys : List Token) → AllPassed level xs → AllPassed level ys → AllPassed level (xs ++ ys)
-passed_append level [] ys a b = b
-passed_append level (x ∷ xs) ys a b = (a.0, passed_append level xs ys a.1 b)
-
 pub passed_anywhere : (level other : Level) (k : TokenKind) → is_passed Inner k ≡ true → is_passed other k ≡ true
 passed_anywhere level other tokens.Comment e = refl
 passed_anywhere level other tokens.WhiteSpace e = refl
 passed_anywhere level other _ e = absurd (cc)
-
-pub all_anywhere : (level : Level) (ts : List Token) → AllPassed Inner ts → AllPassed level ts
-all_anywhere level [] all = tt
-all_anywhere level (t ∷ ts) all = (passed_anywhere Inner level t.kind all.0, all_anywhere level ts all.1)
 
 pub passed_top : (level : Level) (k : TokenKind) → is_passed level k ≡ true → is_passed Top k ≡ true
 passed_top Top k e = e

@@ -12,17 +12,6 @@ use Rattle.sheet_reader.specs.Grammar.{is_closing_by, is_closing, AreNested, non
 use Rattle.sheet_reader.proofs.BracketLemmas.{no_stray, stray_here}
 use Rattle.sheet_reader.proofs.ValueForms.{closes_one}
 
-swap : (a b : Bracket) → is_same a b ≡ is_same b a
-swap Round Round = refl
-swap Round Square = refl
-swap Round Curly = refl
-swap Square Round = refl
-swap Square Square = refl
-swap Square Curly = refl
-swap Curly Round = refl
-swap Curly Square = refl
-swap Curly Curly = refl
-
 pub plain_stays : (bs : List Bracket) (kind : TokenKind) → opened_by kind ≡ None → closed_by kind ≡ None → open_after bs kind ≡ bs
 plain_stays bs kind a b = ap (λ (o : Option Bracket). open_by bs o (closed_by kind)) a ∙ ap (open_by bs None) b
 

@@ -74,10 +74,6 @@ PartMoved text other f (passed t) = Unit {0}
 PartMoved text other f (at_rule keyword prelude ending) = Unit {0}
 PartMoved text other f (qualified prelude ending) = EndingMoved text other f ending
 
-abbrev pub PartsMoved : List ℕ → List ℕ → (ℕ → ℕ) → List PartForm → Type 0
-PartsMoved text other f [] = Unit {0}
-PartsMoved text other f (p ∷ ps) = PartMoved text other f p × PartsMoved text other f ps
-
 -- the pieces of all that is laid out
 abbrev pub LaidIn : ℕ → ℕ → List Laid → Type 0
 LaidIn lo hi [] = Unit {0}

@@ -27,15 +27,6 @@ body_found rules k r wanted e start end =
     subst (λ (o : Option RuleForm). IsSomeAnd o (HasBody wanted)) (sym (slice_get-map rule_seen rules k ∙ ap (option_map rule_seen) e))
     (λ i. range (start i) (end i))
 
--- a rule that can get another body is there
-pub can_within : (s : Sheet) (k : ℕ) (P : RuleForm → Type 0) → IsSomeAnd (slice_get s.rules k) P
-    → IfSome (slice_get s.rules k) P × (k < length s.rules)
-can_within s k P there = by (slice_get s.rules k) refl there
-  where
-    by : (o : Option RuleForm) → slice_get s.rules k ≡ o → IsSomeAnd o P → IfSome o P × (k < length s.rules)
-    by None e there = absurd there
-    by (Some r) e there = (there, slice_get_within s.rules k r e)
-
 -- the plan for a rule that was found, of which the body becomes a sealed text
 pub body_leads : (text put new_text : List ℕ) (old : Sheet) (body : Range) (new : NewBody) → old ≡ sheet_of text
     → new_text ≡ replaced text body put → IsSomeAnd (slice_get old.rules new.rule) (HasBody body) → is_sealed put ≡ true

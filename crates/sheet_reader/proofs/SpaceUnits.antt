@@ -59,11 +59,6 @@ pub apart_tail : (v : List ℕ) (a : ℕ) (x : List ℕ) → Apart (a ∷ x) v �
 apart_tail v a [] m = refl
 apart_tail v a (b ∷ x) m = m
 
-pub apart_drop : (v : List ℕ) (n : ℕ) (x : List ℕ) → Apart x v → Apart (drop n x) v
-apart_drop v zero x m = m
-apart_drop v (suc n) [] m = refl
-apart_drop v (suc n) (a ∷ x) m = apart_drop v n x (apart_tail v a x m)
-
 pub seam_tail : (v : List ℕ) (a : ℕ) (x : List ℕ) → over_seam x v ≡ true → over_seam (a ∷ x) v ≡ true
 seam_tail v a [] e = absurd (cc)
 seam_tail v a (b ∷ x) e = e

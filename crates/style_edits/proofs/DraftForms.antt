@@ -98,15 +98,3 @@ kept_same book olds more e there (inl same) = ap (λ (xs : List SheetEntry). old
 kept_same book olds more e there (inr pushed) =
     ap (λ (xs : List SheetEntry). olds_restored xs book) pushed ∙ restored_push olds e book
     ∙ ap (olds_restored olds) (changed_self e book there)
-
--- a sheet that is kept is changed
-pub kept_next : (book next olds more : List SheetEntry) (e : SheetEntry) (d : Draft) → IsEntry e → entry_of e.id book ≡ Some e
-    → Keeps e olds more → list_any (λ old. nat_eq old.id e.id) more ≡ true → All (IsOld book) olds → d.id ≡ e.id
-    → IfSome (entry_of d.id book) (λ x. next ≡ book_changed (with_text x d.text) book)
-    → All (IsOld next) more × (olds_restored more next ≡ olds_restored olds book)
-kept_next book next olds more e d entry there keeps kept all id changed =
-    let is = draft_next book next e d there id changed in (
-      subst (λ (b : List SheetEntry). All (IsOld b) more) (sym is)
-          (olds_stay (with_text e d.text) book more (kept_all book olds more e entry there keeps all)),
-      kept_restored (with_text e d.text) book next more kept is ∙ kept_same book olds more e there keeps,
-    )

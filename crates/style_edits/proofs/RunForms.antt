@@ -364,19 +364,10 @@ made_in x old new k body left at sealed short is own has back rule =
       rule = rule ∙ ap (λ (n : ℕ). place old.id n) (sym number) ∙ sym (ap (λ (b : Splice). place_by b (Some new)) back);
     }
 
-pub refused_range : (x : StyleEdit) (old : SheetEntry) → body_at old.text x.range ≡ None → style_in x old ≡ Err BadRange
-refused_range x old none = ap (style_by x old) none
-
 pub refused_text : (x : StyleEdit) (old : SheetEntry) (body : Range) → body_at old.text x.range ≡ Some body → is_sealed x.text ≡ false
     → style_in x old ≡ Err BadText
 refused_text x old body at opened =
     ap (style_by x old) at ∙ ap (λ (b : Bool). cond b (placed_text old body x.text) (Err BadText)) opened
-
-pub refused_size : (x : StyleEdit) (old : SheetEntry) (body : Range) → body_at old.text x.range ≡ Some body → is_sealed x.text ≡ true
-    → nat_le (length (spliced old.text body.start body.end x.text)) max_sheet_bytes ≡ false → style_in x old ≡ Err TooBig
-refused_size x old body at sealed long =
-    ap (style_by x old) at ∙ ap (λ (b : Bool). cond b (placed_text old body x.text) (Err BadText)) sealed
-    ∙ ap (λ (b : Bool). cond b (Ok (splice_at old body x.text)) (Err TooBig)) long
 
 -- ---- a sheet that is taken out of its book
 
@@ -395,11 +386,6 @@ client_there key book e found = by (entry_of key book) refl found
     by (Some x) there f =
         let same = is x x.origin f in
         (there ∙ ap (λ (y : SheetEntry). Some y) same, subst (λ (y : SheetEntry). mutable y y.origin ≡ Ok e) same f)
-
--- what stands for it may take its place
-pub client_entry : (key : ℕ) (book : List SheetEntry) → MayEdit key book → IsSomeAnd (entry_of key book) IsEntry
-client_entry key book m =
-    subst (λ (o : Option SheetEntry). IsSomeAnd o IsEntry) (sym (client_there key book m.sheet m.is).0) m.entry
 
 -- its id is one of a book
 pub client_id : (key : ℕ) (book : List SheetEntry) (m : MayEdit key book) → m.sheet.id ≡ key

@@ -22,7 +22,8 @@ returns c =
     let media = c.as_slice-media.ensures in
     let places = c.as_slice-places.ensures in
     let rule_share : IsShareOf (body_starts s.rules) stretch c.share_of_rules-rule_share.result =
-    share_seen c.as_slice-rules.result.now s.rules stretch c.share_of_rules-rule_share.result rules c.share_of_rules-rule_share.ensures.share in
+    share_seen c.as_slice-rules.result.now s.rules stretch c.share_of_rules-rule_share.result
+    rules c.share_of_rules-rule_share.ensures.share in
     let place_share : IsShareOf s.places stretch c.share_of_places-place_share.result =
     subst (λ (xs : List ℕ). IsShareOf xs stretch c.share_of_places-place_share.result) places c.share_of_places-place_share.ensures.share in
     let media_share : IsShareOf (prelude_ends s.media) stretch c.share_of_media-media_share.result =

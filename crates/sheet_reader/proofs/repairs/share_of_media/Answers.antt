@@ -13,8 +13,10 @@ returns-clause-share c =
 
 pub returns-clause-front : goal.returns-clause-front
 returns-clause-front c =
-    let fits = count_inside (λ (m : MediaRule). m.prelude.end) c.args.stretch.start c.args.rules.now in omega (arith, fits, c.preludes_up_to.ensures.count)
+    let fits = count_inside (λ (m : MediaRule). m.prelude.end) c.args.stretch.start c.args.rules.now in
+    omega (arith, fits, c.preludes_up_to.ensures.count)
 
 pub returns-clause-inside : goal.returns-clause-inside
 returns-clause-inside c =
-    let fits = count_inside (λ (m : MediaRule). m.prelude.end) c.args.stretch.end c.args.rules.now in omega (arith, fits, c.preludes_up_to-2.ensures.count)
+    let fits = count_inside (λ (m : MediaRule). m.prelude.end) c.args.stretch.end c.args.rules.now in
+    omega (arith, fits, c.preludes_up_to-2.ensures.count)
