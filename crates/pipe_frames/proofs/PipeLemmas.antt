@@ -11,14 +11,6 @@ drop-grown start now piece later extends more =
     ap (drop (length start)) (more ∙ ap (λ bytes. bytes ++ piece) extends ∙ append_assoc start (drop (length start) now) piece)
     ∙ drop_at start (drop (length start) now ++ piece) (length start) refl
 
-}
-
-}
-
-}
-
-}
-
 -- a piece that is put waits after what waits
 pub waiting-put : (now later : Pipe) (piece : List ℕ) → GivesPrefix now
     → later.sent ≡ now.sent ++ piece → later.given ≡ now.given → waiting later ≡ waiting now ++ piece

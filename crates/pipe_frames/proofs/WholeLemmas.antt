@@ -20,8 +20,6 @@ Appends-append (Some xs) (Some ys) None first second one two = absurd two
 Appends-append (Some xs) (Some ys) (Some zs) first second one two =
     two ∙ ap (λ bytes. bytes ++ second) one ∙ append_assoc xs first second
 
-}
-
 -- a sink that took a whole text took the front part of any that begins with it
 pub WrotePart-all : (before after : Option (List ℕ)) (text more : List ℕ)
     → Appends before after text → WrotePart before after (text ++ more)
@@ -62,8 +60,6 @@ Writes-more before between after piece rest count writes more = record {
       ∙ ap (λ bytes. writes.part ++ bytes) (sym (take-append-drop count rest))
       ∙ sym (append_assoc writes.part (take count rest) (drop count rest));
   wrote = Appends-append before between after writes.part (take count rest) writes.wrote more;
-}
-
 }
 
 -- no call takes nothing from a source

@@ -17,8 +17,6 @@ closed_of (tokens.Hash false) text w c inside e = absurd (cc)
 closed_of tokens.Str text w c inside e = inside.1 (eqb-true (slice_index text (w.end - 1)) (slice_index text w.start) e)
 closed_of _ text w c inside e = absurd (cc)
 
-}
-
 pub passes : (text : List ℕ) (spaced after : Bool) (t : Token) (ts : List Token) → passed_over t.kind spaced ≡ Some after
     → words_after text spaced (t ∷ ts) ≡ words_after text after ts
 unfolding words_after
