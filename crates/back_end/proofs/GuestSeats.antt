@@ -217,17 +217,5 @@ told-as o g h bytes is desk history out = subst (λ (x : Option Guest). IsTold x
 pub told-none : (o : Option Guest) (bytes : Guest → List ℕ) → o ≡ None → IsTold o o bytes
 told-none o bytes is = subst (λ (x : Option Guest). IsTold x x bytes) (sym is) tt
 
-pub left-as : (o : Option Guest) (g h : Guest) (book : List SheetEntry) → o ≡ Some g → HasLeft g.seat.desk h.seat.desk
-    → h.seat.history ≡ no_marks → h.out.items ≡ g.out.items ++ frames_of_moves (leaving g.seat.desk book) → LeavesPage o (Some h) book
-left-as o g h book is desk history out = subst (λ (x : Option Guest). LeavesPage x (Some h) book) (sym is) (desk, history, out)
-
 pub left-none : (o : Option Guest) (book : List SheetEntry) → o ≡ None → LeavesPage o o book
 left-none o book is = subst (λ (x : Option Guest). LeavesPage x x book) (sym is) tt
-
-pub come-as : (o : Option Guest) (g h : Guest) (book : List SheetEntry) → o ≡ Some g → IsAsBefore g.seat.desk h.seat.desk
-    → h.seat.history ≡ g.seat.history → h.out.items ≡ g.out.items ++ message_frames (turn_messages false g.seat.desk.css book)
-    → ComesToPage o (Some h) book
-come-as o g h book is desk history out = subst (λ (x : Option Guest). ComesToPage x (Some h) book) (sym is) (desk, history, out)
-
-pub come-none : (o : Option Guest) (book : List SheetEntry) → o ≡ None → ComesToPage o o book
-come-none o book is = subst (λ (x : Option Guest). ComesToPage x x book) (sym is) tt

@@ -214,10 +214,3 @@ pub before-sent : (state : State) (e : TreeEdit) (o : Option Pause) (old new : L
     → pause_of state.client.watched state.side.page.tree e ≡ o
     → new ≡ old ++ frames_of_moves (pause_step o state).moves → new ≡ old ++ frames_of_moves (pause_before e state).moves
 before-sent state e o old new is sent = sent ∙ ap (λ (x : Option Pause). old ++ frames_of_moves (pause_step x state).moves) (sym is)
-
--- an edit after its pause
-pub script-sent : (state : State) (e : TreeEdit) (old first new : List ℕ) → first ≡ old ++ frames_of_moves (pause_before e state).moves
-    → new ≡ first ++ frames_of_moves (edit_step e (pause_before e state).state).moves
-    → new ≡ old ++ frames_of_moves (script_step e state).moves
-script-sent state e old first new one two = frames-joined old first new (pause_before e state).moves
-    (edit_step e (pause_before e state).state).moves one two

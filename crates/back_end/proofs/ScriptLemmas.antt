@@ -175,29 +175,6 @@ lone-stands d d1 s s1 state e same fits stands =
     subst (λ o. DeskStandsFor d1 s1 (planned_step o (one_edit e state.side.page) state).state) (sym (ap edit_fault here))
     (crossed-stands d1 s1 (script_step e state).state stands)
 
-pub lone-refused : (d : Desk) (s : PageSide) (state : State) (e : TreeEdit) (f : EditFault) → s.page ≡ state.side.page
-    → first_fault e s.page.tree ≡ Some f
-    → DeskStandsFor d s state → DeskStandsFor d s (lone_step e state).state
-lone-refused d s state e f same fault stands =
-    let here : first_fault e state.side.page.tree ≡ Some f = ap (λ (p : PageValue). first_fault e p.tree) (sym same) ∙ fault in
-    subst (λ o. DeskStandsFor d s (planned_step o (one_edit e state.side.page) state).state) (sym (ap edit_fault here)) stands
-
-pub lone-sent : (s : PageSide) (state : State) (e : TreeEdit) (old new : List ℕ) → s.page ≡ state.side.page
-    → first_fault e s.page.tree ≡ None
-    → new ≡ old ++ frames_of_moves (script_step e state).moves → new ≡ old ++ frames_of_moves (lone_step e state).moves
-lone-sent s state e old new same fits sent =
-    let here : first_fault e state.side.page.tree ≡ None = ap (λ (p : PageValue). first_fault e p.tree) (sym same) ∙ fits in
-    sent ∙ ap (λ ms. old ++ frames_of_moves ms) (sym (append-nil (script_step e state).moves))
-    ∙ ap (λ o. old ++ frames_of_moves (planned_step o (one_edit e state.side.page) state).moves) (sym (ap edit_fault here))
-
-pub lone-unsent : (s : PageSide) (state : State) (e : TreeEdit) (f : EditFault) (old new : List ℕ) → s.page ≡ state.side.page
-    → first_fault e s.page.tree ≡ Some f
-    → new ≡ old → new ≡ old ++ frames_of_moves (lone_step e state).moves
-lone-unsent s state e f old new same fault sent =
-    let here : first_fault e state.side.page.tree ≡ Some f = ap (λ (p : PageValue). first_fault e p.tree) (sym same) ∙ fault in
-    sent ∙ sym (append-nil old) ∙ ap (λ o. old ++ frames_of_moves (planned_step o (one_edit e state.side.page) state).moves)
-    (sym (ap edit_fault here))
-
 -- ---- inserts
 
 pub grown-can : (page drawn_page : PageValue) (parent before : ℕ) (form : Branch Label) (tree : Branch PageRow) → IsValid page
@@ -337,11 +314,6 @@ moved-sent state serial parent before there tree page old middle new same fits t
     (sym (ap edit_fault here))
 
 -- ---- what an edit gave
-
--- the fault that an edit is refused with
-pub refused-with : {T : Type 0} (result : Result T EditErr) (fault : Option EditFault) (f : EditFault) → result ≡ Err (Fault f)
-    → RefusesEdit result fault → fault ≡ Some f
-refused-with result fault f is refuses = subst (λ r. RefusesEdit r fault) is refuses
 
 -- what stays the same then
 pub kept-with : {T : Type 0} (result : Result T EditErr) (P : Type 0) (f : EditFault) → result ≡ Err (Fault f) → OnFault result P → P

@@ -302,10 +302,3 @@ disabled-stands d d1 s s1 state id stands was same sheets_is off css_off watches
           (unknown-stands All (nodes_shown after) (nodes_shown after) (reset state.client.session) (cleared d.agent) refl
           (Stands-reset (nodes_shown state) (nodes_shown after) state.client.session d.agent stands.stands));
     })
-
-pub disabled-sent : (d : Desk) (s : PageSide) (state : State) (id : ℕ) (old middle new : List ℕ) → DeskStandsFor d s state → d.is_on ≡ true
-    → middle ≡ old ++ frames_of_moves (served_step id DomDisable state).moves → new ≡ middle ++ []
-    → new ≡ old ++ frames_of_moves (command_step id DomDisable state).moves
-disabled-sent d s state id old middle new stands was sent more =
-    more ∙ append-nil middle ∙ sent ∙ ap (λ (done : Step). old ++ frames_of_moves done.moves)
-    (sym (on-is id DomDisable state (disable-on d.is_on state.client.dom_on stands.on_is was) refl))

@@ -371,50 +371,6 @@ LoadedSoFar next medium forms i book =
     (book.entries ++ as_book (numbered_sheets book.next (drop i forms)) ≡ as_book (numbered_sheets next forms))
     × (book.next + length (drop i forms) ≡ next + length forms) × (book.medium ≡ medium)
 
-pub loaded-turn : (next i : ℕ) (medium : Medium) (forms : List SheetForm) (f : SheetForm) (book later : NumberedBook)
-    → slice_get forms i ≡ Some f
-    → LoadedSoFar next medium forms i book
-    → later ≡ record book { entries = book.entries ++ new_sheet book.next f.origin f.text ∷ []; next = book.next + 1 }
-    → LoadedSoFar next medium forms (i + 1) later
-loaded-turn next i medium forms f book later at inv is =
-    let split : drop i forms ≡ f ∷ drop (i + 1) forms = drop-at forms i f at in
-    let rest = as_book (numbered_sheets (book.next + 1) (drop (i + 1) forms)) in
-    let own : new_sheet book.next f.origin f.text ∷ rest ≡ as_book (numbered_sheets book.next (drop i forms)) =
-    ap
-    (λ (fs : List SheetForm). as_book (numbered_sheets book.next fs)) (sym split) in
-    let count : length (drop i forms) ≡ suc (length (drop (i + 1) forms)) = ap (λ (fs : List SheetForm). length fs) split in
-    let done : LoadedSoFar next medium forms (i + 1)
-    (record book { entries = book.entries ++ new_sheet book.next f.origin f.text ∷ []; next = book.next + 1 }) = (
-      append_assoc book.entries (new_sheet book.next f.origin f.text ∷ []) rest ∙ ap
-          (λ (es : List SheetEntry). book.entries ++ es) own ∙ inv.0,
-      omega (arith, count, inv.1),
-      inv.2,
-    ) in
-    subst (LoadedSoFar next medium forms (i + 1)) (sym is) done
-
-pub loaded-room : (next i : ℕ) (medium : Medium) (forms : List SheetForm) (book : NumberedBook) → next < 2 ^ 51
-    → can_hold_sheets forms ≡ true
-    → LoadedSoFar next medium forms i book → book.next < 2 ^ 52
-loaded-room next i medium forms book room can inv = let few = sheets-few forms can in omega (arith, room, few, inv.1)
-
-pub loaded-end : (next i : ℕ) (medium : Medium) (forms : List SheetForm) (book : NumberedBook) → length forms ≤ i
-    → LoadedSoFar next medium forms i book
-    → book ≡ record { entries = as_book (numbered_sheets next forms); next = next + length forms; medium = medium }
-loaded-end next i medium forms book over inv =
-    let nothing : drop i forms ≡ [] = drop-over forms i over in
-    let entries : book.entries ≡ as_book (numbered_sheets next forms) =
-    sym (append-nil book.entries) ∙ ap (λ (fs : List SheetForm). book.entries ++ as_book (numbered_sheets book.next fs))
-    (sym nothing) ∙ inv.0 in
-    let count : book.next ≡ next + length forms = let none_left = ap (λ (fs : List SheetForm). length fs) nothing in omega
-    (arith, none_left, inv.1) in
-    λ j. record { entries = entries j; next = count j; medium = inv.2 j }
-  where
-    drop-over : (fs : List SheetForm) (i : ℕ) → length fs ≤ i → drop i fs ≡ []
-    drop-over [] zero over = refl
-    drop-over [] (suc i) over = refl
-    drop-over (f ∷ fs) zero over = absurd (omega (arith, over))
-    drop-over (f ∷ fs) (suc i) over = drop-over fs i (omega (arith, over))
-
 short-at : (forms : List SheetForm) (i : ℕ) (f : SheetForm) → list_all is_short forms ≡ true → slice_get forms i ≡ Some f
     → length f.text ≤ max_sheet_bytes
 short-at [] i f all at = absurd cc
@@ -460,15 +416,6 @@ got : (fs : List SheetForm) (i : ℕ) (f : SheetForm) → i < length fs → f �
 got [] i f inside is = absurd (omega (arith, inside))
 got (x ∷ xs) zero f inside is = ap (λ (y : SheetForm). Some y) (sym is)
 got (x ∷ xs) (suc i) f inside is = got xs i f (omega (arith, inside)) is
-
-pub loaded-step : (next i : ℕ) (medium : Medium) (forms : List SheetForm) (f : SheetForm) (text : List ℕ) (book later : NumberedBook)
-    → i < length forms
-    → f ≡ get_or forms i f → text ≡ f.text → LoadedSoFar next medium forms i book
-    → later ≡ record book { entries = book.entries ++ new_sheet book.next f.origin text ∷ []; next = book.next + 1 }
-    → LoadedSoFar next medium forms (i + 1) later
-loaded-step next i medium forms f text book later inside at said inv is =
-    loaded-turn next i medium forms f book later (got forms i f inside at) inv
-    (is ∙ ap (λ (t : List ℕ). record book { entries = book.entries ++ new_sheet book.next f.origin t ∷ []; next = book.next + 1 }) said)
 
 -- no sheet of a page that may be loaded is too big
 pub loaded-fault : (next i : ℕ) (medium : Medium) (forms : List SheetForm) (f : SheetForm) (text : List ℕ) (book : NumberedBook)

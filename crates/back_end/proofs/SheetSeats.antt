@@ -115,25 +115,6 @@ css-taken command d s state stands was = ap (λ b. needs_css command && not b) (
 
 -- ---- `CSS.enable` and `CSS.disable`
 
-pub css-enabled-stands : (d d1 : Desk) (s : PageSide) (state : State) (id : ℕ) → DeskStandsFor d s state → d.is_on ≡ true
-    → d1.is_on ≡ d.is_on → d1.css ≡ true → d1.watches ≡ d.watches → d1.searches ≡ d.searches → d1.agent ≡ d.agent
-    → DeskStandsFor d1 s (command_step id CssEnable state).state
-css-enabled-stands d d1 s state id stands was on_is css_is watches_is searches_is agent_is =
-    subst (λ (done : Step). DeskStandsFor d1 s done.state)
-    (sym (on-is id CssEnable state (dom-on CssEnable d s state stands was) refl)) (record {
-      now = css-on-is state stands.now (sym stands.on_is ∙ was);
-      page_is = stands.page_is;
-      sheets_are = stands.sheets_are;
-      next_is = stands.next_is;
-      medium_is = stands.medium_is;
-      on_is = on_is ∙ stands.on_is;
-      css_is = css_is;
-      mode_is = ap (λ (b : BindingValue). b.mode) agent_is ∙ stands.mode_is;
-      watches_are = watches_is ∙ stands.watches_are;
-      searches_are = searches_is ∙ stands.searches_are;
-      stands = subst (λ a. Stands (nodes_shown state) state.client.session a) (sym agent_is) stands.stands;
-    })
-
 pub css-enabled-sent : (d : Desk) (s : PageSide) (state : State) (id : ℕ) (book : List SheetEntry) (old middle new : List ℕ)
     → DeskStandsFor d s state → d.is_on ≡ true → book ≡ s.sheets.entries
     → middle ≡ old ++ message_frames (turn_messages d.css true book) → new ≡ middle ++ framed (reply_text id Nothing)
@@ -151,53 +132,7 @@ css-enabled-sent d s state id book old middle new stands was book_is first last 
     ∙ ap (λ (done : Step). old ++ frames_of_moves done.moves)
     (sym (on-is id CssEnable state (dom-on CssEnable d s state stands was) refl))
 
-pub css-disabled-stands : (d d1 : Desk) (s : PageSide) (state : State) (id : ℕ) → DeskStandsFor d s state → d.is_on ≡ true → d.css ≡ true
-    → d1.is_on ≡ d.is_on → d1.css ≡ false → d1.watches ≡ d.watches → d1.searches ≡ d.searches → d1.agent ≡ d.agent
-    → DeskStandsFor d1 s (command_step id CssDisable state).state
-css-disabled-stands d d1 s state id stands was css_was on_is css_is watches_is searches_is agent_is =
-    subst (λ (done : Step). DeskStandsFor d1 s done.state)
-    (sym (on-is id CssDisable state (dom-on CssDisable d s state stands was) (css-taken CssDisable d s state stands css_was)))
-    (record {
-      now = css-off-is state stands.now;
-      page_is = stands.page_is;
-      sheets_are = stands.sheets_are;
-      next_is = stands.next_is;
-      medium_is = stands.medium_is;
-      on_is = on_is ∙ stands.on_is;
-      css_is = css_is;
-      mode_is = ap (λ (b : BindingValue). b.mode) agent_is ∙ stands.mode_is;
-      watches_are = watches_is ∙ stands.watches_are;
-      searches_are = searches_is ∙ stands.searches_are;
-      stands = subst (λ a. Stands (nodes_shown state) state.client.session a) (sym agent_is) stands.stands;
-    })
-
-pub css-disabled-sent : (d : Desk) (s : PageSide) (state : State) (id : ℕ) (old middle new : List ℕ) → DeskStandsFor d s state
-    → d.is_on ≡ true → d.css ≡ true
-    → middle ≡ old ++ framed (reply_text id Nothing) → new ≡ middle ++ []
-    → new ≡ old ++ frames_of_moves (command_step id CssDisable state).moves
-css-disabled-sent d s state id old middle new stands was css_was first last =
-    last ∙ append-nil middle ∙ first ∙ ap (λ bs. old ++ bs) (sym (append-nil (framed (reply_text id Nothing))))
-    ∙ ap (λ (done : Step). old ++ frames_of_moves done.moves)
-    (sym (on-is id CssDisable state (dom-on CssDisable d s state stands was) (css-taken CssDisable d s state stands css_was)))
-
 -- ---- what the CSS agent is asked
-
-pub styles-stand : (d : Desk) (s : PageSide) (state : State) (id : ℕ) (ask : CssAsk) → DeskStandsFor d s state → d.is_on ≡ true
-    → d.css ≡ true
-    → DeskStandsFor d s (command_step id (AskCss ask) state).state
-styles-stand d s state id ask stands was css_was =
-    subst (λ (done : Step). DeskStandsFor d s done.state)
-    (sym (on-is id (AskCss ask) state (dom-on (AskCss ask) d s state stands was)
-    (css-taken (AskCss ask) d s state stands css_was))) stands
-
-pub styles-sent : (d : Desk) (s : PageSide) (state : State) (id : ℕ) (ask : CssAsk) (old new : List ℕ) → DeskStandsFor d s state
-    → d.is_on ≡ true → d.css ≡ true
-    → new ≡ old ++ frames_of_moves (css_step id ask state).moves
-    → new ≡ old ++ frames_of_moves (command_step id (AskCss ask) state).moves
-styles-sent d s state id ask old new stands was css_was sent =
-    sent ∙ ap (λ (done : Step). old ++ frames_of_moves done.moves)
-    (sym (on-is id (AskCss ask) state (dom-on (AskCss ask) d s state stands was)
-    (css-taken (AskCss ask) d s state stands css_was)))
 
 -- the text of a sheet, as a reply and as the move that it is
 text-frames : (id : ℕ) (o : Option SheetEntry)
@@ -275,26 +210,6 @@ element-is d s state page named r stands page_is is =
     ∙ ap (λ (o : Option ℕ). element_serial (known_node (binding_keeper (nodes_shown state)) (page_shown state).tree b o))
     (stands.stands.serials_are named)
     ∙ ap element_serial (same-node (page_shown state) w b (serial_at w (nodes_shown state) named)))
-
-pub node-asked : (d : Desk) (s : PageSide) (state : State) (id named serial : ℕ) (page : PageValue) (book : List SheetEntry)
-    (medium : Medium) (old new : List ℕ) → DeskStandsFor d s state
-    → page ≡ s.page → book ≡ s.sheets.entries → medium ≡ s.sheets.medium → element_named named state ≡ Ok serial
-    → new ≡ old ++ frames_of_moves
-    (answer_move id (css_outcome (styled_page page.tree book medium) serial (css.GetMatchedStyles named)) ∷ [])
-    → new ≡ old ++ frames_of_moves (css_step id (css.GetMatchedStyles named) state).moves
-node-asked d s state id named serial page book medium old new stands page_is book_is medium_is is sent =
-    sent ∙ ap (λ (p : PageValue). old
-    ++ frames_of_moves
-    (answer_move id (css_outcome (styled_page p.tree book medium) serial (css.GetMatchedStyles named)) ∷ [])) (page_is ∙ stands.page_is)
-    ∙ ap (λ (b : List SheetEntry). old
-    ++ frames_of_moves
-    (answer_move id (css_outcome (styled_page state.side.page.tree b medium) serial (css.GetMatchedStyles named)) ∷ []))
-    (book_is ∙ stands.sheets_are)
-    ∙ ap (λ (m : Medium). old
-    ++ frames_of_moves
-    (answer_move id (css_outcome (styled_page state.side.page.tree (book_in state) m) serial (css.GetMatchedStyles named)) ∷ []))
-    (medium_is ∙ stands.medium_is)
-    ∙ ap (λ (r : Result ℕ Why). old ++ frames_of_moves (node_answer id (css.GetMatchedStyles named) r state ∷ [])) (sym is)
 
 pub node-refused : (state : State) (id named : ℕ) (why : Why) (old new : List ℕ) → element_named named state ≡ Err why
     → new ≡ old ++ frames_of_moves (refusing (Some id) why state).moves
@@ -401,13 +316,6 @@ once-stands d s state o c fits stands =
     subst (λ (f : Option ActFault). DeskStandsFor d s (planned_step f (restyles (c ∷ [])) state).state) (sym fits)
     (crossed d s (sheet_step c state).state stands)
 
-once-sent : (state : State) (o : Option ActFault) (c : SheetChange) (old new : List ℕ) → o ≡ None
-    → new ≡ old ++ frames_of_moves (sheet_step c state).moves
-    → new ≡ old ++ frames_of_moves (planned_step o (restyles (c ∷ [])) state).moves
-once-sent state o c old new fits sent =
-    sent ∙ ap (λ (ms : List Move). old ++ frames_of_moves ms) (sym (append-nil (sheet_step c state).moves))
-    ∙ ap (λ (f : Option ActFault). old ++ frames_of_moves (planned_step f (restyles (c ∷ [])) state).moves) (sym fits)
-
 -- a fault changes nothing
 faulty-stands : (d : Desk) (s : PageSide) (state : State) (o : Option ActFault) (f : ActFault) (deed : Deed) → o ≡ Some f
     → DeskStandsFor d s state → DeskStandsFor d s (planned_step o deed state).state
@@ -434,65 +342,10 @@ added-stands d d1 s s1 state origin text before fits stands =
     once-stands d1 s1 state (size_fault text (book_in state)) (comes origin text)
     (small-is text (book_in state) (ap (is_too_big text) (sym before.sheets_are) ∙ fits)) stands
 
-pub added-sent : (d : Desk) (s : PageSide) (state : State) (origin : Origin) (text old new : List ℕ) → DeskStandsFor d s state
-    → is_too_big text s.sheets.entries ≡ false
-    → new ≡ old ++ frames_of_moves (sheet_step (comes origin text) state).moves
-    → new ≡ old ++ frames_of_moves (act_step (act.AddSheet origin text) state).moves
-added-sent d s state origin text old new before fits sent =
-    once-sent state (size_fault text (book_in state)) (comes origin text) old new
-    (small-is text (book_in state) (ap (is_too_big text) (sym before.sheets_are) ∙ fits)) sent
-
-pub unadded-stands : (d : Desk) (s : PageSide) (state : State) (origin : Origin) (text : List ℕ) → DeskStandsFor d s state
-    → is_too_big text s.sheets.entries ≡ true
-    → DeskStandsFor d s (act_step (act.AddSheet origin text) state).state
-unadded-stands d s state origin text stands big =
-    faulty-stands d s state (size_fault text (book_in state)) (Sheet TooBig) (restyles (comes origin text ∷ []))
-    (big-is text (book_in state) (ap (is_too_big text) (sym stands.sheets_are) ∙ big)) stands
-
-pub unadded-sent : (d : Desk) (s : PageSide) (state : State) (origin : Origin) (text old : List ℕ) → DeskStandsFor d s state
-    → is_too_big text s.sheets.entries ≡ true
-    → old ≡ old ++ frames_of_moves (act_step (act.AddSheet origin text) state).moves
-unadded-sent d s state origin text old stands big =
-    faulty-sent state (size_fault text (book_in state)) (Sheet TooBig) (restyles (comes origin text ∷ [])) old
-    (big-is text (book_in state) (ap (is_too_big text) (sym stands.sheets_are) ∙ big))
-
 -- the sheet that is meant is that of the state
 named-here : (d : Desk) (s : PageSide) (state : State) (sheet : List ℕ) (o : Option SheetEntry) → DeskStandsFor d s state
     → sheet_named sheet s.sheets.entries ≡ o → sheet_named sheet (book_in state) ≡ o
 named-here d s state sheet o stands is = ap (sheet_named sheet) (sym stands.sheets_are) ∙ is
-
--- a sheet goes
-pub dropped-stands : (d : Desk) (s s1 : PageSide) (state : State) (sheet : List ℕ) (e : SheetEntry) → DeskStandsFor d s state
-    → sheet_named sheet s.sheets.entries ≡ Some e
-    → DeskStandsFor d s1 (sheet_step (leaves e.id) state).state → DeskStandsFor d s1 (act_step (act.DropSheet sheet) state).state
-dropped-stands d s s1 state sheet e before is stands =
-    subst (λ (o : Option SheetEntry). DeskStandsFor d s1 (planned_step (drop_fault o) (restyles (dropping o)) state).state)
-    (sym (named-here d s state sheet (Some e) before is))
-    (once-stands d s1 state None (leaves e.id) refl stands)
-
-pub dropped-sent : (d : Desk) (s : PageSide) (state : State) (sheet : List ℕ) (e : SheetEntry) (old new : List ℕ) → DeskStandsFor d s state
-    → sheet_named sheet s.sheets.entries ≡ Some e
-    → new ≡ old ++ frames_of_moves (sheet_step (leaves e.id) state).moves
-    → new ≡ old ++ frames_of_moves (act_step (act.DropSheet sheet) state).moves
-dropped-sent d s state sheet e old new before is sent =
-    once-sent state None (leaves e.id) old new refl sent
-    ∙ ap (λ (o : Option SheetEntry). old ++ frames_of_moves (planned_step (drop_fault o) (restyles (dropping o)) state).moves)
-    (sym (named-here d s state sheet (Some e) before is))
-
-pub undropped-stands : (d : Desk) (s : PageSide) (state : State) (sheet : List ℕ) → DeskStandsFor d s state
-    → sheet_named sheet s.sheets.entries ≡ None
-    → DeskStandsFor d s (act_step (act.DropSheet sheet) state).state
-undropped-stands d s state sheet stands is =
-    subst (λ (o : Option SheetEntry). DeskStandsFor d s (planned_step (drop_fault o) (restyles (dropping o)) state).state)
-    (sym (named-here d s state sheet None stands is)) stands
-
-pub undropped-sent : (d : Desk) (s : PageSide) (state : State) (sheet old : List ℕ) → DeskStandsFor d s state
-    → sheet_named sheet s.sheets.entries ≡ None
-    → old ≡ old ++ frames_of_moves (act_step (act.DropSheet sheet) state).moves
-undropped-sent d s state sheet old stands is =
-    sym (append-nil old)
-    ∙ ap (λ (o : Option SheetEntry). old ++ frames_of_moves (planned_step (drop_fault o) (restyles (dropping o)) state).moves)
-    (sym (named-here d s state sheet None stands is))
 
 -- ---- a sheet in the place of another
 
@@ -532,26 +385,6 @@ replaced-sent d s state sheet text e old middle new before is fits first second 
     ∙ ap (λ (o : Option SheetEntry). old
     ++ frames_of_moves (planned_step (replace_fault text (book_in state) o) (restyles (replacing text o)) state).moves)
     (sym (named-here d s state sheet (Some e) before is))
-
-pub unreplaced-stands : (d : Desk) (s : PageSide) (state : State) (sheet text : List ℕ) (o : Option SheetEntry) (f : ActFault)
-    → DeskStandsFor d s state → sheet_named sheet s.sheets.entries ≡ o
-    → replace_fault text s.sheets.entries o ≡ Some f → DeskStandsFor d s (act_step (act.ReplaceSheet sheet text) state).state
-unreplaced-stands d s state sheet text o f stands is fault =
-    let here : replace_fault text (book_in state) (sheet_named sheet (book_in state)) ≡ Some f =
-    ap (λ (es : List SheetEntry). replace_fault text es (sheet_named sheet es)) (sym stands.sheets_are) ∙ ap
-    (replace_fault text s.sheets.entries) is ∙ fault in
-    faulty-stands d s state (replace_fault text (book_in state) (sheet_named sheet (book_in state))) f
-    (restyles (replacing text (sheet_named sheet (book_in state)))) here stands
-
-pub unreplaced-sent : (d : Desk) (s : PageSide) (state : State) (sheet text : List ℕ) (o : Option SheetEntry) (f : ActFault) (old : List ℕ)
-    → DeskStandsFor d s state → sheet_named sheet s.sheets.entries ≡ o
-    → replace_fault text s.sheets.entries o ≡ Some f → old ≡ old ++ frames_of_moves (act_step (act.ReplaceSheet sheet text) state).moves
-unreplaced-sent d s state sheet text o f old stands is fault =
-    let here : replace_fault text (book_in state) (sheet_named sheet (book_in state)) ≡ Some f =
-    ap (λ (es : List SheetEntry). replace_fault text es (sheet_named sheet es)) (sym stands.sheets_are) ∙ ap
-    (replace_fault text s.sheets.entries) is ∙ fault in
-    faulty-sent state (replace_fault text (book_in state) (sheet_named sheet (book_in state))) f
-    (restyles (replacing text (sheet_named sheet (book_in state)))) old here
 
 -- the fault of one that does not fit, and of one that does
 pub big-fault : (sheet text : List ℕ) (es : List SheetEntry) (e : SheetEntry) → sheet_named sheet es ≡ Some e

@@ -68,9 +68,6 @@ found-saved n (s ∷ ss) x h = at (n == s.number) refl h (λ k. found-saved n ss
         read = rest.read;
       }
 
-number-at : (n : ℕ) (ss : List ShownSheet) (x : SavedSheet) (f : Found n ss x) → x.number ≡ n
-number-at n ss x f = ap (λ (y : SavedSheet). y.number) (sym f.saved) ∙ entry_id n (as_book ss) f.entry f.found
-
 pub takes-splice : (s : Splice) (ss : List ShownSheet) → TakesSheet s (map saved_sheet (as_book ss)) → TakesSplice s (as_book ss)
 takes-splice s ss t =
     let f = found-saved s.sheet ss t.sheet t.found in

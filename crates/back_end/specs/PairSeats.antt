@@ -56,7 +56,7 @@ NewPairsStand = (mux : Mux) (side : PageSide) (page : LoadedPage) → CanLoadPag
 
 -- ---- seats that change hands
 
--- a seat that nothing has used yet
+-- a seat that nothing has used yet, and that is alive
 pub record IsUnused (seat : Seat) : Type 0 where
   pub off : seat.desk.is_on ≡ false
   pub css : seat.desk.css ≡ false
@@ -64,6 +64,7 @@ pub record IsUnused (seat : Seat) : Type 0 where
   pub watches_are : seat.desk.watches ≡ unwatched
   pub searches_are : seat.desk.searches ≡ no_searches
   pub history_is : seat.history ≡ no_marks
+  pub alive : seat.is_dead ≡ false
 
 -- a guest that has that seat, and was told nothing yet
 abbrev pub IsGuestAt : Seat → Option Guest → Type 0

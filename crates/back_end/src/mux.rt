@@ -23,16 +23,13 @@ ghost use Rattle.back_end.specs.PairSeats.{WasToldOf, IsRenewed};
 use crate::faults::ActFault;
 use crate::guest::Guest;
 use crate::load_scan::{LoadFrame, load_in};
-use crate::seat::Seat;
+use crate::seat::{END_OF_NUMBERS, Seat};
 use crate::side::PageSide;
 use cdp_messages::{Asked, ReadErr, read_command, read_session_command};
 use page_forms::{Act, PageForm};
 use session_mux::{Routed, Router, tag};
 use std::alloc::{AllocError, Global};
 use std::mem;
-
-/// No session gets this number, or one above it.
-const END_OF_SESSIONS: u64 = 1 << 50;
 
 /// The seats of two clients at one page's side, whose frames come by one pipe: the root's, and that of the session that is attached, if
 /// one is. After want of memory it is dead: each later call that can answer want of memory does.
@@ -55,6 +52,7 @@ impl Mux {
         ensures searches { (result.root.desk.searches ≡ no_searches) × (result.second.desk.searches ≡ no_searches) }
         ensures histories { (result.root.history ≡ no_marks) × (result.second.history ≡ no_marks) }
         ensures sessions { result.router ≡ no_sessions }
+        ensures seats { (result.root.is_dead ≡ false) × (result.second.is_dead ≡ false) }
         ensures alive { result.is_dead ≡ false }
     {
         Mux {
@@ -73,7 +71,7 @@ impl Mux {
     {
         let root = self.root.has_room(side);
         let second = self.second.has_room(side);
-        root && second && self.router.next() < END_OF_SESSIONS
+        root && second && self.router.next() < END_OF_NUMBERS
     }
 
     /// Whether an earlier call answered want of memory.

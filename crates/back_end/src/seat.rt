@@ -30,8 +30,8 @@ use page_forms::{Act, PageForm};
 use std::alloc::{AllocError, Global};
 use undo_marks::History;
 
-/// The least number that is no id, no serial and no number of a sheet or a search with room behind it for another step.
-const LIMIT: u64 = 1 << 50;
+/// The least number that is no id, no serial and no number of a sheet, a search or a session with room behind it for another step.
+pub(crate) const END_OF_NUMBERS: u64 = 1 << 50;
 
 /// The least number of edits of a history that has no place for another step.
 const MOST_EDITS: u128 = 1 << 30;
@@ -67,10 +67,10 @@ impl Seat {
     pub fn has_room(&self, side: &PageSide) -> bool
         ensures { IsTrue result ↔ HasRoomLeft self.now side.now }
     {
-        self.desk.agent.next_id() < LIMIT
-            && side.page.next_serial() < LIMIT
-            && side.sheets.next_number() < LIMIT
-            && self.desk.searches.next() < LIMIT
+        self.desk.agent.next_id() < END_OF_NUMBERS
+            && side.page.next_serial() < END_OF_NUMBERS
+            && side.sheets.next_number() < END_OF_NUMBERS
+            && self.desk.searches.next() < END_OF_NUMBERS
             && self.history.kept() < MOST_EDITS
     }
 

@@ -11,6 +11,7 @@ ghost use Rattle.style_edits.specs.Splices.{FitsSplice, after_splice, back_splic
 ghost use Rattle.back_end.specs.Sheets.{as_book, numbered_sheets};
 ghost use Rattle.page_forms.specs.Sheets.{can_hold_sheets, max_sheet_bytes};
 
+use cdp_json::COUNTED_LIMIT;
 use cdp_messages::CssEdit;
 use css_agent::CssAgent;
 use media_rules::Medium;
@@ -20,9 +21,6 @@ use sheet_reader::{Origin, SheetBook};
 use std::alloc::{AllocError, Global};
 use std::marker::Model;
 use style_edits::{SheetErr, SheetFault, Splice, add_sheet, drop_sheet, put_back};
-
-/// No sheet has this number, or one above it.
-const END_OF_NUMBERS: u64 = 1 << 53;
 
 /// Whether a sheet may not have this text.
 fn is_too_long(text: &str) -> bool
@@ -157,7 +155,7 @@ impl PageSheets {
             Err(SheetErr::Memory) => {
                 // Asked for the proof alone: each number of a book is below the last.
                 let _ = self.book.place_of(0);
-                self.next = END_OF_NUMBERS;
+                self.next = COUNTED_LIMIT;
                 return Err(SheetErr::Memory);
             }
         };

@@ -4,7 +4,7 @@
 
 use crate::row_parts::{Answer, number_or_zero, push_layers, text_or_empty, value_of};
 use page_tree::{LoadErr, Page, read_nodes};
-use select_match::{Subject, all_matches, element_places, first_match, matches_subject};
+use select_match::{Subject, all_matches, first_match, matches_subject};
 use selectors::{SelErr, SelectorList, read_selectors};
 use serde_json::Value;
 use std::alloc::{AllocError, Global};
@@ -110,7 +110,7 @@ fn push_found(
     Ok(())
 }
 
-/// Whether the first selector matches the node with that serial, as a subject with its places.
+/// Whether the first selector matches the node with that serial, as a subject.
 fn push_tried(
     alloc: Global,
     page: &Page,
@@ -123,8 +123,7 @@ fn push_tried(
         return Ok(());
     }
     let node = page.node_ref(serial);
-    let places = element_places(&node);
-    let mut subject = Subject::placed(alloc, node, places)?;
+    let mut subject = Subject::new(alloc, node)?;
     answer.push_shown(&matches_subject(list.at(0), &mut subject));
     Ok(())
 }

@@ -69,17 +69,6 @@ mark_more text ps q marks is low =
 abbrev Measures : List SheetEntry → SheetRuler → Type 0
 Measures book r = (e : SheetEntry) → entry_of r.sheet book ≡ Some e → r.ruler ≡ e.text
 
--- a ruler that stands there measures the text of the entry with its id
-pub ruler_there : (book : List SheetEntry) (rs : List SheetRuler) (i : ℕ) (e : SheetEntry) → AreRulers book rs
-    → entry_of e.id book ≡ Some e → option_map (λ (r : SheetRuler). r.sheet) (slice_get rs i) ≡ Some e.id
-    → option_map (λ (r : SheetRuler). r.ruler) (slice_get rs i) ≡ Some e.text
-ruler_there book [] i e rulers there is = let bad : ◌≡◌ {A = Option ℕ} None (Some e.id) = is in cc
-ruler_there book (r ∷ rs) zero e rulers there is =
-    let same : ◌≡◌ {A = Option ℕ} (Some r.sheet) (Some e.id) = is in
-    let id : r.sheet ≡ e.id = cc in
-    ap (λ (t : List ℕ). Some t) (All-head (Measures book) r rs rulers e (ap (λ (n : ℕ). entry_of n book) id ∙ there))
-ruler_there book (r ∷ rs) (suc i) e rulers there is = ruler_there book rs i e (All-tail (Measures book) r rs rulers) there is
-
 -- the ruler of an entry measures its text
 measured : (book : List SheetEntry) (r : SheetRuler) (e : SheetEntry) → r.sheet ≡ e.id → r.ruler ≡ e.text → entry_of e.id book ≡ Some e
     → Measures book r
@@ -87,15 +76,6 @@ measured book r e id text there f is =
     let same : ◌≡◌ {A = Option SheetEntry} (Some f) (Some e) = sym is ∙ ap (λ (n : ℕ). entry_of n book) id ∙ there in
     let one : e ≡ f = cc in
     text ∙ ap (λ (x : SheetEntry). x.text) one
-
--- one ruler more
-pub ruler_more : (book : List SheetEntry) (rs : List SheetRuler) (r : SheetRuler) (e : SheetEntry) → AreRulers book rs
-    → r.sheet ≡ e.id → r.ruler ≡ e.text → entry_of e.id book ≡ Some e → AreRulers book (rs ++ r ∷ [])
-ruler_more book [] r e rulers id text there =
-    All-cons (Measures book) r [] (measured book r e id text there) (All-nil (Measures book))
-ruler_more book (q ∷ rs) r e rulers id text there =
-    All-cons (Measures book) q (rs ++ r ∷ []) (All-head (Measures book) q rs rulers)
-    (ruler_more book rs r e (All-tail (Measures book) q rs rulers) id text there)
 
 -- a ruler that measures a text there is one of them
 pub ruler_inside : (rs : List SheetRuler) (i : ℕ) (text : List ℕ)

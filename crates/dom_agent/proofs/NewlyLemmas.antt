@@ -114,12 +114,6 @@ abbrev pub all_levelled : List Opening → List ℕ
 all_levelled [] = []
 all_levelled (x ∷ xs) = levelled (less x.levels) x.node.children ++ all_levelled xs
 
-all_levelled-append : (xs ys : List Opening) → all_levelled (xs ++ ys) ≡ all_levelled xs ++ all_levelled ys
-all_levelled-append [] ys = refl
-all_levelled-append (x ∷ xs) ys =
-    ap (λ l. levelled (less x.levels) x.node.children ++ l) (all_levelled-append xs ys) ∙ sym
-    (append_assoc (levelled (less x.levels) x.node.children) (all_levelled xs) (all_levelled ys))
-
 module _ (n : Nodes PageRow) (document : Branch PageRow) where
   pub pushed-all : (xs : List Opening) (o : ℕ → Bool) (pushed : List ℕ) (since : ℕ)
       → (all_opened (session_keeper n) document xs (session_of o pushed since)).state.pushed ≡ pushed ++ anew_all n o xs

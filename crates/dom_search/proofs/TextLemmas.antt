@@ -10,13 +10,6 @@ and_false : (a : Bool) → (a && false) ≡ false
 and_false true = refl
 and_false false = refl
 
--- a text that is shorter than the part does not begin with it
-pub begins-short : (part text : List ℕ) → length text < length part → starts_with nat_eq text part ≡ false
-begins-short [] text h = absurd (omega (arith, h))
-begins-short (b ∷ part) [] h = refl
-begins-short (b ∷ part) (c ∷ text) h =
-    ap (λ (t : Bool). nat_eq b c && t) (begins-short part text (omega (arith, h))) ∙ and_false (nat_eq b c)
-
 -- where it does not begin with the part, the text has it where the rest has it
 pub lowered-more : (part text : List ℕ) (i : ℕ) → i < length text → starts_with nat_eq (lowered (drop i text)) part ≡ false
     → has_lowered part (drop (i + 1) text) ≡ has_lowered part (drop i text)

@@ -93,9 +93,6 @@ pub record Drawing (all left : ℕ) (divs : List Div) (levels : List ℕ) (x : �
   pub divs_are : divs ++ next_divs left levels x ≡ next_divs all (body_level ∷ []) all
   pub at : after_divs left x ≡ after_divs all all
 
-pub drawing-first : (all : ℕ) → Drawing all all [] (body_level ∷ []) all
-drawing-first all = record { levels_are = levels-first; divs_are = refl; at = refl }
-
 pub drawing-next : (all left : ℕ) (divs : List Div) (levels : List ℕ) (x : ℕ) → Drawing all (suc left) divs levels x
     → Drawing all left (divs ++ next_div levels x ∷ []) (levels ++ (next_div levels x).level ∷ []) (next_number (next_number x))
 drawing-next all left divs levels x d = record {

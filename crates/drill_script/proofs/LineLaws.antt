@@ -38,12 +38,6 @@ turns-next divs r x k e h =
     ap (λ n. turns divs n r x) left
     ∙ ap (λ j. turn_lines j divs x ++ turns divs (min divs most_turns - (r + 1)) (r + 1) (after_turn j x)) e
 
--- behind the last turn
-pub turns-last : (divs r x : ℕ) → min divs most_turns ≤ r → turns_from divs r x ≡ settle ∷ []
-turns-last divs r x h =
-    let left : min divs most_turns - r ≡ 0 = omega arith in
-    ap (λ n. turns divs n r x) left
-
 -- a turn of one line, as code carries it out
 pub turn-is : (result : Result Line AllocError) (divs r x k : ℕ) (line : LineForm) (now : Course) → r % 4 ≡ k → r < min divs most_turns
     → turn_lines k divs x ≡ line ∷ [] → IfOk result (λ l. seen l ≡ line) → left_of now ≡ turns_from divs (r + 1) (after_turn k x)
@@ -62,7 +56,3 @@ turn-three (Err e) divs r x is low said = tt
 turn-three (Ok l) divs r x is low said =
     turns-next divs r x 3 is low
     ∙ ap (λ f. f ∷ up (drawn x 64) ∷ down (drawn (next_number x) 4096) ∷ turns_from divs (r + 1) (next_number (next_number x))) (sym said)
-
--- the four kinds of turns
-pub last-kind : (r : ℕ) → r % 4 ≢ 0 → r % 4 ≢ 1 → r % 4 ≢ 2 → r % 4 ≡ 3
-last-kind r a b c = omega arith

@@ -28,9 +28,6 @@ use Rattle.drill_script.proofs.NodeLaws.{nodes-load, AreDigits, page-digits, num
 digits-short : (n : ℕ) → n < 2 ^ 64 → length (decimal n) ≤ 20
 digits-short n h = length-decimal-le 20 n (omega arith) (omega arith) h
 
-digits-utf8 : (n : ℕ) → n < 2 ^ 64 → IsUtf8 (decimal n)
-digits-utf8 n h = IsUtf8-from_ascii (decimal n) (IsAscii-decimal n h)
-
 rule-short : (r : ℕ) → r < 2 ^ 64 → length (rule_line r) ≤ 200
 rule-short r h =
     simp length-append (omega (arith, digits-short (r % 8) (omega arith), digits-short (r % 5 + 1) (omega arith), digits-short r h))

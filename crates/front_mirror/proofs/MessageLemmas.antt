@@ -75,29 +75,11 @@ news_fit bytes d e read is = message_fits (json_of bytes) (event (news_of e)) (r
 node_alone : (b : Branch Told) → fits_tree false b ≡ true → fits_nodes (alone b) ≡ true
 node_alone b e = both e refl
 
-pub show_fits : (e : Event) (parent : ℕ) (nodes : Vec (Branch Told) Global) → fits_news (news_of e) ≡ true → e ≡ SetChildNodes parent nodes
-    → fits_edit (edit.Show nodes) ≡ true
-show_fits e parent nodes fits is =
-    let f : fits_news (set_children parent (nodes_of nodes.items)) ≡ true = ap (λ (e : Event). fits_news (news_of e)) (sym is) ∙ fits in
-    both (and_left (fits_nodes (nodes_of nodes.items)) _ f) refl
-
 pub insert_fits : (e : Event) (parent previous : ℕ) (b : Branch Told) → fits_news (news_of e) ≡ true
     → e ≡ ChildNodeInserted parent previous b → fits_edit (edit.Insert previous b) ≡ true
 insert_fits e parent previous b fits is =
     let f : fits_news (inserted parent previous b) ≡ true = ap (λ (e : Event). fits_news (news_of e)) (sym is) ∙ fits in
     both (node_alone b (and_left (fits_tree false b) (shows_no_children b) (and_left (fits_tree false b && shows_no_children b) _ f))) refl
-
-pub set_fits : (e : Event) (id : ℕ) (name value : List ℕ) → fits_news (news_of e) ≡ true → e ≡ AttributeModified id name value
-    → fits_edit (edit.SetAttribute name value) ≡ true
-set_fits e id name value fits is =
-    let f : fits_news (attribute_modified id name value) ≡ true = ap (λ (e : Event). fits_news (news_of e)) (sym is) ∙ fits in
-    and_left (is_attribute_name name) _ f
-
-pub drop_fits : (e : Event) (id : ℕ) (name : List ℕ) → fits_news (news_of e) ≡ true → e ≡ AttributeRemoved id name
-    → fits_edit (edit.DropAttribute name) ≡ true
-drop_fits e id name fits is =
-    let f : fits_news (attribute_removed id name) ≡ true = ap (λ (e : Event). fits_news (news_of e)) (sym is) ∙ fits in
-    and_left (is_attribute_name name) _ f
 
 unread : (bytes : List ℕ) → (IsUtf8 bytes → ⊥) → (b : Bool) → is_utf8 bytes ≡ b → cond b (read bytes) None ≡ None
 unread bytes wrong true is = absurd (wrong (IsUtf8-from_is_utf8 bytes is))

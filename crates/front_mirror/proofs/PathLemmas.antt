@@ -114,17 +114,6 @@ one_becomes f x count after old new was is made k =
     (λ e. let same : x ≡ k = eqb-true x k e in
     ap Some is ∙ ap (option_map f) was ∙ ap (λ q. option_map f (numbers.get old q)) same)
 
--- no number is none
-pub none_becomes : (f : ℕ → ℕ) (x : ℕ) (old : numbers.FinMap nat_cmp ℕ) → None ≡ numbers.get old x
-    → BecomesOn (λ k. x == k) f (numbers.get old) (numbers.get old)
-none_becomes f x old was k = at (x == k) refl where
-  at : (v : Bool) → (x == k) ≡ v → numbers.get old k ≡ cond v (option_map f (numbers.get old k)) (numbers.get old k)
-  at true e =
-      let same : x ≡ k = eqb-true x k e in
-      let gone : numbers.get old k ≡ None = ap (numbers.get old) (sym same) ∙ sym was in
-      gone ∙ ap (option_map f) (sym gone)
-  at false e = refl
-
 -- ---- what the code does
 
 module _ (n : Nodes Seen) (mirror : IsMirror n) (id parent : ℕ) (f : ℕ → ℕ) (p : Some parent ≡ parent_of seen_id id 0 n)

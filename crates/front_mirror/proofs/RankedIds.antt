@@ -290,13 +290,6 @@ module _ (id : ℕ) (n m : Nodes Seen) (was : IsMirror n) (is : IsMirror m) (b :
 
 -- ---- where an edit changes the ids
 
--- a child that is put in comes first, or behind a child
-pub sibling_there : (b : Branch Seen) (previous : ℕ) (w : Branch Seen) → suits_change (inserts previous w) b ≡ true
-    → (previous == 0 || has_tree previous b.children) ≡ true
-sibling_there b previous w suits =
-    let s = and_true (is_opened b.row.hold && (previous == 0 || has_tree previous b.children)) (not (is_opened w.row.hold)) suits in
-    (and_true (is_opened b.row.hold) (previous == 0 || has_tree previous b.children) s.0).1
-
 -- a child that leaves is one
 pub child_there : (b : Branch Seen) (child : ℕ) → suits_change (removes child) b ≡ true → has_tree child b.children ≡ true
 child_there b child suits = (and_true (is_opened b.row.hold) (has_tree child b.children) suits).1

@@ -134,12 +134,6 @@ module _ (ss : List Shelf) (i : ℕ) (s : Shelf) (within : i < length ss) (is : 
       let f = ap (number_place id) next-rest ∙ place-behind id s.ids (ids_in (drop (i + 1) ss)) past2 in
       omega (arith, e, sized, is_sum, f)
 
-pub first-end : (ss : List Shelf) (i id before all : ℕ) → length ss ≤ i → before + number_place id (ids_in (drop i ss)) ≡ all → before ≡ all
-first-end ss i id before all past e =
-    let none : ids_in (drop i ss) ≡ [] = ap (λ (l : List Shelf). ids_in l) (drop_all i ss past) in
-    let f : number_place id (ids_in (drop i ss)) ≡ 0 = ap (number_place id) none in
-    omega (arith, e, f)
-
 -- ---- shelves taken out and put in
 
 module _ {A : Type 0} where
@@ -197,14 +191,6 @@ module _ {A : Type 0} where
     where
       around : (a b c d e : List A) → a ++ (((b ++ c) ++ d) ++ e) ≡ (a ++ b) ++ (c ++ (d ++ e))
       around a b c d e = simp append_assoc
-
-pub removed-rest : (ss : List Shelf) (start : ℕ) (s : Shelf) → start < length ss → s ≡ get_or ss start s → (ids new all : List ℕ)
-    → new ≡ ids ++ s.ids → ids ++ ids_in (drop start ss) ≡ all → new ++ ids_in (drop start (remove ss start)) ≡ all
-removed-rest ss start s within is ids new all made before =
-    ap (λ (l : List Shelf). new ++ ids_in l) (drop-removed start ss)
-    ∙ ap (λ (l : List ℕ). l ++ ids_in (drop (start + 1) ss)) made
-    ∙ append_assoc ids s.ids (ids_in (drop (start + 1) ss))
-    ∙ ap (λ (l : List ℕ). ids ++ l) (sym (next-rest ss start s within is)) ∙ before
 
 -- where no shelf is left, all ids behind the first shelves were taken out
 pub enough-end : (ss now : List Shelf) (start wanted : ℕ) (ids : List ℕ) → length now ≤ start

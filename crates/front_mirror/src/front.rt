@@ -28,10 +28,10 @@ use std::alloc::{AllocError, Global};
 use std::marker::Model;
 
 /// The first id that no ask may have, which is that of the first fetch.
-const ASK_LIMIT: u64 = 1 << 30;
+pub const ASK_LIMIT: u64 = 1 << 30;
 
-/// The first id that no fetch may have.
-const FETCH_LIMIT: u64 = 1 << 52;
+/// The first id that no fetch may have, which is that of the first command that attaches or detaches a session.
+pub const FETCH_LIMIT: u64 = 1 << 52;
 
 /// The command that fetches the text of a sheet.
 const FETCH: &str = "CSS.getStyleSheetText";

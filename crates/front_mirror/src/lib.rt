@@ -43,7 +43,7 @@ mod table_walks;
 mod told;
 
 pub use faults::{FrontErr, FrontFault, FrontKind};
-pub use front::Front;
+pub use front::{ASK_LIMIT, FETCH_LIMIT, Front};
 pub use laws::{front_law, move_law};
 pub use line_texts::mirror_line;
 pub use lines::write_node_line;

@@ -471,13 +471,6 @@ fetch_known result honest honest1 up0 down0 up down up1 down1 w e e1 number run 
     subst (λ v. GoesWell result × OnOk result (InRun honest1 up0 down0 up1 down1 v e1))
     (sym (fetched-is honest up0 down0 up down w e number true run is)) goes
 
-pub fetch_unknown : {P : Type 0} {g : Ghosts P} (honest : Type 0) (up0 down0 up down : Pipe) (w : World RunState) (e : OneFront P g)
-    (number : ℕ)
-    → InRun honest up0 down0 up down w e → has_sheet number e.front.value.sheets ≡ false
-    → InRun honest up0 down0 up down (fetched_if replay front_fetcher (front_in replay (first_value []) w) number w) e
-fetch_unknown honest up0 down0 up down w e number run is =
-    subst (λ v. InRun honest up0 down0 up down v e) (sym (fetched-is honest up0 down0 up down w e number false run is)) run
-
 -- while texts are fetched: where the run is, and that it goes to where it would have gone
 pub record Fetching {P : Type 0} {g : Ghosts P} (honest : Type 0) (up0 down0 up down : Pipe) (target : World RunState) (numbers : List ℕ)
     (e : OneFront P g) : Type 0 where

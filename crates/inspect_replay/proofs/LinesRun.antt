@@ -50,11 +50,6 @@ prints-took (Ok value) sink0 sink1 link0 link1 before after text cause well prin
 prints-took (Err stop) sink0 sink1 link0 link1 before after text cause well printed = part-took stop sink0 sink1 link0 link1 before after
     text cause well printed
 
-pub printed-prints : (result : Result (Unit {0}) Stop) (before after : Option (List ℕ)) (text : List ℕ)
-    → OnOk result (Appends before after text) → OnErr result (WrotePart before after text) → Prints result before after text
-printed-prints (Ok value) before after text ok err = ok
-printed-prints (Err stop) before after text ok err = err
-
 -- a line that drops no panel and shows no matched styles lacks nothing
 pub plain-lacking : (there : ℕ → Bool) (panels : List (Option PanelKind)) (form : LineForm) → closed_by form ≡ None
     → styles_ask form ≡ None → want_fault there panels form ≡ None

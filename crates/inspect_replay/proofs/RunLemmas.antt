@@ -78,10 +78,6 @@ use Rattle.inspect_world.proofs.Ends.{world-first, world-told}
 use Rattle.replay_parts.proofs.StopLemmas.{after-ok}
 use Rattle.replay_parts.proofs.PauseLineLemmas.{same-pauses}
 
--- counts of which nothing is asked
-abbrev pub no_counts : Counts
-no_counts = two_counts 0 0 0 0
-
 -- nothing is printed
 pub prints-nothing : {T : Type 0} (result : Result T Stop) (taken : Option (List ℕ)) → Prints result taken taken []
 prints-nothing (Ok value) taken = Appends-nil taken

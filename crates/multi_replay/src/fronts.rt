@@ -11,8 +11,8 @@ ghost use Rattle.multi_replay.specs.States.{fetch_text, after_target, after_aske
 
 use crate::folding::fold_whole;
 use crate::pair::Pair;
-use crate::targets::{FIRST_TARGET, ID_LIMIT};
-use front_mirror::{Front, FrontErr, FrontFault, Panel};
+use cdp_json::COUNTED_LIMIT;
+use front_mirror::{FETCH_LIMIT, Front, FrontErr, FrontFault, Panel};
 use pipe_frames::Splitter;
 use serde_json::Value;
 use std::alloc::{AllocError, Global};
@@ -65,7 +65,7 @@ impl<P: Panel> Fronts<P> {
             pair: Pair::new(alloc, panels)?,
             splitter: Splitter::new(alloc),
             fault: None,
-            next: FIRST_TARGET,
+            next: FETCH_LIMIT,
             is_dead: false,
         })
     }
@@ -75,7 +75,7 @@ impl<P: Panel> Fronts<P> {
     pub fn has_room(&self) -> bool
         ensures { IsTrue result ↔ HaveRoom self.now }
     {
-        self.pair.has_room() && self.next < ID_LIMIT
+        self.pair.has_room() && self.next < COUNTED_LIMIT
     }
 
     /// Makes the frame that attaches a session (`Target.attachToTarget`), with its zero byte, and waits for the reply. An Ok reply

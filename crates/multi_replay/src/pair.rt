@@ -18,14 +18,11 @@ use crate::faults::FrameErr;
 use crate::incoming::{Incoming, read_incoming};
 use crate::outcomes::{Outcome, read_outcome};
 use crate::targets::{Command, Waiting, command_under, is_target_id, take_waiting};
-use front_mirror::{Front, FrontErr, FrontKind, Panel};
+use front_mirror::{ASK_LIMIT, Front, FrontErr, FrontKind, Panel};
 use node_tree::Text;
 use serde_json::Value;
 use std::alloc::{AllocError, Global};
 use std::collections::VecDeque;
-
-/// The first id of fetches.
-const FIRST_FETCH: u64 = 1 << 30;
 
 /// The front of the attached session, the text of that session, and how many fetches it has sent.
 #[derive(Drop)]
@@ -93,7 +90,7 @@ impl<P: Panel> SecondFront<P> {
         ensures session { self.new.session ≡ self.old.session }
         ensures fetches { OnOk result (self.new.fetches ≡ self.old.fetches + 1) }
     {
-        let id = FIRST_FETCH + self.fetches;
+        let id = ASK_LIMIT + self.fetches;
         let frame = fetch_frame(alloc, id, sheet, self.session.as_str())?;
         // The front's own frame names no session.
         let _frame = self.front.fetch(sheet)?;

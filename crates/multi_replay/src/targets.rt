@@ -3,19 +3,15 @@ ghost use Rattle.std.specs.Prelude.{◌≡◌};
 ghost use Rattle.multi_replay.specs.Held.{command_among, without_command};
 ghost use Rattle.multi_replay.specs.Incoming.{is_target_id};
 
+use cdp_json::COUNTED_LIMIT;
+use front_mirror::FETCH_LIMIT;
 use std::collections::VecDeque;
 
-/// The first id of commands that attach and detach, which no ask and no fetch has.
-pub(crate) const FIRST_TARGET: u64 = 1 << 52;
-
-/// The first id that no command may have.
-pub(crate) const ID_LIMIT: u64 = 1 << 53;
-
-/// Whether a command that attaches or detaches may have that id.
+/// Whether a command that attaches or detaches may have that id, which no ask and no fetch has.
 pub(crate) fn is_target_id(id: u64) -> bool
     ensures { result ≡ is_target_id id }
 {
-    id >= FIRST_TARGET && id < ID_LIMIT
+    id >= FETCH_LIMIT && id < COUNTED_LIMIT
 }
 
 /// Which of the two it is.

@@ -16,10 +16,8 @@ mod binding;
 mod laws;
 mod levels;
 mod pieces;
-mod search;
 
 pub use binding::Binding;
 pub use laws::{binding_law, deal_law};
 pub use levels::{is_reached, less, levels_of};
 pub use pieces::{Opening, capped, deal_node};
-pub use search::find_in;

@@ -101,9 +101,6 @@ pair_turn old middle new next name value rest e f r = record {
 abbrev pub PairsAhead : List Token → List Pair → List Token → Type 0
 PairsAhead start done left = IsAhead pairs_form start (λ rest. done ++ rest) left
 
-pub no_pairs : (start : List Token) (done : List Pair) → done ≡ [] → PairsAhead start done start
-no_pairs start done e = λ rest new s. subst (λ ps. SpellsItems pairs_form start (ps ++ rest) new) (sym e) s
-
 pub pairs_turn : (start left middle next : List Token) (done more : List Pair) (name value : List ℕ) → PairsAhead start done left
     → left ≡ string name ∷ middle → middle ≡ string value ∷ next
     → more ≡ done ++ (name, value) ∷ [] → PairsAhead start more next
@@ -121,19 +118,6 @@ pairs_end start left new done so e = subst (λ ps. SpellsItems pairs_form start 
 pub pair_shorter : (left middle next : List Token) (name value : List ℕ) → left ≡ string name ∷ middle → middle ≡ string value ∷ next
     → length next < length left
 pair_shorter left middle next name value e f = omega (arith, ap length e, ap length f)
-
--- the pairs in order
-pub attributes_spelt : (old new : List Token) (ps qs : List Pair) → SpellsItems pairs_form old ps new → Some qs ≡ in_order [] ps
-    → SpellsItems attributes_form old qs new
-attributes_spelt old new ps qs s e = record {
-  json = s.json;
-  items = s.items;
-  tokens = s.tokens;
-  means = s.means;
-  shallow = s.shallow;
-  whole = s.whole;
-  reads = ap (option_and_then (in_order [])) s.reads ∙ sym e;
-}
 
 -- ---- nodes
 
@@ -172,9 +156,6 @@ module _ (levels : ℕ) (top : Bool) where
 -- the sheets so far, before the others
 abbrev pub SheetsAhead : List Token → List SheetForm → List Token → Type 0
 SheetsAhead start done left = IsAhead sheets_form start (λ rest. done ++ rest) left
-
-pub no_sheets : (start : List Token) (done : List SheetForm) → done ≡ [] → SheetsAhead start done start
-no_sheets start done e = λ rest new s. subst (λ ss. SpellsItems sheets_form start (ss ++ rest) new) (sym e) s
 
 sheet_turn : (old middle new : List Token) (sheet : SheetForm) (rest : List SheetForm) → ReadsAs sheet_value old sheet middle
     → SpellsItems sheets_form middle rest new → SpellsItems sheets_form old (sheet ∷ rest) new

@@ -26,9 +26,6 @@ pub record SoFar (old new : ℕ → Option Slot) (all rest : List ℕ) : Type 0 
   pub only : (k : ℕ) (slot : Slot) → new k ≡ Some slot → (old k ≡ Some slot) × (listed slot.serial all ≡ listed slot.serial rest)
   pub within : (x : ℕ) → listed x rest ≤ listed x all
 
-pub SoFar-start : (a : ℕ → Option Slot) (all : List ℕ) → SoFar a a all all
-SoFar-start a all = record { kept = λ k s e z. e; only = λ k s e. (e, refl); within = λ x. omega arith }
-
 pub SoFar-step : (old now new : ℕ → Option Slot) (all rest : List ℕ) (x : ℕ) → SoFar old now all (x ∷ rest)
     → Shrinks page_slots now new (λ y. listed y (x ∷ [])) → SoFar old new all rest
 SoFar-step old now new all rest x before shrinks =

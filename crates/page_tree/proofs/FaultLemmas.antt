@@ -34,9 +34,6 @@ pub low_below : (levels level h k : ℕ) → levels + level ≡ max_level → 0 
     → nat_le h (levels - 1) ≡ nat_le (level + suc k) max_level
 low_below levels level h k left some same = grind (arith, nat_tests, left, same)
 
-pub low_none : (levels level k : ℕ) → levels + level ≡ max_level → levels ≡ 0 → false ≡ nat_le (level + suc k) max_level
-low_none levels level k left no_level = grind (arith, nat_tests, left)
-
 some_room : (count room : ℕ) → is_some (nodes_left count room) ≡ nat_le count room
 some_room count room = grind (arith, nat_tests)
 
@@ -130,16 +127,6 @@ insert_few parent before form tree e =
     let tests = clear (attach_faults parent before form tree) e in
     let room = leb-true (branch_count tree + branch_count form) max_nodes (not-false _ tests.1.1.1.0) in
     omega arith
-
--- what is copied is live, and not the document
-pub copy_live : (serial parent before : ℕ) (tree : Branch PageRow) → copy_fault serial parent before tree ≡ None
-    → (is_live serial tree ≡ true) × (is_document (kind_at serial tree) ≡ false)
-copy_live serial parent before tree e =
-    let tests = clear (copy_faults serial parent before tree) e in (
-      left (is_live serial tree) (is_live parent tree)
-          (left (is_live serial tree && is_live parent tree) (is_live_or_0 before tree) (not-false _ tests.0)),
-      tests.1.0,
-    )
 
 -- and so are what is moved, and the parent
 pub move_live : (serial parent before : ℕ) (tree : Branch PageRow) → move_fault serial parent before tree ≡ None

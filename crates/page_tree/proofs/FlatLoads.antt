@@ -43,17 +43,6 @@ pub rows-turn : (vs : List Value) (i : ℕ) (v : Value) (done : List FlatRow) (r
     → option_map (λ rs. (done ++ r ∷ []) ++ rs) (rows_of (items_view (drop (i + 1) vs))) ≡ all
 rows-turn vs i v done r all h e is so_far = rows_step done r _ all (rw (rows-drop vs i v h e, ← is) at so_far)
 
--- a value is no row
-pub rows-bad : (vs : List Value) (i : ℕ) (v : Value) (done : List FlatRow) (all : Option (List FlatRow)) → i < length vs
-    → v ≡ get_or vs i v → None ≡ row_spelled (view v) → option_map (λ rs. done ++ rs) (rows_of (items_view (drop i vs))) ≡ all
-    → None ≡ all
-rows-bad vs i v done all h e is so_far = rw (rows-drop vs i v h e, ← is) at so_far
-
--- all are read
-pub rows-end : (vs : List Value) (i : ℕ) (done : List FlatRow) (all : Option (List FlatRow)) → length vs ≤ i
-    → option_map (λ rs. done ++ rs) (rows_of (items_view (drop i vs))) ≡ all → Some done ≡ all
-rows-end vs i done all h so_far = ap Some (sym (append-nil done)) ∙ (rw (drop_all i vs h) at so_far)
-
 -- ---- labels have their form
 
 abbrev labels_formed : Nodes Label → Bool
@@ -165,20 +154,6 @@ pub can_load_flat : (d : Data) (n : Nodes Label) → flat_in d ≡ Some n → fi
 can_load_flat d n e clear =
     let tests = all_clear _ _ _ clear in
     record { formed = flat_in-formed (as_array d) n e; named = tests.2; levels = leb-true _ _ tests.0; room = leb-true _ _ tests.1 }
-
--- there are no such nodes
-pub flat-none : (o : Option (Nodes Label)) → None ≡ option_map (λ n. min (height n) most_levels) o → first_load_fault o ≡ Some BadForm
-flat-none None e = refl
-flat-none (Some n) e = absurd cc
-
--- they are too deep
-pub flat-deep : (o : Option (Nodes Label)) (k : ℕ) → Some k ≡ option_map (λ n. min (height n) most_levels) o → max_level < k
-    → first_load_fault o ≡ Some TooDeep
-flat-deep None k e h = absurd cc
-flat-deep (Some n) k e h =
-    let same : k ≡ min (height n) most_levels = cc in
-    let deep = lt-leb (height n) max_level (omega (arith, same)) in
-    rw deep refl
 
 -- they are those of the rows
 pub flat-some : (o : Option (Nodes Label)) (k : ℕ)

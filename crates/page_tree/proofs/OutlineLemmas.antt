@@ -144,34 +144,15 @@ pub record IsKid (i : ℕ) (before : List Outline) (o : Outline) (after : List O
   pub held : kids_held i before ≡ (o.is_held && kids_held i after)
   pub past : past_kids i before ≡ past_kids i after
 
-pub kid-taken : (i : ℕ) (before : List Outline) (o : Outline) (after : List Outline) → TakesOutline i before (Some o) after
-    → IsKid i before o after
-kid-taken i before o after e = record {
-  levels = ap (kid_levels i) e.1 ∙ ap (λ b. cond b (max o.levels (kid_levels i after)) 0) (eq-eqb o.up i e.0);
-  held = ap (kids_held i) e.1 ∙ ap (λ b. cond b (o.is_held && kids_held i after) true) (eq-eqb o.up i e.0);
-  past = ap (past_kids i) e.1 ∙ ap (λ b. cond b (past_kids i after) (o ∷ after)) (eq-eqb o.up i e.0);
-}
-
 -- none is left
 pub record IsPastKids (i : ℕ) (before : List Outline) : Type 0 where
   pub levels : kid_levels i before ≡ 0
   pub held : kids_held i before ≡ true
   pub past : past_kids i before ≡ before
 
-pub kids-taken : (i : ℕ) (before : List Outline) → is_ahead i before ≡ false → IsPastKids i before
-kids-taken i [] e = record { levels = refl; held = refl; past = refl }
-kids-taken i (o ∷ os) e = record {
-  levels = ap (λ b. cond b (max o.levels (kid_levels i os)) 0) e;
-  held = ap (λ b. cond b (o.is_held && kids_held i os) true) e;
-  past = ap (λ b. cond b (past_kids i os) (o ∷ os)) e;
-}
-
 pub held_beside : (a b c : Bool) → ((a && b) && c) ≡ (a && (b && c))
 held_beside true b c = refl
 held_beside false b c = refl
-
-pub held_alone : (a : Bool) → (a && true) ≡ a
-held_alone a = and_true a
 
 -- what code answers of all rows
 pub levels-read : (rows : List FlatRow) (os : List Outline) (empty fits : Bool) (k : ℕ) → os ≡ outlined 1 rows

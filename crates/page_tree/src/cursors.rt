@@ -1,6 +1,5 @@
-ghost use Rattle.std.specs.Prelude.{◌≡◌, ◌<◌, length, option_map, Some, IsSome, slice_get};
+ghost use Rattle.std.specs.Prelude.{◌≡◌, ◌<◌, Some, IsSome};
 ghost use Rattle.node_tree.specs.Nodes.{width, tree_at};
-ghost use Rattle.node_tree.specs.Labels.{value_of};
 ghost use Rattle.page_tree.specs.Pages.{find_in, node_at};
 
 use crate::arenas::Arena;
@@ -119,31 +118,6 @@ impl<'a> Node<'a> {
     {
         let slot = self.slot;
         &slot.attributes
-    }
-
-    /// The value of the attribute of that name.
-    pub fn attr(&self, name: &str) -> Option<&'a str>
-        ensures { option_map (λ v. v.now) result ≡ value_of name.now self.now.row.label.attributes }
-    {
-        let slot = self.slot;
-        slot.attributes.get(name)
-    }
-
-    /// How many attributes the node has.
-    pub fn attr_len(&self) -> usize
-        ensures { result ≡ length self.now.row.label.attributes }
-    {
-        let slot = self.slot;
-        slot.attributes.len()
-    }
-
-    /// The name and the value of the attribute at place `i`, counted from 0 in ascending order of the names' bytes.
-    pub fn attr_at(&self, i: usize) -> (&'a str, &'a str)
-        requires { i < length self.now.row.label.attributes }
-        ensures { slice_get self.now.row.label.attributes i ≡ Some (result.0.now, result.1.now) }
-    {
-        let slot = self.slot;
-        slot.attributes.at(i)
     }
 
     /// The number of its children.

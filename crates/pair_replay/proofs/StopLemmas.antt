@@ -71,14 +71,6 @@ prints-took (Ok value) sink0 sink1 link0 link1 before after text cause well ok e
 prints-took (Err stop) sink0 sink1 link0 link1 before after text cause well ok err =
     part-took stop sink0 sink1 link0 link1 (Unit {0}) before after text cause (room-there {T = Unit {0}} (Err stop) (Unit {0}) well tt) err
 
--- and one that prints nothing
-pub silent-took : (result : Result (Unit {0}) Stop) (sink0 sink1 link0 link1 : ℕ) (R : Type 0) (taken : Option (List ℕ)) (text : List ℕ)
-    → HasStopCause sink0 sink1 link0 link1 result → RoomTold result R → text ≡ [] → PairRunTook result taken taken text
-silent-took (Ok value) sink0 sink1 link0 link1 R taken text cause told none = subst (λ t. Appends taken taken t) (sym none)
-    (Appends-nil taken)
-silent-took (Err stop) sink0 sink1 link0 link1 R taken text cause told none =
-    part-took stop sink0 sink1 link0 link1 R taken taken text cause told (wrote-none taken text)
-
 -- ---- room
 
 room-amid : (phase : Phase) (lie : Option Lie) (P R Q : Type 0) → AmidRun phase P → (Q → R) → RoomAt phase lie R → RoomAt phase lie Q
@@ -97,12 +89,6 @@ pub room-stops : (stop : Stop) (sink0 sink1 link0 link1 : ℕ) (R Q : Type 0)
 room-stops stop sink0 sink1 link0 link1 R Q cause f told =
     let s : Says = says (status_of stop) in
     room-amid s.phase s.lie (PartRose (two_counts sink0 sink1 link0 link1) s.failed) R Q cause.rose f told
-
--- where a part says of its own room, and all else had room, the whole says so
-pub room-both : (result : Result (Unit {0}) Stop) (sink0 sink1 link0 link1 : ℕ) (R Q : Type 0)
-    → HasStopCause sink0 sink1 link0 link1 result → (Q → R) → (R → Q) → RoomTold result R → RoomTold result Q
-room-both (Ok value) sink0 sink1 link0 link1 R Q cause f back told = back told
-room-both (Err stop) sink0 sink1 link0 link1 R Q cause f back told = room-stops stop sink0 sink1 link0 link1 R Q cause f told
 
 -- ---- causes
 

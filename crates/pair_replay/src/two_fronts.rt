@@ -1,7 +1,7 @@
 // What stands at both ends of a link with two front ends: what each sends and takes.
-ghost use Rattle.std.specs.Prelude.{◌≡◌, true, false, map, option_map, is_some, IsTrue, IfOk, IfSome};
+ghost use Rattle.std.specs.Prelude.{◌≡◌, ◌++◌, OnOk, true, false, map, option_map, is_some, IsTrue, IfOk, IfSome};
 ghost use Rattle.serde_json.specs.View.{view};
-ghost use Rattle.pipe_frames.specs.Frames.{IsText};
+ghost use Rattle.pipe_frames.specs.Frames.{IsText, framed};
 ghost use Rattle.cdp_messages.specs.Asked.{is_whole_where_there};
 ghost use Rattle.page_forms.specs.Pages.{CanLoadPage, loaded_page};
 ghost use Rattle.page_forms.specs.Texts.{PageHasTexts};
@@ -13,7 +13,7 @@ ghost use Rattle.back_end.specs.Steps.{acts, loads};
 ghost use Rattle.back_end.specs.Plans.{act_fault};
 ghost use Rattle.back_end.specs.Laws.{IsTurn};
 ghost use Rattle.back_end.specs.PairSeats.{IsPairSeated};
-ghost use Rattle.multi_replay.specs.States.{at_rest, is_there, front_meant, after_close};
+ghost use Rattle.multi_replay.specs.States.{at_rest, is_there, front_meant, after_close, attach_text, detach_text, fetch_text};
 ghost use Rattle.inspect_world.specs.World.{nothing_told};
 ghost use Rattle.inspect_world.specs.Fits.{IsBare};
 ghost use Rattle.inspect_world.specs.Costs.{least_line};
@@ -199,7 +199,8 @@ impl<P: Panel> TwoFronts<P> {
     /// Sends the command that attaches a session. No second front end stands.
     pub(crate) fn attach<L: Link>(&mut self, link: &mut L) -> Result<(), Stop>
         requires alone { is_there true self.old.fronts.pair ≡ false }
-        ensures { Goes (aims 0 sending_attach) (⟦<L as Watched>⟧.at link.old self.old)
+        ensures sent { OnOk result ((L.up link.new).sent ≡ (L.up link.old).sent ++ framed (attach_text self.old.fronts.next)) }
+        ensures goes { Goes (aims 0 sending_attach) (⟦<L as Watched>⟧.at link.old self.old)
             (⟦<L as Watched>⟧.at link.new self.new) result }
     {
         if !self.fronts.has_room() {
@@ -212,7 +213,9 @@ impl<P: Panel> TwoFronts<P> {
     /// Sends the command that detaches the session of the second front end, which stands.
     pub(crate) fn detach<L: Link>(&mut self, link: &mut L) -> Result<(), Stop>
         requires stands { is_there true self.old.fronts.pair ≡ true }
-        ensures { Goes (aims 0 sending_detach) (⟦<L as Watched>⟧.at link.old self.old)
+        ensures sent { OnOk result (IfSome self.old.fronts.pair.two
+            (λ w. (L.up link.new).sent ≡ (L.up link.old).sent ++ framed (detach_text self.old.fronts.next w.text))) }
+        ensures goes { Goes (aims 0 sending_detach) (⟦<L as Watched>⟧.at link.old self.old)
             (⟦<L as Watched>⟧.at link.new self.new) result }
     {
         if !self.fronts.has_room() {
@@ -241,7 +244,9 @@ impl<P: Panel> TwoFronts<P> {
     ) -> Result<(), Stop>
         requires stands { is_there second self.old.fronts.pair ≡ true }
         requires known { has_sheet number (front_meant second self.old.fronts.pair).value.sheets ≡ true }
-        ensures { Goes (pair_fetching second 1 (sending_fetch second number)) (⟦<L as Watched>⟧.at link.old self.old)
+        ensures sent { OnOk result
+            ((L.up link.new).sent ≡ (L.up link.old).sent ++ framed (fetch_text second self.old.fronts.pair number)) }
+        ensures goes { Goes (pair_fetching second 1 (sending_fetch second number)) (⟦<L as Watched>⟧.at link.old self.old)
             (⟦<L as Watched>⟧.at link.new self.new) result }
     {
         if !self.fronts.has_room() {

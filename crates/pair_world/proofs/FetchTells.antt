@@ -160,18 +160,6 @@ module _ (n : PairAudience) where
   line-room line w room =
       subst (λ ds. DeedsHaveRoom ds (pair_telling n w)) (sym (deeds-same line w)) (deeds-room (deeds line w) w room)
 
--- there is room for each step of some lines, whoever was told what before
-pub lines-room : (Closing : PairRun → Type 0) → ((m : PairAudience) (v : PairRun) → Closing v → Closing (pair_telling m v))
-    → (n : PairAudience) (lines : List PairForm) (w v : PairRun) → LinesHaveRoom Closing lines w v
-    → LinesHaveRoom Closing lines w (pair_telling n v)
-lines-room Closing retold n [] w v room = retold n v room
-lines-room Closing retold n (line ∷ lines) w v room =
-    by (pair_lacking line w)
-    (λ m. lines-room Closing retold m lines (after_pair_line line w) (fresh_pair_line line v)) room
-  where
-    Later : PairRun → Type 0
-    Later x = LinesHaveRoom Closing lines (after_pair_line line w) x
-
     where-true : (b : Bool) → WhereTrue b (RefreshHasRoom v) → WhereTrue b (RefreshHasRoom (pair_telling n v))
     where-true true room = refresh-room n v room
     where-true false room = room

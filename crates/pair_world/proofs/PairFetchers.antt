@@ -30,18 +30,3 @@ second-asked t f other p v stands text =
     ap (λ o. of_second_session t f other (option_map second_value o)) stands
     ∙ ap (λ b. cond b (f v.value.value) other) ((bytes_eq-Decides v.text t).1 text)
     ∙ ap (λ o. f (unwrap_or (option_map (λ (x : Second FrontState (List ℕ)). x.value) o) p.one).value) (sym stands)
-
-pub fetcher-is : (second : Bool) (up0 down0 up down : Pipe) (w : PairRun) (frames : List (List ℕ)) (e : PairEnds)
-    (in_world : InPairWorld calm up0 down0 up down w frames e) → is_there second e.fronts.pair ≡ true
-    → FetcherIs second w.state.attached (pair_value in_world.fronts_are.asked e.fronts.pair) e.fronts.pair
-fetcher-is false up0 down0 up down w frames e in_world there =
-    record { fetcher = first_fetcher; is = refl; knows = λ sheet. refl; stale = refl }
-fetcher-is true up0 down0 up down w frames e in_world there =
-    let s = second-is up0 down0 up down w frames e in_world there in
-    let t = session_text s.number in
-    record {
-      fetcher = second_fetcher s.number;
-      is = ap (fetcher_on true) s.attached_is;
-      knows = λ sheet. second-asked t (λ v. has_sheet sheet v.sheets) false e.fronts.pair s.front s.stands s.text;
-      stale = second-asked t (λ v. stale_of v.sheets) [] e.fronts.pair s.front s.stands s.text;
-    }

@@ -43,20 +43,7 @@ cut_last text part start chunks b cut is bytes counted =
     (cut_one b (drop start text) (bytes ∙ ap (λ (x : List ℕ). length x) is)
     (counted ∙ ap (λ (x : List ℕ). count_by is_feed x) is)))
 
--- no chunks of no text
-pub cut_none : (text : List ℕ) (chunks : List Chunk) → chunks ≡ [] → length text ≡ 0 → AreChunks text chunks
-cut_none [] chunks is size = subst (λ b. AreChunks [] b) (sym is) refl
-cut_none (x ∷ text) chunks is size = absurd (omega arith)
-
 -- ---- edges
-
-pub edge_first : (text : List ℕ) (chunks : List Chunk) → AreChunks text chunks → IsEdge text chunks 0 0
-edge_first text chunks cut = record {
-  inside = omega arith;
-  known = omega arith;
-  front = refl;
-  rest = cut;
-}
 
 -- What a chunk says of the text behind an edge.
 pub record NextChunk (text : List ℕ) (chunks : List Chunk) (chunk byte : ℕ) (b : Chunk) : Type 0 where

@@ -108,11 +108,6 @@ module _ (id : ℕ) (before after : Nodes Seen) (was : IsMirror before) (is : Is
 
 -- ---- a child comes, and a child goes
 
-pub width-without : (i : ℕ) (n : Nodes Seen) (b : Branch Seen) → tree_at i n ≡ Some b → i ≤ width (without_place i n)
-width-without i none b e = absurd cc
-width-without zero (node r c t) b e = omega arith
-width-without (suc i) (node r c t) b e = let h = width-without i t b e in omega arith
-
 module _ (child parent : ℕ) (before after : Nodes Seen) (was : IsMirror before) (is : IsMirror after) where
   -- the line of a new child
   pub lines_inserted : NodeTurns (Gains child) parent before after → (level : ℕ) → level_of seen_id child 0 after ≡ Some level

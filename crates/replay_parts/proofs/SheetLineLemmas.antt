@@ -5,20 +5,6 @@ use Rattle.node_tree.specs.declared.origins.Origin.{Origin}
 use Rattle.front_mirror.specs.declared.sheets.KnownSheet.{KnownSheet}
 use Rattle.inspect_world.specs.SheetTexts.{sheet_line, known_line, known_lines}
 
--- a sheet by its parts
-pub line-of : (o : Option KnownSheet) (number : ℕ) (origin : Origin) (text : Option (List ℕ)) (old : List ℕ)
-    → option_map (λ (s : KnownSheet). s.number) o ≡ Some number → option_map (λ (s : KnownSheet). s.origin) o ≡ Some origin
-    → option_map (λ (s : KnownSheet). s.text) o ≡ Some text
-    → option_map (λ (s : KnownSheet). old ++ known_line s) o ≡ Some (old ++ sheet_line number origin text)
-line-of None number origin text old n o t = absurd cc
-line-of (Some s) number origin text old n o t =
-    let number_is : s.number ≡ number = cc n in
-    let origin_is : s.origin ≡ origin = cc o in
-    let text_is : s.text ≡ text = cc t in
-    ap (λ m. Some (old ++ sheet_line m s.origin s.text)) number_is
-    ∙ ap (λ m. Some (old ++ sheet_line number m s.text)) origin_is
-    ∙ ap (λ m. Some (old ++ sheet_line number origin m)) text_is
-
 drop-suc : (xs : List KnownSheet) (i : ℕ) (x : KnownSheet) → slice_get xs i ≡ Some x → drop i xs ≡ x ∷ drop (suc i) xs
 drop-suc [] i x e = absurd cc
 drop-suc (y ∷ xs) zero x e = let same : y ≡ x = cc in ap (λ w. w ∷ xs) same

@@ -22,11 +22,6 @@ use Rattle.select_match.specs.Subjects.{element_place, place_known, KnowsPlaces}
 use Rattle.select_match.specs.Families.{named_in, tally_count, is_counted, count_of, one_of, Counts, Faces, FacesNext, LineFaces}
 use Rattle.select_match.proofs.WalkLemmas.{from, later-from, walk-start, walk-step}
 
--- what is no element is not counted
-pub none-counted : (z : Zipper) → is_element_node z ≡ false → (key : Option (List ℕ)) → one_of key z ≡ 0
-none-counted z e None = ap (λ (b : Bool). cond {A = ℕ} b 1 0) e
-none-counted z e (Some name) = ap (λ (b : Bool). cond {A = ℕ} (b && bytes_eq (zipper_name z) name) 1 0) e
-
 -- a count beside a name is one more, or one less, than before
 module _ (z : Zipper) (element : is_element_node z ≡ true) (old new : BTreeMap (Bor (List ℕ)) ℕ) (n : ℕ)
     (put : (q : List ℕ) → named_in q new ≡ cond (bytes_eq (zipper_name z) q) n (named_in q old)) where
@@ -48,19 +43,6 @@ module _ (z : Zipper) (element : is_element_node z ≡ true) (old new : BTreeMap
 
   pub named-less : n ≡ named_in (zipper_name z) old - 1 → (q : List ℕ) → named_in q new ≡ named_in q old - one_of (Some q) z
   named-less is q = changed (λ a b. a - b) (λ k. omega arith) q (λ same. subst (λ (k : List ℕ). n ≡ named_in k old - 1) same is)
-
--- the count of the elements, beside those of the names
-pub all-more : (z : Zipper) (a b : Tally) → is_element_node z ≡ true → (a.all < 2 ^ 63 → b.all ≡ a.all + 1)
-    → ((q : List ℕ) → named_in q a.names < 2 ^ 63 → named_in q b.names ≡ named_in q a.names + one_of (Some q) z)
-    → (key : Option (List ℕ)) → tally_count key a < 2 ^ 63 → tally_count key b ≡ tally_count key a + one_of key z
-all-more z a b element all named None few = all few ∙ ap (λ (x : Bool). a.all + cond {A = ℕ} x 1 0) (sym element)
-all-more z a b element all named (Some q) few = named q few
-
-pub all-less : (z : Zipper) (a b : Tally) → is_element_node z ≡ true → b.all ≡ a.all - 1
-    → ((q : List ℕ) → named_in q b.names ≡ named_in q a.names - one_of (Some q) z)
-    → (key : Option (List ℕ)) → tally_count key b ≡ tally_count key a - one_of key z
-all-less z a b element all named None = all ∙ ap (λ (x : Bool). a.all - cond {A = ℕ} x 1 0) (sym element)
-all-less z a b element all named (Some q) = named q
 
 counted_by : (b : Bool) (z : Zipper) (zs : List Zipper) → length (cond b (z ∷ zs) zs) ≡ cond {A = ℕ} b 1 0 + length zs
 counted_by true z zs = omega arith
@@ -222,13 +204,6 @@ line-start first next m b step element more = omega (
   ap (λ (l : List Zipper). count_of None l) (walk-start later later-from first next step),
   ap (λ (x : Bool). cond {A = ℕ} x 1 0) element,
 )
-
-pub line-end : (first : Zipper) (at : Option Zipper) (n : ℕ) → at ≡ None → earlier first ≡ []
-    → n + count_of None (from later at) ≡ count_of None (first ∷ later first) → LineFaces (record { before = 0; after = n }) first
-line-end first at n is alone counted = record {
-  before = ap (λ (l : List Zipper). count_of None l) (sym alone);
-  after = omega (arith, counted, ap (λ (o : Option Zipper). count_of None (from later o)) is);
-}
 
 module _ (z : Zipper) (l : Line) (faces : LineFaces l z) (few_before : length (earlier z) < 100000) (few_after : length (later z) < 100000)
     (b : Bool) (element : b ≡ is_element_node z) where

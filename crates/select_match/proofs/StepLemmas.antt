@@ -77,17 +77,6 @@ pub record Visiting (z : Zipper) (steps rest : List StepForm) (around : List Aro
   pub beside_is : beside ++ map (beside_of z) (chains_in chain rest) ≡ beside_old ++ map (beside_of z) (chains_in [] steps)
   pub inside_is : inside ++ map (inside_of z) (chains_in chain rest) ≡ inside_old ++ map (inside_of z) (chains_in [] steps)
 
-pub visiting-init : (z : Zipper) (steps : List StepForm) (around beside inside : List Around)
-    → around ≡ map (around_of z) (chains_in [] steps) → Visiting z steps steps around None false beside beside inside inside
-visiting-init z steps around beside inside e = record {
-  chain = [];
-  fits = e;
-  left_is = refl;
-  matched = refl;
-  beside_is = refl;
-  inside_is = refl;
-}
-
 left_by : (z : Zipper) (a : Around) (c : CompoundForm) (chain : List CompoundForm) → a ≡ around_of z (c ∷ chain) → (b : Bool)
     → cond {A = Option Around} b None (Some a) ≡ left_of z (cond b [] (c ∷ chain))
 left_by z a c chain e true = refl
@@ -278,10 +267,6 @@ pub record Passing (z : Zipper) (chains : List (List CompoundForm)) (before : Li
   pub split : earlier z ≡ before ++ rest
   pub fits : around ≡ map (around_by z rest) chains
 
-pub passing-init : (z : Zipper) (chains : List (List CompoundForm)) (before : List Zipper) (around : List Around) → before ≡ earlier z
-    → around ≡ map (around_by z []) chains → Passing z chains before around
-passing-init z chains before around e f = record { rest = []; split = sym e ∙ sym (append-nil before); fits = f }
-
 module _ (z : Zipper) (chains : List (List CompoundForm)) (before bs : List Zipper) (b : Zipper) (around : List Around)
     (v : Passing z chains before around) (e : before ≡ bs ++ b ∷ []) where
   passed_split : earlier z ≡ bs ++ (b ∷ v.rest)
@@ -318,12 +303,6 @@ module _ (z : Zipper) (chains : List (List CompoundForm)) (before bs : List Zipp
       earlier = list_any (chain_holds chain) (b ∷ near.earlier_is i);
     });
   }
-
-pub passing-end : (z : Zipper) (chains : List (List CompoundForm)) (before : List Zipper) (around : List Around) → before ≡ []
-    → Passing z chains before around → around ≡ map (around_of z) chains
-passing-end z chains before around e v =
-    let all : v.rest ≡ earlier z = sym (v.split ∙ ap (λ (l : List Zipper). l ++ v.rest) e) in
-    v.fits ∙ ap (λ (l : List Zipper). map (around_by z l) chains) all
 
 -- a walk back that keeps what it has met
 pub row-taken : (before : List Zipper) (at : Option Zipper) (q : Zipper) (next : Option Zipper) → at ≡ Some q → next ≡ previous_of q

@@ -58,14 +58,6 @@ starts_with-push [] (v ∷ value) b h = all_true (nat_eq b v)
 starts_with-push (x ∷ operand) (v ∷ value) b h = rw (starts_with-push operand value b (omega arith))
     (and_assoc (nat_eq x v) (starts_with nat_eq value operand) (nat_eq b (get_or value (length operand) 0)))
 
--- a text no longer than the operand does not begin with more
-pub starts_with-short : (operand value : List ℕ) (b : ℕ) → length value ≤ length operand
-    → starts_with nat_eq value (operand ++ b ∷ []) ≡ false
-starts_with-short [] [] b h = refl
-starts_with-short [] (v ∷ value) b h = absurd (omega arith)
-starts_with-short (x ∷ operand) [] b h = refl
-starts_with-short (x ∷ operand) (v ∷ value) b h = rw (starts_with-short operand value b (omega arith)) (and_false (nat_eq x v))
-
 pub no_dash : (operand value : List ℕ) → length operand < length value → (get_or value (length operand) 0 ≡ 45 → ⊥)
     → false ≡ starts_with nat_eq value (operand ++ 45 ∷ [])
 no_dash operand value h other =

@@ -185,10 +185,6 @@ module _ (at : Option Zipper) (z : Zipper) (next : Option Zipper) (is : at ≡ S
   pub count-smaller : count_from at ≡ suc (node_count z.branch.children + count_from next)
   count-smaller = omega (arith, ap (λ (o : Option Zipper). count_from o) is, count-next z, ap (λ (o : Option Zipper). count_from o) step)
 
--- what is below a child is fewer than what is below its parent
-pub count-child : (at : Option Zipper) (z : Zipper) → at ≡ Some z → node_count z.branch.children < count_from at
-count-child at z is = omega (arith, ap (λ (o : Option Zipper). count_from o) is)
-
 -- ---- what a list has in document order
 
 find_either : (f : Zipper → ℕ) (u v : Option Zipper) (n : ℕ) → Some n ≡ option_map f u → option_map f (first_of u v) ≡ Some n

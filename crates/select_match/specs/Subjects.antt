@@ -12,15 +12,6 @@ use Rattle.select_match.specs.declared.places.ElementPlaces.{ElementPlaces}
 use Rattle.select_match.specs.declared.places.KnownPlaces.{KnownPlaces}
 use Rattle.select_match.specs.Elements.{attributes_of, index}
 
--- the four places of an element among its siblings
-abbrev pub element_places : Zipper → ElementPlaces
-element_places z = record {
-  child = index Child z;
-  last_child = index LastChild z;
-  of_type = index OfType z;
-  last_of_type = index LastOfType z;
-}
-
 -- one of the four places of an element among its siblings
 abbrev pub element_place : NthKind → ElementPlaces → ℕ
 element_place Child p = p.child

@@ -25,6 +25,5 @@ mod walks;
 
 pub use chains::matches_node;
 pub use laws::{not_law, nth_law, operand_law};
-pub use places::{ElementPlaces, element_places};
 pub use subjects::{Subject, matches_subject};
 pub use walks::{all_matches, first_match, list_matches_node, matches};

@@ -2,10 +2,8 @@
 
 ghost use Rattle.std.specs.Prelude.{◌≡◌, Some, None};
 ghost use Rattle.selectors.specs.declared.selector.NthKind.{NthKind};
-ghost use Rattle.select_match.specs.Subjects.{element_places, element_place, place_known, with_place};
+ghost use Rattle.select_match.specs.Subjects.{element_place, place_known, with_place};
 
-use crate::elements::index;
-use page_tree::NodeRef;
 use selectors::NthKind;
 
 /// The four places of an element among its siblings, each counted from 1 (Selectors 3, section 6.6.5).
@@ -15,18 +13,6 @@ pub struct ElementPlaces {
     pub last_child: u64,
     pub of_type: u64,
     pub last_of_type: u64,
-}
-
-/// In time linear in the number of siblings.
-pub fn element_places(node: &NodeRef<'_>) -> ElementPlaces
-    ensures { result ≡ element_places node.now }
-{
-    ElementPlaces {
-        child: index(NthKind::Child, node),
-        last_child: index(NthKind::LastChild, node),
-        of_type: index(NthKind::OfType, node),
-        last_of_type: index(NthKind::LastOfType, node),
-    }
 }
 
 /// Those of the four places that have been counted.

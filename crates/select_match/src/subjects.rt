@@ -9,12 +9,12 @@ ghost use Rattle.selectors.specs.Forms.{id, class, test_seen, simple_seen, compo
 ghost use Rattle.selectors.specs.declared.selector.NthKind.TheVariants as sides;
 ghost use Rattle.select_match.specs.Elements.{index, is_nth};
 ghost use Rattle.select_match.specs.Matches.{test_holds, simple_holds, compound_holds, left_holds, chain_holds, selector_matches};
-ghost use Rattle.select_match.specs.Subjects.{element_places, class_pieces, is_quick_test, is_quick};
+ghost use Rattle.select_match.specs.Subjects.{class_pieces, is_quick_test, is_quick};
 
 use crate::chains::look_left;
 use crate::elements::{index, is_element, is_filled, is_nth, is_only, is_root, nth_holds};
 use crate::outcome::Outcome;
-use crate::places::{ElementPlaces, KnownPlaces};
+use crate::places::KnownPlaces;
 use crate::simple::has_attribute;
 use crate::stepped::left_by_steps;
 use crate::steps::counts_many;
@@ -62,26 +62,6 @@ impl<'a> Subject<'a> {
             id,
             classes,
             places: KnownPlaces::new(),
-            alloc,
-        })
-    }
-
-    /// An element whose places are known already.
-    pub fn placed(
-        alloc: Global,
-        node: NodeRef<'a>,
-        places: ElementPlaces,
-    ) -> Result<Subject<'a>, AllocError>
-        requires { places ≡ element_places node }
-        ensures { IfOk result (λ s. s ≡ node.entry) }
-    {
-        let id = node.attr("id");
-        let classes = class_pieces(alloc, &node)?;
-        Ok(Subject {
-            node,
-            id,
-            classes,
-            places: KnownPlaces::of(places),
             alloc,
         })
     }

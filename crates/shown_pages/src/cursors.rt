@@ -1,8 +1,7 @@
 //! Shown nodes, and walks over the shown children of a node, read off the page with no memory.
 
-ghost use Rattle.std.specs.Prelude.{◌≡◌, ◌≤◌, ◌<◌, length, option_map, IfSome, Some, IsSome, slice_get};
+ghost use Rattle.std.specs.Prelude.{◌≡◌, ◌≤◌, ◌<◌, IfSome, Some, IsSome};
 ghost use Rattle.node_tree.specs.Nodes.{from, width, tree_at};
-ghost use Rattle.node_tree.specs.Labels.{value_of};
 ghost use Rattle.page_tree.specs.Pages.{find_in, node_at};
 ghost use Rattle.shown_pages.specs.ShownPages.{shown_nodes, shown_branch, shown_page};
 ghost use Rattle.shown_pages.specs.Walks.{IsNextShown, TakesFirst};
@@ -182,28 +181,6 @@ impl<'a> ShownNode<'a> {
         ensures { result.now ≡ self.now.row.label.attributes }
     {
         self.node.attributes()
-    }
-
-    /// The value of the attribute of that name.
-    pub fn attr(&self, name: &str) -> Option<&'a str>
-        ensures { option_map (λ v. v.now) result ≡ value_of name.now self.now.row.label.attributes }
-    {
-        self.node.attr(name)
-    }
-
-    /// How many attributes the node has.
-    pub fn attr_len(&self) -> usize
-        ensures { result ≡ length self.now.row.label.attributes }
-    {
-        self.node.attr_len()
-    }
-
-    /// The name and the value of the attribute at place `i`, counted from 0 in ascending order of the names' bytes.
-    pub fn attr_at(&self, i: usize) -> (&'a str, &'a str)
-        requires { i < length self.now.row.label.attributes }
-        ensures { slice_get self.now.row.label.attributes i ≡ Some (result.0.now, result.1.now) }
-    {
-        self.node.attr_at(i)
     }
 
     /// The number of its shown children. Where texts may be hidden all its children are looked at.

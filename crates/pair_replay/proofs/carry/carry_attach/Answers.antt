@@ -85,7 +85,7 @@ returns-in-Err-attach-clause-follows g c =
     (g.L.Link.down c.attach.new.link) c.attach.new.self in
     keeps-passes (Err c.in-Err-attach.stop) attach_session old new (λ start. refl)
     (keeps-then {T = Unit {0}} {U = Unit {0}} tt (Err c.in-Err-attach.stop) old mid new c.in-Ok.ensures.follows
-    c.in-Err-attach.ensures.follows)
+    c.in-Err-attach.ensures.goes.follows)
 
 pub returns-in-Err-attach-clause-tells : goal.returns-in-Err-attach-clause-tells
 returns-in-Err-attach-clause-tells g c =
@@ -94,7 +94,7 @@ returns-in-Err-attach-clause-tells g c =
     (g.L.Link.down c.settle.new.link) c.settle.new.self in
     let new = moment (g.L.Link.honest c.attach.new.link) (g.L.Link.up c.attach.new.link)
     (g.L.Link.down c.attach.new.link) c.attach.new.self in
-    tells-not c.in-Err-attach.stop c.args.number attach_session old new 0 0 _ _ c.in-Err-attach.ensures.cause
+    tells-not c.in-Err-attach.stop c.args.number attach_session old new 0 0 _ _ c.in-Err-attach.ensures.goes.cause
 
 pub returns-in-Err-attach-clause-runs : goal.returns-in-Err-attach-clause-runs
 returns-in-Err-attach-clause-runs g c =
@@ -105,7 +105,7 @@ returns-in-Err-attach-clause-runs g c =
     (g.L.Link.down c.attach.new.link) c.attach.new.self in
     λ taken. attach-unsent c.args.number taken old mid c.in-Ok.ensures.steps
     (sym c.if-second_stands.ensures) c.in-Err-attach.stop new 0 0 _ _
-    c.in-Err-attach.ensures.cause c.in-Err-attach.ensures.steps
+    c.in-Err-attach.ensures.goes.cause c.in-Err-attach.ensures.goes.steps
 
 pub returns-in-Err-attach-clause-honest : goal.returns-in-Err-attach-clause-honest
 returns-in-Err-attach-clause-honest g c =
@@ -114,7 +114,7 @@ returns-in-Err-attach-clause-honest g c =
 pub returns-in-Err-attach-clause-cause : goal.returns-in-Err-attach-clause-cause
 returns-in-Err-attach-clause-cause g c =
     later-cause (Err c.in-Err-attach.stop) 0 0 0 _ _ _ refl c.in-Ok.ensures.cause.others.2
-    (stop-run (Err c.in-Err-attach.stop) 0 0 _ _ c.in-Err-attach.ensures.cause)
+    (stop-run (Err c.in-Err-attach.stop) 0 0 _ _ c.in-Err-attach.ensures.goes.cause)
 
 pub returns-in-Err-settle-clause-follows : goal.returns-in-Err-settle-clause-follows
 returns-in-Err-settle-clause-follows g c =
@@ -127,7 +127,7 @@ returns-in-Err-settle-clause-follows g c =
     (g.L.Link.down c.settle-2.new.link) c.settle-2.new.self in
     keeps-passes (Err c.in-Err-settle.stop) attach_session old mid3 (λ start. refl)
     (keeps-then {T = Unit {0}} {U = Unit {0}} tt (Err c.in-Err-settle.stop) old mid2 mid3
-    (keeps-then {T = Unit {0}} {U = Unit {0}} tt (Ok tt) old mid mid2 c.in-Ok.ensures.follows c.in-Ok-attach.ensures.follows)
+    (keeps-then {T = Unit {0}} {U = Unit {0}} tt (Ok tt) old mid mid2 c.in-Ok.ensures.follows c.in-Ok-attach.ensures.goes.follows)
     c.in-Err-settle.ensures.follows)
 
 pub returns-in-Err-settle-clause-tells : goal.returns-in-Err-settle-clause-tells
@@ -152,7 +152,7 @@ returns-in-Err-settle-clause-runs g c =
     (g.L.Link.down c.settle-2.new.link) c.settle-2.new.self in
     λ taken. attach-stops c.args.number taken old mid c.in-Ok.ensures.steps
     (sym c.if-second_stands.ensures) c.in-Err-settle.stop mid2 mid3 0 0 _ _
-    c.in-Err-settle.ensures.cause c.in-Ok-attach.ensures.steps c.in-Err-settle.ensures.steps
+    c.in-Err-settle.ensures.cause c.in-Ok-attach.ensures.goes.steps c.in-Err-settle.ensures.steps
 
 pub returns-in-Err-settle-clause-honest : goal.returns-in-Err-settle-clause-honest
 returns-in-Err-settle-clause-honest g c =
@@ -160,7 +160,7 @@ returns-in-Err-settle-clause-honest g c =
 
 pub returns-in-Err-settle-clause-cause : goal.returns-in-Err-settle-clause-cause
 returns-in-Err-settle-clause-cause g c =
-    later-cause (Err c.in-Err-settle.stop) 0 0 0 _ _ _ refl (c.in-Ok-attach.ensures.cause.others.2 ∙ c.in-Ok.ensures.cause.others.2)
+    later-cause (Err c.in-Err-settle.stop) 0 0 0 _ _ _ refl (c.in-Ok-attach.ensures.goes.cause.others.2 ∙ c.in-Ok.ensures.cause.others.2)
     (stop-run (Err c.in-Err-settle.stop) 0 0 _ _ c.in-Err-settle.ensures.cause)
 
 pub returns-in-Ok-settle-clause-follows : goal.returns-in-Ok-settle-clause-follows
@@ -175,7 +175,7 @@ returns-in-Ok-settle-clause-follows g c =
     keeps-passes (Ok tt) attach_session old (record mid3 { ends = c.forget_second.new.self }) (λ start. refl)
     (keeps-told true old mid3 c.forget_second.new.self _ c.forget_second.ensures.ends
     (keeps-then {T = Unit {0}} {U = Unit {0}} tt (Ok tt) old mid2 mid3
-    (keeps-then {T = Unit {0}} {U = Unit {0}} tt (Ok tt) old mid mid2 c.in-Ok.ensures.follows c.in-Ok-attach.ensures.follows)
+    (keeps-then {T = Unit {0}} {U = Unit {0}} tt (Ok tt) old mid mid2 c.in-Ok.ensures.follows c.in-Ok-attach.ensures.goes.follows)
     c.in-Ok-settle.ensures.follows))
 
 pub returns-in-Ok-settle-clause-tells : goal.returns-in-Ok-settle-clause-tells
@@ -189,7 +189,7 @@ returns-in-Ok-settle-clause-tells g c =
     (g.L.Link.down c.settle-2.new.link) c.settle-2.new.self in
     attach-tells c.args.number old mid (record mid3 { ends = c.forget_second.new.self }) c.in-Ok.ensures.follows
     (keeps-told true mid mid3 c.forget_second.new.self _ c.forget_second.ensures.ends
-    (keeps-then {T = Unit {0}} {U = Unit {0}} tt (Ok tt) mid mid2 mid3 c.in-Ok-attach.ensures.follows c.in-Ok-settle.ensures.follows))
+    (keeps-then {T = Unit {0}} {U = Unit {0}} tt (Ok tt) mid mid2 mid3 c.in-Ok-attach.ensures.goes.follows c.in-Ok-settle.ensures.follows))
     (sym c.if-second_stands.ensures)
 
 pub returns-in-Ok-settle-clause-runs : goal.returns-in-Ok-settle-clause-runs
@@ -203,7 +203,7 @@ returns-in-Ok-settle-clause-runs g c =
     (g.L.Link.down c.settle-2.new.link) c.settle-2.new.self in
     λ taken. attach-done c.args.number taken old mid c.in-Ok.ensures.steps
     (sym c.if-second_stands.ensures) mid2 mid3 c.forget_second.new.self
-    _ c.in-Ok-attach.ensures.steps c.in-Ok-settle.ensures.steps c.forget_second.ensures.ends c.forget_second.ensures.told
+    _ c.in-Ok-attach.ensures.goes.steps c.in-Ok-settle.ensures.steps c.forget_second.ensures.ends c.forget_second.ensures.told
 
 pub returns-in-Ok-settle-clause-honest : goal.returns-in-Ok-settle-clause-honest
 returns-in-Ok-settle-clause-honest g c =
@@ -211,5 +211,5 @@ returns-in-Ok-settle-clause-honest g c =
 
 pub returns-in-Ok-settle-clause-cause : goal.returns-in-Ok-settle-clause-cause
 returns-in-Ok-settle-clause-cause g c =
-    later-cause (Ok tt) 0 0 0 _ _ _ refl (c.in-Ok-attach.ensures.cause.others.2 ∙ c.in-Ok.ensures.cause.others.2)
+    later-cause (Ok tt) 0 0 0 _ _ _ refl (c.in-Ok-attach.ensures.goes.cause.others.2 ∙ c.in-Ok.ensures.cause.others.2)
     (stop-run (Ok tt) 0 0 _ _ c.in-Ok-settle.ensures.cause)

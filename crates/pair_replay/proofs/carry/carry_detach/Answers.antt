@@ -84,7 +84,7 @@ returns-in-Err-detach-clause-follows g c =
     (g.L.Link.down c.detach.new.link) c.detach.new.self in
     keeps-passes (Err c.in-Err-detach.stop) detach_session old new (λ start. refl)
     (keeps-then {T = Unit {0}} {U = Unit {0}} tt (Err c.in-Err-detach.stop) old mid new c.in-Ok.ensures.follows
-    c.in-Err-detach.ensures.follows)
+    c.in-Err-detach.ensures.goes.follows)
 
 pub returns-in-Err-detach-clause-tells : goal.returns-in-Err-detach-clause-tells
 returns-in-Err-detach-clause-tells g c =
@@ -93,7 +93,7 @@ returns-in-Err-detach-clause-tells g c =
     (g.L.Link.down c.settle.new.link) c.settle.new.self in
     let new = moment (g.L.Link.honest c.detach.new.link) (g.L.Link.up c.detach.new.link)
     (g.L.Link.down c.detach.new.link) c.detach.new.self in
-    tells-not c.in-Err-detach.stop c.args.number detach_session old new 0 0 _ _ c.in-Err-detach.ensures.cause
+    tells-not c.in-Err-detach.stop c.args.number detach_session old new 0 0 _ _ c.in-Err-detach.ensures.goes.cause
 
 pub returns-in-Err-detach-clause-runs : goal.returns-in-Err-detach-clause-runs
 returns-in-Err-detach-clause-runs g c =
@@ -104,7 +104,7 @@ returns-in-Err-detach-clause-runs g c =
     (g.L.Link.down c.detach.new.link) c.detach.new.self in
     λ taken. detach-unsent c.args.number taken old mid c.in-Ok.ensures.steps
     (sym c.if-not-second_stands.ensures) c.in-Err-detach.stop new 0 0 _ _
-    c.in-Err-detach.ensures.cause c.in-Err-detach.ensures.steps
+    c.in-Err-detach.ensures.goes.cause c.in-Err-detach.ensures.goes.steps
 
 pub returns-in-Err-detach-clause-honest : goal.returns-in-Err-detach-clause-honest
 returns-in-Err-detach-clause-honest g c =
@@ -113,7 +113,7 @@ returns-in-Err-detach-clause-honest g c =
 pub returns-in-Err-detach-clause-cause : goal.returns-in-Err-detach-clause-cause
 returns-in-Err-detach-clause-cause g c =
     later-cause (Err c.in-Err-detach.stop) 0 0 0 _ _ _ refl c.in-Ok.ensures.cause.others.2
-    (stop-run (Err c.in-Err-detach.stop) 0 0 _ _ c.in-Err-detach.ensures.cause)
+    (stop-run (Err c.in-Err-detach.stop) 0 0 _ _ c.in-Err-detach.ensures.goes.cause)
 
 pub returns-in-Ok-detach-clause-follows : goal.returns-in-Ok-detach-clause-follows
 returns-in-Ok-detach-clause-follows g c =
@@ -126,7 +126,7 @@ returns-in-Ok-detach-clause-follows g c =
     (g.L.Link.down c.settle-in-Ok-detach.new.link) c.settle-in-Ok-detach.new.self in
     keeps-passes c.settle-in-Ok-detach.result detach_session old mid3 (λ start. refl)
     (keeps-then {T = Unit {0}} {U = Unit {0}} tt c.settle-in-Ok-detach.result old mid2 mid3
-    (keeps-then {T = Unit {0}} {U = Unit {0}} tt (Ok tt) old mid mid2 c.in-Ok.ensures.follows c.in-Ok-detach.ensures.follows)
+    (keeps-then {T = Unit {0}} {U = Unit {0}} tt (Ok tt) old mid mid2 c.in-Ok.ensures.follows c.in-Ok-detach.ensures.goes.follows)
     c.settle-in-Ok-detach.ensures.follows)
 
 pub returns-in-Ok-detach-clause-tells : goal.returns-in-Ok-detach-clause-tells
@@ -140,7 +140,7 @@ returns-in-Ok-detach-clause-tells g c =
     (g.L.Link.down c.settle-in-Ok-detach.new.link) c.settle-in-Ok-detach.new.self in
     detach-judged c.settle-in-Ok-detach.result c.args.number old mid mid2 mid3 0 0 _ _ c.settle-in-Ok-detach.ensures.cause
     c.in-Ok.ensures.follows
-    c.in-Ok-detach.ensures.follows c.settle-in-Ok-detach.ensures.follows (sym c.if-not-second_stands.ensures)
+    c.in-Ok-detach.ensures.goes.follows c.settle-in-Ok-detach.ensures.follows (sym c.if-not-second_stands.ensures)
 
 pub returns-in-Ok-detach-clause-runs : goal.returns-in-Ok-detach-clause-runs
 returns-in-Ok-detach-clause-runs g c =
@@ -153,7 +153,7 @@ returns-in-Ok-detach-clause-runs g c =
     (g.L.Link.down c.settle-in-Ok-detach.new.link) c.settle-in-Ok-detach.new.self in
     λ taken. detach-ends c.args.number taken old mid c.in-Ok.ensures.steps
     (sym c.if-not-second_stands.ensures) c.settle-in-Ok-detach.result mid2 mid3 0 0 _ _
-    c.settle-in-Ok-detach.ensures.cause c.in-Ok-detach.ensures.steps c.settle-in-Ok-detach.ensures.steps
+    c.settle-in-Ok-detach.ensures.cause c.in-Ok-detach.ensures.goes.steps c.settle-in-Ok-detach.ensures.steps
 
 pub returns-in-Ok-detach-clause-honest : goal.returns-in-Ok-detach-clause-honest
 returns-in-Ok-detach-clause-honest g c =
@@ -161,5 +161,5 @@ returns-in-Ok-detach-clause-honest g c =
 
 pub returns-in-Ok-detach-clause-cause : goal.returns-in-Ok-detach-clause-cause
 returns-in-Ok-detach-clause-cause g c =
-    later-cause c.settle-in-Ok-detach.result 0 0 0 _ _ _ refl (c.in-Ok-detach.ensures.cause.others.2 ∙ c.in-Ok.ensures.cause.others.2)
+    later-cause c.settle-in-Ok-detach.result 0 0 0 _ _ _ refl (c.in-Ok-detach.ensures.goes.cause.others.2 ∙ c.in-Ok.ensures.cause.others.2)
     (stop-run c.settle-in-Ok-detach.result 0 0 _ _ c.settle-in-Ok-detach.ensures.cause)

@@ -20,8 +20,8 @@ returns-in-Ok g c =
     record {
       honest = search rules;
       cause = search rules;
-      follows = λ start up0 down0 run. c.deliver_all.ensures.follows start up0 down0 (c.in-Ok.ensures.follows start up0 down0 run).0;
-      steps = text-fetched c.args.second c.args.number c.deliver_all.result old mid new c.requires.stands c.in-Ok.ensures.steps
+      follows = λ start up0 down0 run. c.deliver_all.ensures.follows start up0 down0 (c.in-Ok.ensures.goes.follows start up0 down0 run).0;
+      steps = text-fetched c.args.second c.args.number c.deliver_all.result old mid new c.requires.stands c.in-Ok.ensures.goes.steps
           c.deliver_all.ensures.steps;
     }
 
@@ -33,6 +33,6 @@ returns-in-Err g c =
     record {
       honest = search rules;
       cause = search rules;
-      follows = c.in-Err.ensures.follows;
-      steps = text-unsent c.args.second c.args.number c.in-Err.stop old new _ _ c.in-Err.ensures.cause c.in-Err.ensures.steps;
+      follows = c.in-Err.ensures.goes.follows;
+      steps = text-unsent c.args.second c.args.number c.in-Err.stop old new _ _ c.in-Err.ensures.goes.cause c.in-Err.ensures.goes.steps;
     }

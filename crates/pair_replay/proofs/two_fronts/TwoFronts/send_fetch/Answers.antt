@@ -7,8 +7,8 @@ use Rattle.pair_replay.proofs.EndLemmas.{fetched-goes, has-ids}
 use Rattle.pair_replay.specs.Running.{pair_ends_of}
 use Rattle.pair_replay.proofs.two_fronts.TwoFronts.send_fetch.Goals as goal
 
-pub returns : goal.returns
-returns g c =
+pub returns-clause-goes : goal.returns-clause-goes
+returns-clause-goes g c =
     let frame = c.in_ok-frame.frame.items in
     let sent : SentUp c.send_up.result (g.L.Link.up c.args.link.now) (g.L.Link.down c.args.link.now) (g.L.Link.up c.send_up.new.link)
     (g.L.Link.down c.send_up.new.link) c.args.self.now.ends c.send_up.new.self c.deref.result.now = record {
@@ -43,8 +43,8 @@ returns g c =
           c.in_ok-frame.ensures.asked c.deref.ensures.value;
     }
 
-pub returns-then-not-has_room : goal.returns-then-not-has_room
-returns-then-not-has_room g c = record {
+pub returns-then-not-has_room-clause-goes : goal.returns-then-not-has_room-clause-goes
+returns-then-not-has_room-clause-goes g c = record {
   honest = search rules;
   cause = search rules;
   follows = λ start up0 down0 run. (
