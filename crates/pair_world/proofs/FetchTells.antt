@@ -159,18 +159,3 @@ module _ (n : PairAudience) where
       → DeedsHaveRoom (deeds line (pair_telling n w)) (pair_telling n w)
   line-room line w room =
       subst (λ ds. DeedsHaveRoom ds (pair_telling n w)) (sym (deeds-same line w)) (deeds-room (deeds line w) w room)
-
-    where-true : (b : Bool) → WhereTrue b (RefreshHasRoom v) → WhereTrue b (RefreshHasRoom (pair_telling n v))
-    where-true true room = refresh-room n v room
-    where-true false room = room
-
-    by : (o : Option LineFault)
-        → ((m : PairAudience) → Later (fresh_pair_line line v) → Later (pair_telling m (fresh_pair_line line v)))
-        → line_or o line v (Later (fresh_pair_line line v))
-        → line_or o line (pair_telling n v) (Later (fresh_pair_line line (pair_telling n v)))
-    by None next room = (
-      line-room n line v room.0,
-      subst Later (sym (line-retold n line v))
-          (next (told_after line (after_deeds_by pair_refreshes (deeds line (pair_telling n v)) (pair_telling n v))) room.1),
-    )
-    by (Some fault) next room = where-true (pair_settles_first line) room
