@@ -2,8 +2,8 @@
 use Rattle.std.specs.Prelude.{◌≡◌, Option, Some, None, Result, Ok, Err, ⊤}
 use Rattle.front_mirror.specs.declared.faults.FrontKind.{FrontKind}
 use Rattle.front_mirror.specs.declared.known.Known.{Known}
-use Rattle.front_mirror.specs.declared.known.FrameErr.{FrameErr}
-use Rattle.front_mirror.specs.declared.known.FrameErr.TheVariants.{Refused, Memory}
+use Rattle.front_mirror.specs.declared.faults.FrameErr.{FrameErr}
+use Rattle.front_mirror.specs.declared.faults.FrameErr.TheVariants.{Refused, Memory}
 use Rattle.front_mirror.specs.declared.faults.FrontErr.{FrontErr}
 use Rattle.front_mirror.specs.declared.faults.FrontErr.TheVariants as front_err
 use Rattle.front_mirror.specs.declared.panels.Change.{Change}

@@ -1,7 +1,7 @@
 ghost use Rattle.std.specs.Prelude.{◌≡◌};
 ghost use Rattle.front_mirror.specs.declared.faults.FrontErr.TheVariants.{Memory};
 
-use std::alloc::AllocError;
+use std::alloc::{AllocError, AllocFailed};
 use thiserror::Error;
 
 /// Why a message is refused.
@@ -42,5 +42,32 @@ impl From<AllocError> for FrontErr {
 
     fn from(_error: AllocError) -> FrontErr {
         FrontErr::Memory
+    }
+}
+
+/// What became of one frame that changed nothing. After `Memory` nothing is said of what is known.
+#[derive(Drop)]
+pub enum FrameErr {
+    Refused(FrontKind),
+    Memory,
+}
+
+impl From<AllocError> for FrameErr {
+    ghost use Rattle.front_mirror.specs.declared.faults.FrameErr.TheVariants.{Memory};
+
+    ghost from_gives = { λ _ e. e ≡ Memory };
+
+    fn from(_error: AllocError) -> FrameErr {
+        FrameErr::Memory
+    }
+}
+
+impl<T: Drop> From<AllocFailed<T>> for FrameErr {
+    ghost use Rattle.front_mirror.specs.declared.faults.FrameErr.TheVariants.{Memory};
+
+    ghost from_gives = { λ _ e. e ≡ Memory };
+
+    fn from(_error: AllocFailed<T>) -> FrameErr {
+        FrameErr::Memory
     }
 }

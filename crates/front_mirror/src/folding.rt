@@ -4,7 +4,7 @@ ghost use Rattle.front_mirror.specs.Known.{known_value, EndsFold, UnlessMemory};
 ghost use Rattle.front_mirror.specs.Panels.{face};
 
 use crate::faults::{FrontErr, FrontFault};
-use crate::known::{FrameErr, Known};
+use crate::known::Known;
 use crate::panels::Panel;
 use crate::places::tell_message;
 use pipe_frames::Splitter;

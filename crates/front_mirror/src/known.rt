@@ -16,7 +16,7 @@ ghost use Rattle.front_mirror.specs.Edits.{edit_told, fits_edit, fits_effect};
 
 use crate::asks::{fetched_sheet, method_of, take_ask};
 use crate::edits::{NodeChange, edit_fault};
-use crate::faults::FrontKind;
+use crate::faults::{FrameErr, FrontKind};
 use crate::mirror::Mirror;
 use crate::panels::Change;
 use crate::pauses::{SeenPause, seen_pause};
@@ -34,23 +34,6 @@ use node_tree::Text;
 use serde_json::Value;
 use std::alloc::{AllocError, Global};
 use std::collections::VecDeque;
-
-/// What became of one frame that changed nothing. After `Memory` nothing is said of what is known.
-#[derive(Drop)]
-pub(crate) enum FrameErr {
-    Refused(FrontKind),
-    Memory,
-}
-
-impl From<AllocError> for FrameErr {
-    ghost use Rattle.front_mirror.specs.declared.known.FrameErr.TheVariants.{Memory};
-
-    ghost from_gives = { λ _ e. e ≡ Memory };
-
-    fn from(_error: AllocError) -> FrameErr {
-        FrameErr::Memory
-    }
-}
 
 // What follows the id of a reply with a document.
 const DOCUMENT: &str = ",\"result\":{\"root\":";

@@ -42,7 +42,7 @@ mod table_edits;
 mod table_walks;
 mod told;
 
-pub use faults::{FrontErr, FrontFault, FrontKind};
+pub use faults::{FrameErr, FrontErr, FrontFault, FrontKind};
 pub use front::{ASK_LIMIT, FETCH_LIMIT, Front};
 pub use laws::{front_law, move_law};
 pub use line_texts::mirror_line;

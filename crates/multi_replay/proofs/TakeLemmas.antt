@@ -8,8 +8,8 @@ use Rattle.front_mirror.specs.declared.faults.FrontKind.TheVariants.{NotMessage}
 use Rattle.front_mirror.specs.Front.{FrontValue, take_frame, FrontState, first_state}
 use Rattle.session_runs.specs.Pairs.{TargetKind, TargetOutcome, nothing_done, session_made, session_dropped}
 use Rattle.session_runs.specs.Pairs.{WaitingTarget, front_pair, asks_of_session, kind_waiting, without_id, target_done, take_target}
-use Rattle.multi_replay.specs.declared.faults.FrameErr.{FrameErr}
-use Rattle.multi_replay.specs.declared.faults.FrameErr.TheVariants.{Refused, Memory}
+use Rattle.front_mirror.specs.declared.faults.FrameErr.{FrameErr}
+use Rattle.front_mirror.specs.declared.faults.FrameErr.TheVariants.{Refused, Memory}
 use Rattle.multi_replay.specs.declared.targets.Waiting.{Waiting}
 use Rattle.multi_replay.specs.declared.pair.SecondFront.{SecondFront}
 use Rattle.multi_replay.specs.Incoming.{target_says}

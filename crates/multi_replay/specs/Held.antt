@@ -12,10 +12,10 @@ use Rattle.multi_replay.specs.declared.incoming.Incoming.{Incoming}
 use Rattle.multi_replay.specs.declared.incoming.Incoming.TheVariants as incoming
 use Rattle.multi_replay.specs.declared.outcomes.Outcome.{Outcome}
 use Rattle.multi_replay.specs.declared.outcomes.Outcome.TheVariants as outcome
-use Rattle.multi_replay.specs.declared.faults.FrameErr.{FrameErr}
-use Rattle.multi_replay.specs.declared.faults.FrameErr.TheVariants.{Refused, Memory}
-use Rattle.multi_replay.specs.declared.targets.Command.{Command}
-use Rattle.multi_replay.specs.declared.targets.Command.TheVariants as command
+use Rattle.front_mirror.specs.declared.faults.FrameErr.{FrameErr}
+use Rattle.front_mirror.specs.declared.faults.FrameErr.TheVariants.{Refused, Memory}
+use Rattle.session_mux.specs.declared.targets.Target.{Target}
+use Rattle.session_mux.specs.declared.targets.Target.TheVariants as target
 use Rattle.multi_replay.specs.declared.targets.Waiting.{Waiting}
 use Rattle.multi_replay.specs.declared.pair.SecondFront.{SecondFront}
 use Rattle.multi_replay.specs.declared.pair.Pair.{Pair}
@@ -23,16 +23,16 @@ use Rattle.multi_replay.specs.Folds.{FoldedPair}
 use Rattle.multi_replay.specs.States.{StatePair, at_rest}
 
 -- which of the two commands it is
-abbrev pub command_kind : Command → TargetKind
-command_kind command.Attach = attach
-command_kind command.Detach = detach
+abbrev pub command_kind : Target → TargetKind
+command_kind target.Attach = attach
+command_kind target.Detach = detach
 
 -- a command that waits
 abbrev pub waiting_seen : Waiting → WaitingTarget
 waiting_seen w = record { id = w.id; kind = command_kind w.command }
 
 -- the first command with that id
-abbrev pub command_among : ℕ → List Waiting → Option Command
+abbrev pub command_among : ℕ → List Waiting → Option Target
 command_among id [] = None
 command_among id (w ∷ ws) = cond (w.id == id) (Some w.command) (command_among id ws)
 

@@ -2,9 +2,8 @@ ghost use Rattle.std.specs.Prelude.{◌≡◌, ◌+◌, [], IfOk, OnOk};
 ghost use Rattle.multi_replay.specs.Folds.{pair_folded, state_reads};
 ghost use Rattle.multi_replay.specs.Held.{pair_seen, folded_seen, AreReady, AreCounted, UnlessDead, Folds};
 
-use crate::faults::FrameErr;
 use crate::pair::Pair;
-use front_mirror::{FrontErr, FrontFault, Panel};
+use front_mirror::{FrameErr, FrontErr, FrontFault, Panel};
 use pipe_frames::Splitter;
 use std::alloc::AllocError;
 

@@ -12,7 +12,6 @@
 #![tactic(auto)]
 
 mod commands;
-mod faults;
 mod folding;
 mod fronts;
 mod incoming;

@@ -5,14 +5,13 @@ ghost use Rattle.session_mux.specs.Targets.{attached_kind};
 ghost use Rattle.multi_replay.specs.Held.{command_kind, Says};
 ghost use Rattle.multi_replay.specs.Incoming.{session_number, made_told, target_says};
 
-use crate::faults::FrameErr;
-use crate::targets::Command;
 use cdp_json::Cursor;
 use cdp_messages::{Down, DownErr, read_down};
 use css_objects::number_in;
-use front_mirror::FrontKind;
+use front_mirror::{FrameErr, FrontKind};
 use node_tree::Text;
 use serde_json::Value;
+use session_mux::Target;
 use std::alloc::Global;
 
 /// What a reply says.
@@ -65,7 +64,7 @@ fn attached(alloc: Global, told: &Value) -> Result<Outcome, FrameErr>
 /// What a frame says as the reply to that command. It is refused where it is neither an error nor what such a command is answered.
 pub(crate) fn read_outcome(
     alloc: Global,
-    command: Command,
+    command: Target,
     frame: &[u8],
 ) -> Result<Outcome, FrameErr>
     ensures { Says result (target_says (command_kind command) frame.now) }
@@ -77,8 +76,8 @@ pub(crate) fn read_outcome(
                 result: told,
             },
         ) => match command {
-            Command::Attach => attached(alloc, &told),
-            Command::Detach => Ok(Outcome::Dropped),
+            Target::Attach => attached(alloc, &told),
+            Target::Detach => Ok(Outcome::Dropped),
         },
         Ok(Down::Fault { .. }) => Ok(Outcome::NothingDone),
         Ok(Down::Event(_)) | Err(DownErr::NotMessage) => {

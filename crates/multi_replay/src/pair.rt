@@ -14,13 +14,13 @@ ghost use Rattle.multi_replay.specs.States.{first_pair, at_rest, is_there, front
 ghost use Rattle.multi_replay.specs.States.{attach_text, detach_text, ask_text, fetch_text};
 
 use crate::commands::{attach_frame, detach_frame, fetch_frame, session_value};
-use crate::faults::FrameErr;
 use crate::incoming::{Incoming, read_incoming};
 use crate::outcomes::{Outcome, read_outcome};
-use crate::targets::{Command, Waiting, command_under, is_target_id, take_waiting};
-use front_mirror::{ASK_LIMIT, Front, FrontErr, FrontKind, Panel};
+use crate::targets::{Waiting, command_under, is_target_id, take_waiting};
+use front_mirror::{ASK_LIMIT, FrameErr, Front, FrontErr, FrontKind, Panel};
 use node_tree::Text;
 use serde_json::Value;
+use session_mux::Target;
 use std::alloc::{AllocError, Global};
 use std::collections::VecDeque;
 
@@ -253,7 +253,7 @@ impl<P: Panel> Pair<P> {
         let frame = attach_frame(self.alloc, id)?;
         self.waiting.push_back(Waiting {
             id,
-            command: Command::Attach,
+            command: Target::Attach,
         })?;
         Ok(frame)
     }
@@ -273,7 +273,7 @@ impl<P: Panel> Pair<P> {
         };
         self.waiting.push_back(Waiting {
             id,
-            command: Command::Detach,
+            command: Target::Detach,
         })?;
         Ok(frame)
     }

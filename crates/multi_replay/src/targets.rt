@@ -5,6 +5,7 @@ ghost use Rattle.multi_replay.specs.Incoming.{is_target_id};
 
 use cdp_json::COUNTED_LIMIT;
 use front_mirror::FETCH_LIMIT;
+use session_mux::Target;
 use std::collections::VecDeque;
 
 /// Whether a command that attaches or detaches may have that id, which no ask and no fetch has.
@@ -14,22 +15,15 @@ pub(crate) fn is_target_id(id: u64) -> bool
     id >= FETCH_LIMIT && id < COUNTED_LIMIT
 }
 
-/// Which of the two it is.
-#[derive(Clone, Copy)]
-pub(crate) enum Command {
-    Attach,
-    Detach,
-}
-
 /// A command that waits.
 #[derive(Clone, Copy)]
 pub(crate) struct Waiting {
     pub(crate) id: u64,
-    pub(crate) command: Command,
+    pub(crate) command: Target,
 }
 
 /// The first command with that id.
-pub(crate) fn command_under(waiting: &VecDeque<Waiting>, id: u64) -> Option<Command>
+pub(crate) fn command_under(waiting: &VecDeque<Waiting>, id: u64) -> Option<Target>
     ensures { result ≡ command_among id waiting.now.items }
 {
     for one in waiting {

@@ -21,3 +21,4 @@ mod targets;
 pub use laws::{route_law, tag_law};
 pub use router::{Routed, Router};
 pub use tags::tag;
+pub use targets::Target;

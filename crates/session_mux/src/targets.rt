@@ -9,7 +9,7 @@ use serde_json::{Map, Value};
 
 /// A method of the domain Target.
 #[derive(Clone, Copy)]
-pub(crate) enum Target {
+pub enum Target {
     Attach,
     Detach,
 }
