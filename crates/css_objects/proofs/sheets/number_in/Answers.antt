@@ -25,8 +25,8 @@ returns-in-Err c =
     refl c.in-Err.is
     c.parse.ensures.value.0
 
-pub returns-then-number : goal.returns-then-number
-returns-then-number c =
+pub returns-then-number-lt-COUNTED_LIMIT : goal.returns-then-number-lt-COUNTED_LIMIT
+returns-then-number-lt-COUNTED_LIMIT c =
     read_number (115 ∷ c.args.digits.now) c.args.digits.now c.parse.result c.in-Ok.number
     refl c.in-Ok.is
     c.parse.ensures.value.0
@@ -34,4 +34,4 @@ returns-then-number c =
     (omega arith)).1 e) ∙ c.if-starts_with.false))
     (λ e. true≢false (sym ((starts_char 43 c.args.digits.now c.starts_with-2.result c.starts_with-2.ensures.cases (omega arith)
     (omega arith)).1 e) ∙ c.if-starts_with-2.false))
-    c.if-number.true
+    c.if-number-lt-COUNTED_LIMIT.true
