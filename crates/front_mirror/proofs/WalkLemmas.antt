@@ -35,7 +35,7 @@ module _ {A : Type 0} (said : Nodes Seen → List A) (nothing : said none ≡ []
       let left = drop (i + 1) ks in
       let rest = said (table_trees t (suc levels) left) in
       let here : drop i ks ≡ k ∷ left = drop_more ks i k (slice_get_within ks i k at)
-          ∙ ap (λ (x : ℕ). x ∷ left) (get_or_from_slice_get ks i k k at) in
+      ∙ ap (λ (x : ℕ). x ∷ left) (get_or_from_slice_get ks i k k at) in
       ap (λ (l : List A). l ++ rest) one
       ∙ append_assoc old (said (table_trees t (suc levels) (k ∷ []))) rest
       ∙ ap (λ (l : List A). old ++ l) (sym (said_first k left))
