@@ -98,13 +98,12 @@ module _ (t : Table) (roots : List ℕ) (v : Nodes Seen) (kept : KeepsMirror t r
   level_fits id slot r at is = level_low v id r kept_tree.view.levels (level_is id slot r at is)
 
 -- the lines of all trees
-pub lines_of : {E : Type 0} (t : Table) (roots ks : List ℕ) (v : Nodes Seen) (r : Result (Unit {0}) E) (old new : List ℕ) → ks ≡ roots
+pub lines_of : {E : Type 0} (t : Table) (roots : List ℕ) (v : Nodes Seen) (r : Result (Unit {0}) E) (old new : List ℕ)
     → tree_in t roots ≡ v
-    → OnOk r (new ≡ old ++ lines_at seen_line 0 (table_trees t most_levels ks)) → OnOk r (new ≡ old ++ lines_at seen_line 0 v)
+    → OnOk r (new ≡ old ++ lines_at seen_line 0 (table_trees t most_levels roots)) → OnOk r (new ≡ old ++ lines_at seen_line 0 v)
 unfolding tree_in
-lines_of t roots ks v r old new same view written =
-    on_ok r _ _ (λ e. e ∙ ap (λ (l : List ℕ). old ++ lines_at seen_line 0 (table_trees t most_levels l)) same ∙ ap
-    (λ (n : Nodes Seen). old ++ lines_at seen_line 0 n) view) written
+lines_of t roots v r old new view written =
+    on_ok r _ _ (λ e. e ∙ ap (λ (n : Nodes Seen). old ++ lines_at seen_line 0 n) view) written
 
 -- ---- a slot and its node
 

@@ -1,7 +1,8 @@
 -- Trees of a table, one after the other.
-use Rattle.std.proofs.Common.{◌≡◌, ℕ, suc, ◌+◌, ◌<◌, ◌≤◌, List, [], ◌∷◌, ◌++◌, length, get_or, drop, Option, Some, None, refl, sym, ap, ◌∙◌}
+use Rattle.std.proofs.Common.{◌≡◌, ℕ, suc, ◌+◌, ◌≤◌, List, [], ◌∷◌, ◌++◌, length, slice_get, drop, Option, Some, None, refl, sym, ap, ◌∙◌}
 use Rattle.std.proofs.Common.{append_assoc, append-nil}
 use Rattle.std.proofs.lemmas.List.{drop_more, drop_all}
+use Rattle.std.proofs.lemmas.Option.{slice_get_within, get_or_from_slice_get}
 use Rattle.node_tree.specs.Nodes.{Nodes, none, node, beside}
 use Rattle.node_tree.specs.Seen.{Seen, seen_id}
 use Rattle.node_tree.specs.Arena.{slot_tree, slot_trees, kept_trees}
@@ -27,15 +28,18 @@ module _ {A : Type 0} (said : Nodes Seen → List A) (nothing : said none ≡ []
       ∙ sums (slot_tree by_id (table_slots t) (table_slots t k) (kept_trees by_id (table_slots t) levels) none)
       (slot_trees by_id (table_slots t) (kept_trees by_id (table_slots t) levels) ks)
 
-  pub said_turn : (ks : List ℕ) (i : ℕ) (old new all : List A) → i < length ks
-      → new ≡ old ++ said (table_trees t (suc levels) (get_or ks i 0 ∷ [])) → old ++ said (table_trees t (suc levels) (drop i ks)) ≡ all
+  pub said_turn : (ks : List ℕ) (i k : ℕ) (old new all : List A) → slice_get ks i ≡ Some k
+      → new ≡ old ++ said (table_trees t (suc levels) (k ∷ [])) → old ++ said (table_trees t (suc levels) (drop i ks)) ≡ all
       → new ++ said (table_trees t (suc levels) (drop (i + 1) ks)) ≡ all
-  said_turn ks i old new all within one before =
-      let rest = said (table_trees t (suc levels) (drop (i + 1) ks)) in
+  said_turn ks i k old new all at one before =
+      let left = drop (i + 1) ks in
+      let rest = said (table_trees t (suc levels) left) in
+      let here : drop i ks ≡ k ∷ left = drop_more ks i k (slice_get_within ks i k at)
+      ∙ ap (λ (x : ℕ). x ∷ left) (get_or_from_slice_get ks i k k at) in
       ap (λ (l : List A). l ++ rest) one
-      ∙ append_assoc old (said (table_trees t (suc levels) (get_or ks i 0 ∷ []))) rest
-      ∙ ap (λ (l : List A). old ++ l) (sym (said_first (get_or ks i 0) (drop (i + 1) ks)))
-      ∙ ap (λ (js : List ℕ). old ++ said (table_trees t (suc levels) js)) (sym (drop_more ks i 0 within))
+      ∙ append_assoc old (said (table_trees t (suc levels) (k ∷ []))) rest
+      ∙ ap (λ (l : List A). old ++ l) (sym (said_first k left))
+      ∙ ap (λ (js : List ℕ). old ++ said (table_trees t (suc levels) js)) (sym here)
       ∙ before
 
   pub said_end : (ks : List ℕ) (i : ℕ) (out all : List A) → length ks ≤ i → out ++ said (table_trees t (suc levels) (drop i ks)) ≡ all

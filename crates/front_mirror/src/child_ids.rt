@@ -43,13 +43,6 @@ impl ChildIds {
         })
     }
 
-    /// The ids in their order.
-    pub(crate) fn as_slice(&self) -> &[u64]
-        ensures { result.now ≡ self.now }
-    {
-        self.ids.as_slice()
-    }
-
     /// How many ids they are.
     pub(crate) fn len(&self) -> usize
         ensures { result ≡ length self.now }

@@ -150,7 +150,7 @@ impl Mirror {
         ensures { OnOk result (out.new.items ≡ out.old.items ++ lines_at seen_line 0 self.now) }
     {
         self.table
-            .write_all(alloc, self.roots.as_slice(), MOST_LEVELS, 0, out)
+            .write_all(alloc, &self.roots, MOST_LEVELS, 0, out)
     }
 
     /// Whether nothing is shown.

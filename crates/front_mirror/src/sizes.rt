@@ -19,7 +19,6 @@ use crate::told::children_of;
 use dom_objects::NodeTree;
 use number_map::NumberMap;
 use std::alloc::{AllocError, Global};
-use std::slice;
 
 /// Notes how many nodes stand at and below each of these, and tells how many they are.
 #[tactic(auto, using(crate::proofs::ToldLemmas::node_count_below))]
@@ -94,7 +93,7 @@ fn leaving(alloc: Global, table: &Table, edit: &NodeChange) -> Result<Vec<u64>, 
 {
     let mut ids = Vec::new(alloc);
     if let NodeChange::Remove(child) = edit {
-        table.list_all(slice::from_ref(child), MOST_LEVELS, &mut ids)?;
+        table.list_one(*child, MOST_LEVELS - 1, &mut ids)?;
     }
     Ok(ids)
 }

@@ -11,7 +11,6 @@ use crate::plants::ids_of;
 use crate::table::Table;
 use dom_objects::NodeTree;
 use std::alloc::{AllocError, Global};
-use std::slice;
 
 impl Table {
     /// Shows the children of a node. After want of memory some of them may stand.
@@ -52,7 +51,7 @@ impl Table {
         ensures { OnOk result (TableCut self.old self.new id child) }
     {
         let mut ids = Vec::new(alloc);
-        self.list_all(slice::from_ref(&child), MOST_LEVELS, &mut ids)?;
+        self.list_one(child, MOST_LEVELS - 1, &mut ids)?;
         self.remove_child(id, child);
         self.remove_all(&ids);
         Ok(())

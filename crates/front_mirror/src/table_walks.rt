@@ -6,6 +6,7 @@ ghost use Rattle.client_views.specs.Views.{keys};
 ghost use Rattle.front_mirror.specs.Outline.{lines_at, seen_line, unshown_of};
 ghost use Rattle.front_mirror.specs.Tables.{table_trees, mirror_row, below_hold};
 
+use crate::child_ids::ChildIds;
 use crate::lines::{write_indent, write_node_line};
 use crate::slots::{Below, Slot};
 use crate::table::Table;
@@ -39,21 +40,26 @@ fn write_slot(alloc: Global, slot: &Slot, out: &mut Vec<u8>) -> Result<(), Alloc
 impl Table {
     /// Appends the id of a node and those of all below it, so many levels down, in document order.
     #[cycle(listing)]
-    fn list_one(&self, id: u64, levels: usize, ids: &mut Vec<u64>) -> Result<(), AllocError>
+    pub(crate) fn list_one(
+        &self,
+        id: u64,
+        levels: usize,
+        ids: &mut Vec<u64>,
+    ) -> Result<(), AllocError>
         ensures { OnOk result (ids.new.items ≡ ids.old.items ++ keys seen_id (table_trees self.now (suc levels) (id ∷ []))) }
     {
         let Some(slot) = self.get(id) else {
             return Ok(());
         };
         ids.push(slot.id)?;
-        self.list_all(slot.children.as_slice(), levels, ids)
+        self.list_all(&slot.children, levels, ids)
     }
 
     /// The same of several nodes.
     #[cycle(listing)]
-    pub(crate) fn list_all(
+    fn list_all(
         &self,
-        roots: &[u64],
+        roots: &ChildIds,
         levels: usize,
         ids: &mut Vec<u64>,
     ) -> Result<(), AllocError>
@@ -62,8 +68,8 @@ impl Table {
         if levels == 0 {
             return Ok(());
         }
-        for id in roots {
-            self.list_one(*id, levels - 1, ids)?;
+        for i in 0..roots.len() {
+            self.list_one(roots.at(i), levels - 1, ids)?;
         }
         Ok(())
     }
@@ -87,7 +93,7 @@ impl Table {
         write_indent(level, out)?;
         write_slot(alloc, slot, out)?;
         out.push(b'\n')?;
-        self.write_all(alloc, slot.children.as_slice(), levels, level + 1, out)
+        self.write_all(alloc, &slot.children, levels, level + 1, out)
     }
 
     /// The same of several nodes.
@@ -95,7 +101,7 @@ impl Table {
     pub(crate) fn write_all(
         &self,
         alloc: Global,
-        roots: &[u64],
+        roots: &ChildIds,
         levels: usize,
         level: usize,
         out: &mut Vec<u8>,
@@ -106,8 +112,8 @@ impl Table {
         if levels == 0 {
             return Ok(());
         }
-        for id in roots {
-            self.write_one(alloc, *id, levels - 1, level, out)?;
+        for i in 0..roots.len() {
+            self.write_one(alloc, roots.at(i), levels - 1, level, out)?;
         }
         Ok(())
     }

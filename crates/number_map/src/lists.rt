@@ -87,13 +87,6 @@ impl NumberList {
         self.numbers[i]
     }
 
-    /// The numbers in their order.
-    pub fn as_slice(&self) -> &[u64]
-        ensures { result.now ≡ self.now }
-    {
-        self.numbers.as_slice()
-    }
-
     /// The place of the first that is the number, and else how many there are.
     pub fn place(&self, number: u64) -> usize
         ensures { result ≡ number_place number self.now }

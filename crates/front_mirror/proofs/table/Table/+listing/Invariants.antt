@@ -11,10 +11,10 @@ decreases-list_one l = 2 * l.levels + 1
 abbrev pub decreases-list_all : goal.decreases-list_all
 decreases-list_all l = 2 * l.levels
 
-abbrev pub invariant-list_all-loop-id : goal.invariant-list_all-loop-id
-invariant-list_all-loop-id l = record {
+abbrev pub invariant-list_all-loop-i : goal.invariant-list_all-loop-i
+invariant-list_all-loop-i l = record {
   some : 0 < l.levels;
   listed :
-      l.ids.items ++ keys seen_id (table_trees l.self (suc (l.levels - 1)) (drop l.id-index l.roots))
+      l.ids.items ++ keys seen_id (table_trees l.self (suc (l.levels - 1)) (drop l.i l.roots))
       ≡ l.initial.ids.items ++ keys seen_id (table_trees l.self (suc (l.levels - 1)) l.roots);
 }

@@ -10,10 +10,10 @@ decreases-write_one l = 2 * l.levels + 1
 abbrev pub decreases-write_all : goal.decreases-write_all
 decreases-write_all l = 2 * l.levels
 
-abbrev pub invariant-write_all-loop-id : goal.invariant-write_all-loop-id
-invariant-write_all-loop-id l = record {
+abbrev pub invariant-write_all-loop-i : goal.invariant-write_all-loop-i
+invariant-write_all-loop-i l = record {
   some : 0 < l.levels;
   written :
-      l.out.items ++ lines_at seen_line l.level (table_trees l.self (suc (l.levels - 1)) (drop l.id-index l.roots))
+      l.out.items ++ lines_at seen_line l.level (table_trees l.self (suc (l.levels - 1)) (drop l.i l.roots))
       ≡ l.initial.out.items ++ lines_at seen_line l.level (table_trees l.self (suc (l.levels - 1)) l.roots);
 }

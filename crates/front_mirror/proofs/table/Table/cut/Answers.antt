@@ -1,5 +1,5 @@
 -- The serials stay those of the slots.
-use Rattle.std.proofs.Common.{◌++◌, refl, ap, ◌∙◌}
+use Rattle.std.proofs.Common.{[], ◌∷◌, ◌++◌, refl, ap, ◌∙◌}
 use Rattle.node_tree.specs.Seen.{seen_id}
 use Rattle.node_tree.specs.Levels.{most_levels}
 use Rattle.client_views.specs.Views.{keys}
@@ -22,7 +22,6 @@ returns c =
       slots_are =
           c.remove_all.ensures.slots
           ∙ ap (λ ids. without_slots ids (table_slots c.remove_child.new.self))
-          (c.deref.ensures.value ∙ c.in_ok-list_all.ensures
-          ∙ ap (λ ids. ids ++ keys seen_id (table_trees c.args.self.now most_levels c.from_ref.result.now)) c.new-ids.ensures.items
-          ∙ ap (λ ids. keys seen_id (table_trees c.args.self.now most_levels ids)) c.from_ref.ensures.value);
+          (c.deref.ensures.value ∙ c.in_ok-list_one.ensures
+          ∙ ap (λ ids. ids ++ keys seen_id (table_trees c.args.self.now most_levels (c.args.child ∷ []))) c.new-ids.ensures.items);
     }
