@@ -13,8 +13,11 @@
 #![tactic(auto)]
 
 mod lists;
+mod long_lists;
 mod maps;
 mod rows;
+mod scans;
+mod shelves;
 
 pub use lists::NumberList;
 pub use maps::{NumberMap, NumberSet};

@@ -1,7 +1,7 @@
 use Rattle.std.proofs.Common.{sym, ap, ◌∙◌}
 use Rattle.std.specs.FinMap as map
 use Rattle.number_map.proofs.PlaceLemmas.{held, seats-with}
-use Rattle.number_map.proofs.lists.seat_new.Goals as goal
+use Rattle.number_map.proofs.long_lists.seat_new.Goals as goal
 
 pub returns-in_ok-insert-clause-ok : goal.returns-in_ok-insert-clause-ok
 returns-in_ok-insert-clause-ok c ks has =

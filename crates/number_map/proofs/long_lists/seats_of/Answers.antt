@@ -1,6 +1,6 @@
 use Rattle.std.proofs.Common.{is_some, sym, ap, ◌∙◌}
 use Rattle.number_map.proofs.PlaceLemmas.{seats-next}
-use Rattle.number_map.proofs.lists.seats_of.Goals as goal
+use Rattle.number_map.proofs.long_lists.seats_of.Goals as goal
 
 pub loop-i-preserved : goal.loop-i-preserved
 loop-i-preserved c =

@@ -1,7 +1,7 @@
 use Rattle.std.proofs.Common.{◌∙◌, ap}
 use Rattle.std.specs.FinMap as map
 use Rattle.number_map.proofs.PlaceLemmas.{held, seats-without}
-use Rattle.number_map.proofs.lists.unseat.Goals as goal
+use Rattle.number_map.proofs.long_lists.unseat.Goals as goal
 
 pub returns-in-Some : goal.returns-in-Some
 returns-in-Some c ks has =
