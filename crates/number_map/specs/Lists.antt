@@ -1,6 +1,7 @@
 -- The numbers of a list, short or long.
 use Rattle.std.specs.Prelude.{ℕ, List}
-use Rattle.number_map.specs.declared.lists.Numbers.{Numbers, Short, Long}
+use Rattle.number_map.specs.declared.lists.Numbers.{Numbers}
+use Rattle.number_map.specs.declared.lists.Numbers.TheVariants.{Short, Long}
 
 -- the numbers in their order
 abbrev pub numbers_of : Numbers → List ℕ

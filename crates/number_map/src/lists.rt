@@ -108,10 +108,7 @@ impl NumberList {
         ensures ok { OnOk result (self.new ≡ insert self.old i number) }
         ensures err { OnErr result (self.new ≡ self.old) }
     {
-        match &mut self.numbers {
-            Numbers::Short(numbers) => numbers.insert(i, number)?,
-            Numbers::Long(list) => list.insert(i, number)?,
-        }
+        put(&mut self.numbers, i, number)?;
         self.lengthen();
         Ok(())
     }
@@ -121,12 +118,7 @@ impl NumberList {
         ensures { self.new ≡ remove self.old i }
     {
         if i < self.len() {
-            match &mut self.numbers {
-                Numbers::Short(numbers) => {
-                    numbers.remove(i);
-                }
-                Numbers::Long(list) => list.remove(i),
-            }
+            take(&mut self.numbers, i);
         }
     }
 
@@ -150,4 +142,32 @@ fn long_of(alloc: Global, numbers: &[u64]) -> Result<Numbers, AllocError>
     ensures { IfOk result (λ long. numbers_of long ≡ numbers.now) }
 {
     Ok(Numbers::Long(Box::new(alloc, LongList::of(alloc, numbers)?)?))
+}
+
+/// Puts a number before the one at place `i`, or last.
+fn put(numbers: &mut Numbers, i: usize, number: u64) -> Result<(), AllocError>
+    requires { i ≤ length (numbers_of numbers.old) }
+    ensures ok { OnOk result (numbers_of numbers.new ≡ insert (numbers_of numbers.old) i number) }
+    ensures err { OnErr result (numbers_of numbers.new ≡ numbers_of numbers.old) }
+{
+    match numbers {
+        Numbers::Short(short) => {
+            short.insert(i, number)?;
+            Ok(())
+        }
+        Numbers::Long(long) => long.insert(i, number),
+    }
+}
+
+/// Takes the number at place `i` out.
+fn take(numbers: &mut Numbers, i: usize)
+    requires { i < length (numbers_of numbers.old) }
+    ensures { numbers_of numbers.new ≡ remove (numbers_of numbers.old) i }
+{
+    match numbers {
+        Numbers::Short(short) => {
+            short.remove(i);
+        }
+        Numbers::Long(long) => long.remove(i),
+    }
 }

@@ -6,7 +6,7 @@ ghost use Rattle.number_map.specs.Places.{number_place, HasSeats};
 ghost use Rattle.number_map.specs.Shelves.{numbers_in, Counted};
 
 use crate::maps::NumberMap;
-use crate::shelves::{FIRST_SERIAL, Shelf, Shelves};
+use crate::shelves::{FIRST_SERIAL, Shelves};
 use std::alloc::{AllocError, Global};
 use std::marker::Model;
 
@@ -86,9 +86,8 @@ impl LongList {
         ensures err { OnErr result (self.new ≡ self.old) }
     {
         seat_new(&mut self.seats, number, self.shelves.serial_at(i))?;
-        if let Some(k) = self.shelves.insert(self.alloc, i, number)? {
-            seat_moved(&mut self.seats, self.shelves.items.get(k));
-        }
+        let cut = self.shelves.insert(self.alloc, i, number)?;
+        seat_moved(&mut self.seats, &self.shelves, cut);
         Ok(())
     }
 
@@ -136,11 +135,17 @@ fn unseat(seats: &mut Option<NumberMap>, number: u64)
     }
 }
 
-/// Gives the numbers of a shelf that was cut off another their new seats. Without memory for it they keep the old.
-fn seat_moved(seats: &mut Option<NumberMap>, shelf: Option<&Shelf>)
+/// Gives the numbers of a shelf that was cut off another, if one was, their new seats. Without memory for it they keep the old.
+fn seat_moved(seats: &mut Option<NumberMap>, shelves: &Shelves, cut: Option<usize>)
     ensures { (ks : List ℕ) → IfSome seats.old (λ s. HasSeats s ks) → IfSome seats.new (λ s. HasSeats s ks) }
 {
-    if let (Some(seated), Some(shelf)) = (seats, shelf) {
+    let Some(k) = cut else {
+        return;
+    };
+    let Some(shelf) = shelves.items.get(k) else {
+        return;
+    };
+    if let Some(seated) = seats {
         seat_all(seated, shelf.numbers.as_slice(), shelf.serial);
     }
 }

@@ -78,8 +78,14 @@ impl Shelves {
         requires { (k : ℕ) → StartAt self.now.items.items k }
         ensures { IfSome result (λ j. Within self.now.items.items place k j) }
     {
-        let shelf = self.items.get(k)?;
-        let j = place.checked_sub(shelf.start)?;
+        if k >= self.items.len() {
+            return None;
+        }
+        let shelf = &self.items[k];
+        if place < shelf.start {
+            return None;
+        }
+        let j = place - shelf.start;
         if j < shelf.numbers.len() {
             return Some(j);
         }
@@ -93,11 +99,22 @@ impl Shelves {
         ensures { Within self.now.items.items place result.0 result.1 }
     {
         let k = self.near(place);
-        if let Some(j) = self.within(k, place) {
-            return (k, j);
+        match self.within(k, place) {
+            Some(j) => (k, j),
+            None => self.walk_to(place),
         }
+    }
+
+    /// The same, by a walk over the shelves.
+    fn walk_to(&self, place: usize) -> (usize, usize)
+        requires inside { place < length (numbers_in self.now.items.items) }
+        requires counted { Counted self.now }
+        ensures { Within self.now.items.items place result.0 result.1 }
+    {
         for k in 0..self.items.len() {
-            if let Some(j) = self.within(k, place) {
+            let shelf = &self.items[k];
+            let j = place - shelf.start;
+            if j < shelf.numbers.len() {
                 return (k, j);
             }
         }
@@ -137,6 +154,7 @@ impl Shelves {
         requires { Counted self.now }
         ensures { result ≡ number_place number (numbers_in self.now.items.items) }
     {
+        let all = self.len;
         for k in 0..self.items.len() {
             let shelf = &self.items[k];
             let j = scan(shelf.numbers.as_slice(), number);
@@ -144,7 +162,7 @@ impl Shelves {
                 return shelf.start + j;
             }
         }
-        self.len
+        all
     }
 
     /// The serial of the shelf in which a place is looked for first. No clause says so.
@@ -155,8 +173,25 @@ impl Shelves {
         }
     }
 
-    /// Where a number comes that is put before a place, or last: a shelf, and how far behind its start. Where there is no shelf,
-    /// one is put in for it.
+    /// Puts an empty shelf in where there is none.
+    fn begin(&mut self, alloc: Global) -> Result<(), AllocError>
+        requires { Counted self.old }
+        ensures same { numbers_in self.new.items.items ≡ numbers_in self.old.items.items }
+        ensures counted { Counted self.new }
+        ensures some { OnOk result (0 < length self.new.items.items) }
+    {
+        if !self.items.is_empty() {
+            return Ok(());
+        }
+        self.items.push(Shelf {
+            serial: FIRST_SERIAL,
+            start: 0,
+            numbers: Vec::new(alloc),
+        })?;
+        Ok(())
+    }
+
+    /// Where a number comes that is put before a place, or last: a shelf, and how far behind its start.
     fn spot(&mut self, alloc: Global, place: usize) -> Result<(usize, usize), AllocError>
         requires inside { place ≤ length (numbers_in self.old.items.items) }
         requires counted { Counted self.old }
@@ -167,13 +202,7 @@ impl Shelves {
         if place < self.len {
             return Ok(self.shelf_at(place));
         }
-        if self.items.is_empty() {
-            self.items.push(Shelf {
-                serial: FIRST_SERIAL,
-                start: 0,
-                numbers: Vec::new(alloc),
-            })?;
-        }
+        self.begin(alloc)?;
         let k = self.items.len() - 1;
         Ok((k, self.items[k].numbers.len()))
     }
@@ -191,8 +220,12 @@ impl Shelves {
         ensures kept { OnErr result (numbers_in self.new.items.items ≡ numbers_in self.old.items.items) }
         ensures counted { Counted self.new }
     {
-        let len = self.len.checked_add(1).ok_or(AllocError)?;
-        let (k, j) = self.spot(alloc, place)?;
+        if self.len == usize::MAX {
+            return Err(AllocError);
+        }
+        let len = self.len + 1;
+        let spot = self.spot(alloc, place)?;
+        let (k, j) = spot;
         self.items[k].numbers.insert(j, number)?;
         self.len = len;
         let cut = self.cut(alloc, k).unwrap_or(None);
@@ -210,12 +243,25 @@ impl Shelves {
     {
         let (k, j) = self.shelf_at(place);
         let number = self.items[k].numbers.remove(j);
-        if self.items[k].numbers.is_empty() {
-            self.items.remove(k);
-        }
+        self.drop_empty(k);
         self.len -= 1;
         self.restart(k);
         number
+    }
+
+    /// Takes a shelf out that has no numbers.
+    fn drop_empty(&mut self, k: usize)
+        requires { k < length self.old.items.items }
+        ensures numbers { numbers_in self.new.items.items ≡ numbers_in self.old.items.items }
+        ensures front { take k self.new.items.items ≡ take k self.old.items.items }
+        ensures known { k ≤ length self.new.items.items }
+        ensures len { self.new.len ≡ self.old.len }
+    {
+        let left = self.items[k].numbers.len();
+        if left > 0 {
+            return;
+        }
+        self.items.remove(k);
     }
 
     /// Cuts a shelf in two, if it is long: the upper half of its numbers comes into a shelf of its own, whose place is given. The
@@ -224,13 +270,15 @@ impl Shelves {
         requires { k < length self.old.items.items }
         ensures numbers { numbers_in self.new.items.items ≡ numbers_in self.old.items.items }
         ensures front { take k self.new.items.items ≡ take k self.old.items.items }
+        ensures known { k ≤ length self.new.items.items }
         ensures len { self.new.len ≡ self.old.len }
     {
-        let half = self.items[k].numbers.len() / 2;
-        if self.items[k].numbers.len() <= MOST_NUMBERS {
+        let len = self.items[k].numbers.len();
+        if len <= MOST_NUMBERS {
             return Ok(None);
         }
-        let upper = copy(alloc, &self.items[k].numbers[half..])?;
+        let half = len / 2;
+        let upper = copy(alloc, numbers_from(self.items[k].numbers.as_slice(), half))?;
         self.last = self.last.saturating_add(1);
         self.items.insert(
             k + 1,
@@ -266,10 +314,12 @@ impl Shelves {
         ensures same { numbers_in self.new.items.items ≡ numbers_in self.old.items.items }
         ensures counted { Counted self.new }
     {
+        let _all = self.len;
         let mut before = self.count_before(from);
         for k in from..self.items.len() {
-            self.items[k].start = before;
-            before += self.items[k].numbers.len();
+            let shelf = &mut self.items[k];
+            shelf.start = before;
+            before += shelf.numbers.len();
         }
     }
 }
@@ -281,4 +331,12 @@ fn copy(alloc: Global, numbers: &[u64]) -> Result<Vec<u64>, AllocError>
     let mut copied = Vec::with_capacity(alloc, numbers.len())?;
     copied.extend_from_slice(numbers)?;
     Ok(copied)
+}
+
+/// The numbers from that place on.
+fn numbers_from(numbers: &[u64], place: usize) -> &[u64]
+    requires { place ≤ length numbers.now }
+    ensures { result.now ≡ drop place numbers.now }
+{
+    &numbers[place..]
 }

@@ -5,6 +5,6 @@ use Rattle.number_map.proofs.long_lists.seat_new.Goals as goal
 
 pub returns-in_ok-insert-clause-ok : goal.returns-in_ok-insert-clause-ok
 returns-in_ok-insert-clause-ok c ks has =
-    seats-with c.in-Some.seated.value.places _ ks c.args.number c.args.place (held _ _ _ c.in-Some.is has)
+    seats-with c.in-Some.seated _ ks c.args.number c.args.serial (held _ _ _ c.in-Some.is has)
     (sym (held _ _ _ c.in-Some.is c.has_seat.ensures) ∙ c.if-has_seat.false)
-    (c.in_ok-insert.ensures.put ∙ ap (λ s. map.insert s.places c.args.number c.args.place) c.deref_mut.ensures.value)
+    (c.in_ok-insert.ensures.put)
