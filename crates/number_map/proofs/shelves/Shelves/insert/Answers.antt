@@ -3,8 +3,42 @@ use Rattle.std.proofs.Common.{◌≡◌, ℕ, List, length, slice_set, ap, sym, 
 use Rattle.std.specs.List.{insert}
 use Rattle.number_map.specs.declared.shelves.Shelf.{Shelf}
 use Rattle.number_map.specs.Shelves.{numbers_in}
-use Rattle.number_map.proofs.ShelfLemmas.{spot-at, spot-fits, put-in, set-same, take_set, length_inserted, starts-front, starts-same}
+use Rattle.number_map.proofs.RowLemmas.{on_err}
+use Rattle.number_map.proofs.ShelfLemmas.{at_low, spot-at, spot-fits, put-in, set-same, take_set, length_set, length_inserted}
+use Rattle.number_map.proofs.ShelfLemmas.{starts-front, starts-same}
 use Rattle.number_map.proofs.shelves.Shelves.insert.Goals as goal
+
+pub returns-in_err-insert-clause-kept : goal.returns-in_err-insert-clause-kept
+returns-in_err-insert-clause-kept c =
+    let ss = c.spot.new.self.items.items in
+    let k = c.in_ok-spot.spot.0 in
+    let m = c.index_mut.result.now in
+    let t : Shelf = record { serial = m.serial; start = m.start; numbers = c.insert.new.self } in
+    let at = spot-at ss c.args.place k c.in_ok-spot.spot.1 m c.index_mut.ensures.value c.in_ok-spot.ensures.spot in
+    on_err c.from_residual-in_err-insert.result (numbers_in (slice_set ss k t) ≡ numbers_in c.args.self.now.items.items)
+    (set-same ss k m t at c.in_err-insert.ensures.items ∙ c.in_ok-spot.ensures.same)
+
+pub returns-in_err-insert-clause-counted : goal.returns-in_err-insert-clause-counted
+returns-in_err-insert-clause-counted c =
+    let ss = c.spot.new.self.items.items in
+    let k = c.in_ok-spot.spot.0 in
+    let m = c.index_mut.result.now in
+    let t : Shelf = record { serial = m.serial; start = m.start; numbers = c.insert.new.self } in
+    let at = spot-at ss c.args.place k c.in_ok-spot.spot.1 m c.index_mut.ensures.value c.in_ok-spot.ensures.spot in
+    record {
+      all = c.in_ok-spot.ensures.counted.all
+          ∙ ap (λ (l : List ℕ). length l) (sym (set-same ss k m t at c.in_err-insert.ensures.items));
+      starts = starts-same ss k m t at c.in_err-insert.ensures.items refl c.in_ok-spot.ensures.counted.starts;
+    }
+
+pub cut-requires : goal.cut-requires
+cut-requires c =
+    let ss = c.spot.new.self.items.items in
+    let k = c.in_ok-spot.spot.0 in
+    let m = c.index_mut.result.now in
+    let t : Shelf = record { serial = m.serial; start = m.start; numbers = c.insert.new.self } in
+    let p = c.in_ok-spot.ensures.spot in
+    omega (arith, length_set ss k t, at_low ss k p.shelf p.is)
 
 pub restart-requires-clause-front : goal.restart-requires-clause-front
 restart-requires-clause-front c =
