@@ -47,6 +47,13 @@ module _ {A : Type 0} where
       let e : suc (length xs) + j ≡ suc (length xs + j) = omega arith in
       ap (λ i. insert (y ∷ (xs ++ (ys ++ zs))) i x) e ∙ ap (λ (l : List A). y ∷ l) (insert-within xs ys zs j x low)
 
+  -- one put in behind the last
+  pub insert-last : (xs : List A) (i : ℕ) (x : A) → i ≡ length xs → insert xs i x ≡ xs ++ x ∷ []
+  insert-last xs i x e = ap (λ k. insert xs k x) e ∙ go xs where
+    go : (xs : List A) → insert xs (length xs) x ≡ xs ++ x ∷ []
+    go [] = refl
+    go (y ∷ xs) = ap (λ (l : List A). y ∷ l) (go xs)
+
   remove_front : (ys zs : List A) (j : ℕ) → j < length ys → remove (ys ++ zs) j ≡ remove ys j ++ zs
   remove_front [] zs j low = absurd (omega (arith, low))
   remove_front (y ∷ ys) zs zero low = refl

@@ -99,7 +99,9 @@ impl NumberList {
         ensures ok { OnOk result (self.new ≡ self.old ++ number ∷ []) }
         ensures err { OnErr result (self.new ≡ self.old) }
     {
-        self.insert(self.len(), number)
+        let len = self.len();
+        self.insert(len, number)?;
+        Ok(())
     }
 
     /// Puts a number before the one at place `i`, or last.
