@@ -7,18 +7,20 @@ use Rattle.number_map.proofs.long_lists.LongList.insert.Goals as goal
 
 pub invariant_of-self-in_err-cut : goal.invariant_of-self-in_err-cut
 invariant_of-self-in_err-cut c =
-    let old = numbers_in c.self.inside.shelves.items.items in
-    (c.insert.ensures.counted,
+    let old = numbers_in c.self.inside.shelves.items.items in (
+      c.insert.ensures.counted,
       held-same c.seat_new.new.seats (λ s. s) old (numbers_in c.insert.new.self.items.items)
-      (λ x. ap (times_in x) c.in_err-cut.ensures.kept)
-      (held-fewer c.seat_new.new.seats old c.args.number (c.in_ok-seat_new.ensures.ok old c.self.invariant.1)))
+          (λ x. ap (times_in x) c.in_err-cut.ensures.kept)
+          (held-fewer c.seat_new.new.seats old c.args.number (c.in_ok-seat_new.ensures.ok old c.self.invariant.1)),
+    )
 
 pub invariant_of-self-2 : goal.invariant_of-self-2
 invariant_of-self-2 c =
     let old = numbers_in c.self.inside.shelves.items.items in
-    let new = numbers_in c.insert.new.self.items.items in
-    (c.insert.ensures.counted,
+    let new = numbers_in c.insert.new.self.items.items in (
+      c.insert.ensures.counted,
       c.seat_moved.ensures new
-      (held-same c.seat_new.new.seats (λ s. s) (c.args.number ∷ old) new
-      (λ x. ap (times_in x) c.in_ok-cut.ensures.put ∙ times-insert x old c.args.i c.args.number)
-      (c.in_ok-seat_new.ensures.ok old c.self.invariant.1)))
+          (held-same c.seat_new.new.seats (λ s. s) (c.args.number ∷ old) new
+          (λ x. ap (times_in x) c.in_ok-cut.ensures.put ∙ times-insert x old c.args.i c.args.number)
+          (c.in_ok-seat_new.ensures.ok old c.self.invariant.1)),
+    )
