@@ -3,7 +3,6 @@ ghost use Rattle.std.specs.Prelude.{◌≡◌, ◌<◌, ◌≤◌, ℕ, List, �
 ghost use Rattle.std.specs.FinMap as map;
 ghost use Rattle.std.specs.List.{insert, remove};
 ghost use Rattle.number_map.specs.Places.{number_place, HasSeats};
-ghost use Rattle.number_map.specs.Shelves.{numbers_in, Counted};
 
 use crate::maps::NumberMap;
 use crate::shelves::{FIRST_SERIAL, Shelves};

@@ -1,5 +1,5 @@
 // Numbers in their order, cut into shelves, so that one comes or leaves without a move of all behind it.
-ghost use Rattle.std.specs.Prelude.{◌≡◌, ℕ, ◌+◌, ◌<◌, ◌≤◌, ◌∷◌, [], length, take, drop, slice_get, Some, IfSome, IfOk, OnOk, OnErr};
+ghost use Rattle.std.specs.Prelude.{◌≡◌, ℕ, ◌+◌, ◌<◌, ◌≤◌, length, take, drop, slice_get, Some, IfSome, IfOk, OnOk, OnErr};
 ghost use Rattle.std.specs.List.{insert, remove};
 ghost use Rattle.number_map.specs.Places.{number_place};
 ghost use Rattle.number_map.specs.Shelves.{numbers_in, StartAt, Counted, Spot, Within};
@@ -12,6 +12,9 @@ const MOST_NUMBERS: usize = 512;
 
 /// So many halvings find a shelf among as many as there can be.
 const MOST_HALVINGS: usize = 64;
+
+/// The first serial: that of the shelf that a list begins with.
+pub(crate) const FIRST_SERIAL: u64 = 0;
 
 /// Numbers that follow one another.
 #[derive(Drop)]
@@ -30,9 +33,6 @@ pub(crate) struct Shelves {
     pub(crate) len: usize,
     last: u64,
 }
-
-/// The first serial: that of the shelf that a list begins with.
-pub(crate) const FIRST_SERIAL: u64 = 0;
 
 impl Shelves {
     /// These numbers in one shelf.
@@ -314,6 +314,7 @@ impl Shelves {
         ensures same { numbers_in self.new.items.items ≡ numbers_in self.old.items.items }
         ensures counted { Counted self.new }
     {
+        // That this number fits bounds the sums below.
         let _all = self.len;
         let mut before = self.count_before(from);
         for k in from..self.items.len() {

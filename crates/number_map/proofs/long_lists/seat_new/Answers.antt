@@ -1,5 +1,4 @@
-use Rattle.std.proofs.Common.{sym, ap, ◌∙◌}
-use Rattle.std.specs.FinMap as map
+use Rattle.std.proofs.Common.{sym, ◌∙◌}
 use Rattle.number_map.proofs.PlaceLemmas.{held, seats-with}
 use Rattle.number_map.proofs.long_lists.seat_new.Goals as goal
 

@@ -1,5 +1,3 @@
-use Rattle.std.proofs.Common.{◌∙◌, ap}
-use Rattle.std.specs.FinMap as map
 use Rattle.number_map.proofs.PlaceLemmas.{held, seats-without}
 use Rattle.number_map.proofs.long_lists.unseat.Goals as goal
 

@@ -1,5 +1,5 @@
 -- The halves of the shelf.
-use Rattle.std.proofs.Common.{◌≡◌, ℕ, ◌+◌, ◌/◌, ◌<◌, List, ◌++◌, length, take, drop, slice_get, slice_set, Some, ap, sym, ◌∙◌, arith, take-append-drop}
+use Rattle.std.proofs.Common.{◌≡◌, ℕ, ◌+◌, ◌/◌, List, ◌++◌, length, drop, slice_get, slice_set, Some, ap, sym, ◌∙◌, arith, take-append-drop}
 use Rattle.number_map.specs.declared.shelves.Shelf.{Shelf}
 use Rattle.number_map.specs.Shelves.{numbers_in}
 use Rattle.number_map.proofs.ShelfLemmas.{read_at, one_at, inserted_before, length_inserted, cut-in}

@@ -1,5 +1,5 @@
 -- The number is found in this shelf, or looked for behind it.
-use Rattle.std.proofs.Common.{◌≡◌, ◌+◌, List, length, take, drop, ap, ◌∙◌, arith}
+use Rattle.std.proofs.Common.{List, length, ap, ◌∙◌, arith}
 use Rattle.std.proofs.lemmas.List.{take_all, drop_all}
 use Rattle.number_map.specs.declared.shelves.Shelf.{Shelf}
 use Rattle.number_map.specs.Places.{number_place}

@@ -1,5 +1,5 @@
 -- One shelf more starts where it is to.
-use Rattle.std.proofs.Common.{◌≡◌, ℕ, ◌+◌, ◌<◌, List, length, take, slice_set, ap, refl, sym, ◌∙◌, arith}
+use Rattle.std.proofs.Common.{ℕ, ◌<◌, List, length, slice_set, ap, refl, sym, ◌∙◌, arith}
 use Rattle.number_map.specs.declared.shelves.Shelf.{Shelf}
 use Rattle.number_map.specs.Shelves.{numbers_in}
 use Rattle.number_map.proofs.ShelfLemmas.{read_at, length-around, length-next, set_at, take_set, length_set, set-same, starts-turn, starts-all}

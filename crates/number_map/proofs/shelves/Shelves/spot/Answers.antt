@@ -1,5 +1,5 @@
 -- The end of the last shelf.
-use Rattle.std.proofs.Common.{◌≡◌, ℕ, suc, ◌+◌, ◌-◌, List, length, take, drop, ap, arith}
+use Rattle.std.proofs.Common.{ℕ, suc, ◌-◌, List, length, ap, arith}
 use Rattle.std.proofs.lemmas.List.{drop_all}
 use Rattle.number_map.specs.declared.shelves.Shelf.{Shelf}
 use Rattle.number_map.specs.Shelves.{numbers_in}

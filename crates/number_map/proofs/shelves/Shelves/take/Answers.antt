@@ -1,5 +1,5 @@
 -- The number leaves its shelf.
-use Rattle.std.proofs.Common.{◌≡◌, ℕ, List, length, slice_set, ap, sym, ◌∙◌, arith}
+use Rattle.std.proofs.Common.{ℕ, List, length, ap, ◌∙◌, arith}
 use Rattle.number_map.specs.declared.shelves.Shelf.{Shelf}
 use Rattle.number_map.specs.Shelves.{numbers_in}
 use Rattle.number_map.proofs.PlaceLemmas.{number_taken}

@@ -1,5 +1,5 @@
 -- The place lies in this shelf, or behind it, and so in one of them.
-use Rattle.std.proofs.Common.{◌≡◌, ◌-◌, ◌<◌, List, length, take, ap, arith}
+use Rattle.std.proofs.Common.{◌-◌, List, length, ap, arith}
 use Rattle.std.proofs.lemmas.List.{take_all}
 use Rattle.number_map.specs.declared.shelves.Shelf.{Shelf}
 use Rattle.number_map.specs.Shelves.{numbers_in}
