@@ -1,3 +1,4 @@
 pub mod RowLemmas
 pub mod MapLemmas
 pub mod PlaceLemmas
+pub mod ShelfLemmas

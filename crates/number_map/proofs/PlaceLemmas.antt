@@ -1,6 +1,6 @@
 -- Places in a list of numbers, how often a number stands in it, and the seats of its numbers.
 use Rattle.std.proofs.Common.{◌≡◌, ℕ, zero, suc, ◌+◌, ◌<◌, ◌≤◌, ◌==◌, Bool, true, false, cond, is_some, List, [], ◌∷◌, ◌++◌, length}
-use Rattle.std.proofs.Common.{take, drop, slice_get, slice_index_or, get_or, Option, Some, None, IfSome}
+use Rattle.std.proofs.Common.{take, drop, slice_get, slice_index_or, get_or, Option, Some, None, IfSome, Result, Ok, Err, OnOk, OnErr}
 use Rattle.std.proofs.Common.{refl, sym, ap, subst, ◌∙◌, inl, inr, arith}
 use Rattle.std.proofs.lemmas.Bool.{eq-eqb, ne_eqb, cases_eq}
 use Rattle.std.proofs.lemmas.Option.{slice_get_read}
@@ -219,3 +219,26 @@ pub held-same : {A : Type 0} (o : Option A) (seats : A → map.FinMap nat_cmp �
     → ((x : ℕ) → times_in x js ≡ times_in x ks) → IfSome o (λ s. HasSeats (seats s) ks) → IfSome o (λ s. HasSeats (seats s) js)
 held-same None seats ks js alike has = has
 held-same (Some s) seats ks js alike has = seats-same (seats s) ks js has alike
+
+-- a seat more, or another one
+pub seats-kept : (seats : map.FinMap nat_cmp ℕ) (ks : List ℕ) (n v : ℕ) → HasSeats seats ks → HasSeats (map.insert seats n v) ks
+seats-kept seats ks n v has x =
+    let g = ap (λ (o : Option ℕ). cond {A = ℕ} (is_some o) 1 0) (get-put seats n v x) in
+    let m = more_seats (x == n) v (map.get seats x) in
+    let h = has x in
+    omega (arith, g, m, h)
+  where
+    more_seats : (b : Bool) (v : ℕ) (o : Option ℕ) → cond {A = ℕ} (is_some o) 1 0 ≤ cond {A = ℕ} (is_some (cond b (Some v) o)) 1 0
+    more_seats true v o = most_once (is_some o)
+    more_seats false v o = omega arith
+
+-- what follows from a call's clause, whether it failed or not
+pub either : {T E : Type 0} (result : Result T E) (P Q R : Type 0) → OnOk result P → OnErr result Q → (P → R) → (Q → R) → R
+either (Ok x) P Q R p q f g = f p
+either (Err e) P Q R p q f g = g q
+
+-- the seats of a list with a number more are seats of the list
+pub held-fewer : (o : Option (map.FinMap nat_cmp ℕ)) (ks : List ℕ) (n : ℕ) → IfSome o (λ s. HasSeats s (n ∷ ks))
+    → IfSome o (λ s. HasSeats s ks)
+held-fewer None ks n has = has
+held-fewer (Some seats) ks n has = λ x. let h = has x in omega (arith, h)

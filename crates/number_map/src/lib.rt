@@ -5,16 +5,19 @@
 //! just what the same call of an ordered map, or of a list, would. That it is quick is no clause.
 //!
 //! Way in: the three types, with the calls of a map and of a list. In a map, numbers that follow one another stand in a row, from
-//! its first to its last, and those before it or too far behind it in a tree. A long list keeps a map of where each number stood
-//! when it came, and looks near there.
+//! its first to its last, and those before it or too far behind it in a tree. A long list stands in shelves, and keeps a map of
+//! the shelf in which it looks for each number first.
 //!
 //! Laws: none; each call's contract is the law. What stands in a row under a key is specs/Rows, the place of a number in a list
-//! specs/Places.
+//! specs/Places, and how a long list is cut into shelves specs/Shelves.
 #![tactic(auto)]
 
 mod lists;
+mod long_lists;
 mod maps;
 mod rows;
+mod scans;
+mod shelves;
 
 pub use lists::NumberList;
 pub use maps::{NumberMap, NumberSet};

@@ -1,7 +1,7 @@
 -- One number more, or the one that is looked for.
 use Rattle.std.proofs.Common.{arith}
 use Rattle.number_map.proofs.PlaceLemmas.{place_here, place_on, number_at}
-use Rattle.number_map.proofs.lists.scan.Goals as goal
+use Rattle.number_map.proofs.scans.scan.Goals as goal
 
 pub returns-then-numbers-i : goal.returns-then-numbers-i
 returns-then-numbers-i c =

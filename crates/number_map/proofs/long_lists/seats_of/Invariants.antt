@@ -1,7 +1,7 @@
 -- The numbers so far have seats.
 use Rattle.std.proofs.Common.{take}
 use Rattle.number_map.specs.Places.{HasSeats}
-use Rattle.number_map.proofs.lists.seats_of.Given as goal
+use Rattle.number_map.proofs.long_lists.seats_of.Given as goal
 
 abbrev pub invariant-loop-i : goal.invariant-loop-i
-invariant-loop-i l = HasSeats l.places (take l.i l.numbers)
+invariant-loop-i l = HasSeats l.seats (take l.i l.numbers)
