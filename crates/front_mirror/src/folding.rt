@@ -3,7 +3,7 @@ ghost use Rattle.front_mirror.specs.Front.{front_folded};
 ghost use Rattle.front_mirror.specs.Known.{known_value, EndsFold, UnlessMemory};
 ghost use Rattle.front_mirror.specs.Panels.{face};
 
-use crate::faults::{FrontErr, FrontFault};
+use crate::faults::{FrameErr, FrontErr, FrontFault};
 use crate::known::Known;
 use crate::panels::Panel;
 use crate::places::tell_message;
