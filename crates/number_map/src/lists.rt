@@ -19,10 +19,20 @@ const MOST_SHORT: usize = 256;
 /// another or nearly, and some more where not. A search then looks for that shelf and through it, the number at a place is found
 /// in as many steps as the number of shelves has bits, and a change moves numbers of one shelf alone. A list in which a number
 /// stood twice while it was long is searched from the front. None of this is a clause.
-#[derive(Drop)]
 pub struct NumberList {
     alloc: Global,
     numbers: Numbers,
+}
+
+impl Drop for NumberList {
+    // One call, so that who lets a list go has no cases of its numbers.
+    fn drop(self) {
+        let NumberList {
+            alloc: _alloc,
+            numbers,
+        } = self;
+        drop(numbers);
+    }
 }
 
 /// The numbers of a list. It becomes long with its 257th number, unless memory is wanted, and stays so.
