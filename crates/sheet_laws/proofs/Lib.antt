@@ -6,3 +6,14 @@ pub mod SaidLists
 pub mod BodyCuts
 pub mod PlaceCuts
 pub mod SheetCuts
+pub mod HeadRows
+pub mod HeadBlocks
+pub mod HeadPaths
+pub mod HeadCuts
+pub mod HeadTexts
+pub mod HeadPuts
+pub mod HeadLaw
+pub mod KeyCuts
+pub mod MediaTexts
+pub mod MediaPuts
+pub mod MediaLaw
