@@ -15,10 +15,7 @@ use Rattle.css_tokens.specs.Seams.{IsWholeBefore, no_more, piece_and}
 use Rattle.css_tokens.proofs.Cuts.{piece_first}
 use Rattle.selectors.specs.Moves.{Cut, cut, moved_place}
 use Rattle.selectors.specs.Words.{words_after, words_of}
-use Rattle.sheet_reader.specs.declared.brackets.Nesting.TheVariants.{Closed}
-use Rattle.sheet_reader.specs.declared.parts.Level.{Level}
-use Rattle.sheet_reader.specs.declared.parts.Level.TheVariants.{Top, Inner}
-use Rattle.sheet_reader.specs.Brackets.{nesting}
+use Rattle.sheet_reader.specs.Brackets.{nesting, nesting_of}
 use Rattle.sheet_reader.specs.Forms.{RuleForm}
 use Rattle.sheet_reader.specs.Layout.{level_of}
 use Rattle.sheet_reader.specs.Parts.{is_passed}
@@ -41,6 +38,7 @@ use Rattle.sheet_reader.proofs.Spots.{Spot}
 use Rattle.sheet_reader.proofs.TextMoves.{pieces_from, same_part, whole_tokens, widen}
 use Rattle.sheet_reader.proofs.WordMoves.{SamePart}
 use Rattle.sheet_laws.specs.Heads.{ends_in_return}
+use Rattle.sheet_laws.proofs.Names.{Level, top_level, block_level}
 
 -- ---- what stands before
 
@@ -65,7 +63,7 @@ lead_whole level after other some solid place z _ (piece_and {ts = more} p front
     k : TokenKind
     k = p.kind
 
-    top : is_passed Top k ≡ true
+    top : is_passed top_level k ≡ true
     top = passed_top level k all.0
 
     here : first_piece (front ++ (rest ++ after)) ≡ Some (piece k (length front))
@@ -136,7 +134,7 @@ pub record PutCut (put : List ℕ) : Type 0 where
   pub parted : put ≡ front ++ trail
   pub blank : AllWhite trail
   pub whole : (v : List ℕ) → Facts v → IsWholeBefore (trail ++ v) 0 front us
-  pub closed : nesting us ≡ Closed
+  pub closed : nesting us ≡ nesting_of []
   pub either : (pieces put ≡ us) ⊎ ((w : Token) × (pieces put ≡ us ++ w ∷ []) × (w.kind ≡ tokens.WhiteSpace))
   pub inside : AllTokens 0 (length put) us
 
@@ -173,7 +171,7 @@ put_words put p = by p.either
     by : (pieces put ≡ p.us) ⊎ ((w : Token) × (pieces put ≡ p.us ++ w ∷ []) × (w.kind ≡ tokens.WhiteSpace))
         → words_of put ≡ words_after put false p.us
     by (inl e) = ap (words_after put false) e
-    by (inr w) = ap (words_after put false) w.1 ∙ trail_words put false p.us (w.0 ∷ []) (ap (is_passed Inner) w.2, tt)
+    by (inr w) = ap (words_after put false) w.1 ∙ trail_words put false p.us (w.0 ∷ []) (ap (is_passed block_level) w.2, tt)
 
 -- ---- the `{` behind it
 
@@ -184,11 +182,11 @@ brace_pieces : (place : ℕ) (rest : List ℕ) → pieces_after place 0 (123 ∷
 brace_pieces place rest = piece_first (123 ∷ rest) place (piece tokens.OpenCurly 1) (open_piece rest) (omega arith) (omega arith)
 
 -- white space and comments, and the `{` behind them
-pub gap_pieces : (place : ℕ) (gap rest : List ℕ) → Gap Inner gap
-    → LeadIs Inner (pieces_after place 0 (gap ++ 123 ∷ rest))
+pub gap_pieces : (place : ℕ) (gap rest : List ℕ) → Gap block_level gap
+    → LeadIs block_level (pieces_after place 0 (gap ++ 123 ∷ rest))
     (brace_at (place + length gap) ∷ pieces_after (place + length gap + 1) 0 rest)
 gap_pieces place gap rest blank =
-    let k = (skips Inner (123 ∷ rest) refl gap blank place).start in
+    let k = (skips block_level (123 ∷ rest) refl gap blank place).start in
     record {
       lead = k.lead;
       is = k.is ∙ ap (λ (ts : List Token). k.lead ++ ts) (brace_pieces (place + length gap) rest);
@@ -198,11 +196,11 @@ gap_pieces place gap rest blank =
 -- The pieces of a part of the new text up to its end, and of what stands behind it. That part stands at m in it, it stands at n, and the
 -- `{` at e.
 pub put_pieces : (put main trail gap rest : List ℕ) (n m e : ℕ) (ts : List Token) → n + (m + length main) + length (trail ++ gap) ≡ e
-    → AllWhite trail → Gap Inner gap → IsWholeBefore (trail ++ (gap ++ 123 ∷ rest)) m main ts
-    → (tail : List Token) × AllPassed Inner tail × (pieces_after (n + m) 0 (main ++ (trail ++ (gap ++ 123 ∷ rest)))
+    → AllWhite trail → Gap block_level gap → IsWholeBefore (trail ++ (gap ++ 123 ∷ rest)) m main ts
+    → (tail : List Token) × AllPassed block_level tail × (pieces_after (n + m) 0 (main ++ (trail ++ (gap ++ 123 ∷ rest)))
     ≡ (map (raised (λ x. n + x)) ts ++ tail) ++ brace_at e ∷ pieces_after (e + 1) 0 rest)
 put_pieces put main trail gap rest n m e ts at white blank whole =
-    let k = gap_pieces (n + (m + length main)) (trail ++ gap) rest (gap_append Inner trail gap (gap_whites Inner trail white) blank) in
+    let k = gap_pieces (n + (m + length main)) (trail ++ gap) rest (gap_append block_level trail gap (gap_whites block_level trail white) blank) in
     let own = map (raised (λ x. n + x)) ts in (
       k.lead,
       k.passed,

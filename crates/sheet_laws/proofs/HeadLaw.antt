@@ -17,9 +17,6 @@ use Rattle.selectors.specs.Words.{word_reading, words_after, words_of}
 use Rattle.selectors.specs.Forms.{SelectorForm, ◌>>=◌}
 use Rattle.selectors.specs.Reading.{range_of, selector_list_of, selectors_of}
 use Rattle.selectors.specs.Moves.{Cut, cut, moved_place, placed_range, placed_selector}
-use Rattle.sheet_reader.specs.declared.brackets.Stop.TheVariants as stops
-use Rattle.sheet_reader.specs.declared.parts.Level.{Level}
-use Rattle.sheet_reader.specs.declared.parts.Level.TheVariants.{Top, Inner}
 use Rattle.sheet_reader.specs.declared.sheet.MediaRule.{MediaRule}
 use Rattle.sheet_reader.specs.declared.sheet.Property.{Property}
 use Rattle.sheet_reader.specs.declared.sheet.Sheet.{Sheet}
@@ -55,6 +52,7 @@ use Rattle.sheet_laws.proofs.HeadCuts.{front_again, brace_at, put_pieces, pieces
 use Rattle.sheet_laws.proofs.HeadCuts.{head_cut, moves, ends_move, front_stands, end_stands}
 use Rattle.sheet_laws.proofs.HeadTexts.{HeadText, head_text}
 use Rattle.sheet_laws.proofs.HeadPuts.{SolidPut, solid_put, new_head, head_nested, head_ends, HeadRead, head_read}
+use Rattle.sheet_laws.proofs.Names.{Level, top_level, block_level, at_block}
 
 -- ---- the rule on its way
 
@@ -142,7 +140,7 @@ record RuleHead (text : List ℕ) (r : RuleForm) (q : RulePart) : Type 0 where
   first : Token
   others : List Token
   is : q.prelude ≡ first ∷ others
-  solid : is_passed Inner first.kind ≡ false
+  solid : is_passed block_level first.kind ≡ false
   curly : q.brace.kind ≡ tokens.OpenCurly
   none : opens [] q.prelude ≡ []
   ranged : range_of (words_after text false q.prelude) ≡ Some r.prelude
@@ -171,8 +169,8 @@ rule_head text r q a level rest e (qualified_part _ _ starts rule) = by q.prelud
       is = is;
       solid = inner_solid level t.kind b.0;
       curly = curly_of rule.ends;
-      none = values_shut stops.Block q.prelude q.brace ((q.body ++ option_to_list q.close) ++ rest)
-          (until_is stops.Block q.prelude (q.brace ∷ ((q.body ++ option_to_list q.close) ++ rest)) rule.values rule.stopped);
+      none = values_shut at_block q.prelude q.brace ((q.body ++ option_to_list q.close) ++ rest)
+          (until_is at_block q.prelude (q.brace ∷ ((q.body ++ option_to_list q.close) ++ rest)) rule.values rule.stopped);
       ranged = ranged;
     }
 
@@ -187,7 +185,7 @@ rule_there text r q around k xs s = by s.is s.all
 
 -- ---- the rule with another prelude
 
-not_passed : (level : Level) (k : TokenKind) → is_passed Top k ≡ false → is_passed level k ≡ false
+not_passed : (level : Level) (k : TokenKind) → is_passed top_level k ≡ false → is_passed level k ≡ false
 not_passed level k e = by (is_passed level k) refl
   where
     clash : (b : Bool) → b ≡ true → b ≡ false → ⊥
@@ -195,7 +193,7 @@ not_passed level k e = by (is_passed level k) refl
     clash false g h = cc
 
     by : (b : Bool) → is_passed level k ≡ b → is_passed level k ≡ false
-    by true h = absurd (clash (is_passed Top k) (passed_top level k h) e)
+    by true h = absurd (clash (is_passed top_level k) (passed_top level k h) e)
     by false h = h
 
 rebraced : (first first2 : Token) (within : List Token) (close : Option Token) (rest : List Token) → first2.kind ≡ tokens.OpenCurly
@@ -205,8 +203,8 @@ rebraced first first2 within _ rest curly (in_open_block _ _ k vs over) = in_ope
 
 -- a rule's part with its ending moved, behind another prelude
 part_again : (level : Level) (f : ℕ → ℕ) (q : RulePart) (ps : List PartForm) (first : Token) (others : List Token) (brace : Token)
-    → is_passed Top first.kind ≡ false → is_at_keyword first.kind ≡ false → brace.kind ≡ tokens.OpenCurly
-    → ((rest : List Token) → until stops.Block ((first ∷ others) ++ brace ∷ rest) ≡ length (first ∷ others))
+    → is_passed top_level first.kind ≡ false → is_at_keyword first.kind ≡ false → brace.kind ≡ tokens.OpenCurly
+    → ((rest : List Token) → until at_block ((first ∷ others) ++ brace ∷ rest) ≡ length (first ∷ others))
     → AreFlat level (rule_part q ∷ ps)
     → AreFlat level (qualified (first ∷ others) (block brace (map (raised f) q.body) (option_map (raised f) q.close)) ∷ map (raised_part f) ps)
 part_again level f q ps first others brace solid no_at curly ends all =
@@ -226,15 +224,15 @@ part_again level f q ps first others brace solid no_at curly ends all =
     by (qualified_part _ _ starts r) =
         qualified_part (first ∷ others) (block brace within close) (not_passed level first.kind solid, no_at)
         (record {
-          values = values_at stops.Block (first ∷ others) (brace ∷ ((within ++ option_to_list close) ++ rest))
+          values = values_at at_block (first ∷ others) (brace ∷ ((within ++ option_to_list close) ++ rest))
               (ends ((within ++ option_to_list close) ++ rest));
-          stopped = ap (stops_at stops.Block) curly;
+          stopped = ap (stops_at at_block) curly;
           ends = rebraced (raised f q.brace) brace within close rest curly r.ends;
         })
 
 module _ (text other put : List ℕ) (r : RuleForm) (q : RulePart) (n lo hi : ℕ) (c : Cut) (start_is : c.start ≡ n)
     (back : SamePart text other (moved_place c) lo hi) (ended : moved_place c (length text) ≡ length other)
-    (own : SamePart put other (λ x. n + x) 0 (length put)) (p : SolidPut put) (tail : List Token) (passed : AllPassed Inner tail)
+    (own : SamePart put other (λ x. n + x) 0 (length put)) (p : SolidPut put) (tail : List Token) (passed : AllPassed block_level tail)
     (head : Range) (ss : List SelectorForm) (spans : range_of (words_of put) ≡ Some head) (found : selectors_of put ≡ Some ss) (brace : Token)
     (curly : brace.kind ≡ tokens.OpenCurly) (opened : moved_place c q.brace.end ≡ brace.end) where
   close_moved : (close : Option Token) → body_end other (option_map (raised (moved_place c)) close) ≡ moved_place c (body_end text close)
@@ -320,14 +318,14 @@ changed_append own other (z ∷ xs) x ys = ap (λ (zs : List _). other z ∷ zs)
 -- the sheet of the new text, by what it is laid out in
 reading_is : (text other : List ℕ) (c : Cut) (new : List Token) (brace : Token) (r : RuleForm) (k size : ℕ) (head : Range)
     (ss : List SelectorForm) (rs : List RuleForm) (ms : List MediaRule) (xs zs : List Token)
-    → (x : Exchanged text other (moved_place c) new brace (r ∷ []) (reheaded c head ss r ∷ []) [] [] None 0 (parts Top (pieces text))
+    → (x : Exchanged text other (moved_place c) new brace (r ∷ []) (reheaded c head ss r ∷ []) [] [] None 0 (parts top_level (pieces text))
     (laid_out text None 0 (pieces text)) rs ms xs zs) → pieces other ≡ xs ++ (new ++ brace ∷ map (raised (moved_place c)) zs)
     → length rs ≡ k → c ≡ range_cut r.prelude size
     → sheet_of other ≡ head_moved_by (sheet_of text) k head ss size (Some r)
 reading_is text other c new brace r k size head ss rs ms xs zs x is number cuts =
     let ls = laid_out text None 0 (pieces text) in
-    let parts_new : x.parts ≡ parts Top (pieces other) =
-    parts_only Top x.parts (flat x.parts) (flat_parts Top x.parts x.all) ∙ ap (parts Top) (x.flat_is ∙ sym is) in
+    let parts_new : x.parts ≡ parts top_level (pieces other) =
+    parts_only top_level x.parts (flat x.parts) (flat_parts top_level x.parts x.all) ∙ ap (parts top_level) (x.flat_is ∙ sym is) in
     let out_new : x.out ≡ laid_out other None 0 (pieces other) =
     laid_only other None 0 (pieces other) x.out (subst (λ (ps : List PartForm). AreLaid other None 0 ps x.out) parts_new x.are_laid) in
     let rules_new : rules_in other (laid_out other None 0 (pieces other))
@@ -338,13 +336,13 @@ reading_is text other c new brace r k size head ss rs ms xs zs x is number cuts 
     let media_new : media_in other (laid_out other None 0 (pieces other)) ≡ map (placed_media (moved_place c)) (media_in text ls) =
     sym (ap (media_in other) out_new) ∙ x.new_media ∙ sym (map_append (placed_media (moved_place c)) ms x.media)
     ∙ ap (map (placed_media (moved_place c))) (sym x.old_media) in
-    let places_new : places_in other (parts Top (pieces other)) ≡ map (moved_place c) (places_in text (parts Top (pieces text))) =
+    let places_new : places_in other (parts top_level (pieces other)) ≡ map (moved_place c) (places_in text (parts top_level (pieces text))) =
     sym (ap (places_in other) parts_new) ∙ x.new_places in
     let zero_stays : 0 ≡ moved_place c 0 = sym (stays c 0 (omega arith)) in
     (λ i. record { rules = rules_new i; places = zero_stays i ∷ places_new i; media = media_new i })
     ∙ ap (λ (d : Cut). record {
       rules = changed_at (reheaded d head ss) (placed_rule (moved_place d)) k (rules_in text ls);
-      places = map (moved_place d) (0 ∷ places_in text (parts Top (pieces text)));
+      places = map (moved_place d) (0 ∷ places_in text (parts top_level (pieces text)));
       media = map (placed_media (moved_place d)) (media_in text ls);
     }) cuts
 
@@ -363,7 +361,7 @@ replaced_at front old behind put text r is start end =
 -- at a rule whose way is known
 head_at : (text put : List ℕ) (k : ℕ) (r : RuleForm) (head : Range) (ss : List SelectorForm) (q : RulePart) (rs : List RuleForm)
     (ms : List MediaRule) (xs zs : List Token)
-    → Way text (RuleHere text r q) None 0 (parts Top (pieces text)) (laid_out text None 0 (pieces text)) rs ms xs zs → length rs ≡ k
+    → Way text (RuleHere text r q) None 0 (parts top_level (pieces text)) (laid_out text None 0 (pieces text)) rs ms xs zs → length rs ≡ k
     → is_sealed put ≡ true → starts_solid put ≡ true → ends_in_return put ≡ false → range_of (words_of put) ≡ Some head
     → selectors_of put ≡ Some ss
     → sheet_of (replaced text r.prelude put) ≡ head_moved_by (sheet_of text) k head ss (length put) (Some r)
@@ -372,13 +370,13 @@ head_at text put k r head ss q rs ms xs zs way number sealed solid no_return spa
     ∙ reading_is text other c new brace r k (length put) head ss rs ms xs zs exchanged pieces_are number cuts
   where
     ps : List PartForm
-    ps = parts Top (pieces text)
+    ps = parts top_level (pieces text)
 
     ls : List Laid
     ls = laid_out text None 0 (pieces text)
 
-    both : (pieces text ≡ flat ps) × AreFlat Top ps
-    both = flat_of Top ps (pieces text) (parts_spelled Top (pieces text))
+    both : (pieces text ≡ flat ps) × AreFlat top_level ps
+    both = flat_of top_level ps (pieces text) (parts_spelled top_level (pieces text))
 
     spot : SpotAt text (RuleHere text r q) None 0 xs
     spot = spot_at text (RuleHere text r q) q.prelude q.brace (rule_starts text r q) None 0 ps ls rs ms xs zs way both.1
@@ -437,7 +435,7 @@ head_at text put k r head ss q rs ms xs zs way number sealed solid no_return spa
     at_brace : n + (0 + length p.front) + length (p.trail ++ h.gap) ≡ n + length put + length h.gap
     at_brace = omega (arith, ap length p.parted, length-append p.front p.trail, length-append p.trail h.gap)
 
-    cut_new : (tail : List Token) × AllPassed Inner tail × (pieces_after (n + 0) 0 (p.front ++ (p.trail ++ v))
+    cut_new : (tail : List Token) × AllPassed block_level tail × (pieces_after (n + 0) 0 (p.front ++ (p.trail ++ v))
         ≡ (map (raised (λ x. n + x)) (p.first ∷ p.others) ++ tail) ++ brace ∷ pieces_after new_end 0 h.rest)
     cut_new = put_pieces put p.front p.trail h.gap h.rest n 0 (n + length put + length h.gap) (p.first ∷ p.others) at_brace p.blank h.blank
         put_whole
@@ -492,7 +490,7 @@ pub head_holds : (text put : List ℕ) (k : ℕ) (r : RuleForm) (head : Range) (
     → selectors_of put ≡ Some ss
     → sheet_of (replaced text r.prelude put) ≡ moved_head (sheet_of text) k head ss (length put)
 head_holds text put k r head ss e sealed solid no_return spans found =
-    let ps = parts Top (pieces text) in
+    let ps = parts top_level (pieces text) in
     let ls = laid_out text None 0 (pieces text) in
     let f = find text r None 0 ps ls (laid_spelled text None 0 (pieces text)) k e in
     let w = rule_way text r f.q None 0 ps ls f.rs f.xs f.more f.path in

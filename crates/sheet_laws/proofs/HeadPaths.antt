@@ -6,10 +6,6 @@ use Rattle.std.proofs.lemmas.List.{append-nil}
 use Rattle.css_tokens.specs.declared.token.Token.{Token}
 use Rattle.css_tokens.specs.declared.token.TokenKind.TheVariants as tokens
 use Rattle.selectors.specs.Moves.{Cut, moved_place}
-use Rattle.sheet_reader.specs.declared.brackets.Bracket.{Bracket}
-use Rattle.sheet_reader.specs.declared.brackets.Stop.TheVariants as stops
-use Rattle.sheet_reader.specs.declared.parts.Level.{Level}
-use Rattle.sheet_reader.specs.declared.parts.Level.TheVariants.{Inner}
 use Rattle.sheet_reader.specs.declared.sheet.MediaRule.{MediaRule}
 use Rattle.sheet_reader.specs.Brackets.{stops_at, until}
 use Rattle.sheet_reader.specs.Forms.{RuleForm}
@@ -37,13 +33,14 @@ use Rattle.sheet_reader.proofs.UsableForms.{media_is, rules_append, no_rule}
 use Rattle.sheet_reader.proofs.ValueForms.{until_is}
 use Rattle.sheet_reader.proofs.WordMoves.{SamePart}
 use Rattle.sheet_laws.proofs.HeadBlocks.{part_quiet, Depth, no_block, depth_keeps, deeper, spread, block_again}
+use Rattle.sheet_laws.proofs.Names.{Bracket, Level, block_level, block_or_semicolon, block_end}
 
 -- A part that stands before: one that is no media rule, or a media rule with what is laid out from its block. Before it stand k media
 -- rules, and behind it j.
 pub data Before (text : List ℕ) : ℕ → ℕ → PartForm → List Laid → Type 0 where
   plain_before : {k : ℕ} (p : PartForm) → media_form text p ≡ None → Before text k k p []
   media_before : {k : ℕ} (p : PartForm) (m : MediaForm) (inner : List PartForm) (within : List Laid) → media_form text p ≡ Some m
-      → AreParts Inner inner m.inside → AreLaid text (Some k) (suc k) inner within
+      → AreParts block_level inner m.inside → AreLaid text (Some k) (suc k) inner within
       → Before text k (suc k + length (media_in text within)) p within
 
 -- What is sought is the first of these parts, or stands in the block of a media rule among them. Before it stand these rules, these media
@@ -58,7 +55,7 @@ pub data Way (text : List ℕ) (Here : Option ℕ → ℕ → List PartForm → 
       (media_in text (laid around p ∷ within) ++ ms) (part_pieces p ++ xs) zs
   into : {around : Option ℕ} {k : ℕ} (m : MediaForm) (first : Token) (last : Option Token) (inner ps : List PartForm)
       (within ls : List Laid) (rs : List RuleForm) (ms : List MediaRule) (xs zs : List Token)
-      → media_form text (at_rule m.keyword m.prelude (block first m.inside last)) ≡ Some m → AreParts Inner inner m.inside
+      → media_form text (at_rule m.keyword m.prelude (block first m.inside last)) ≡ Some m → AreParts block_level inner m.inside
       → Way text Here (Some k) (suc k) inner within rs ms xs zs → AreLaid text around (suc k + length (media_in text within)) ps ls
       → Way text Here around k (at_rule m.keyword m.prelude (block first m.inside last) ∷ ps)
       (laid around (at_rule m.keyword m.prelude (block first m.inside last)) ∷ (within ++ ls)) rs (media_rule text around m ∷ ms)
@@ -89,7 +86,7 @@ module _ (text : List ℕ) (Here : Option ℕ → ℕ → List PartForm → List
         ap (λ (ys : List Token). part_pieces p ++ ys) (way_flat around j ps ls rs ms xs zs way)
         ∙ sym (append_assoc (part_pieces p) xs (head ++ brace ∷ zs))
     way_flat around k _ _ _ _ _ _ (into m first last inner ps within ls rs ms xs zs is own way are) =
-        let inner_is = (flat_of Inner inner m.inside own).0 ∙ way_flat (Some k) (suc k) inner within rs ms xs zs way in
+        let inner_is = (flat_of block_level inner m.inside own).0 ∙ way_flat (Some k) (suc k) inner within rs ms xs zs way in
         let behind = option_to_list last ++ flat ps in
         sym (cut_is m.keyword first m.prelude xs (head ++ brace ∷ (zs ++ behind)) m.inside (option_to_list last) (flat ps)
         (sym (spread xs head brace zs behind) ∙ ap (λ (ys : List Token). ys ++ behind) (sym inner_is)))
@@ -102,14 +99,14 @@ module _ (text : List ℕ) (Here : Option ℕ → ℕ → List PartForm → List
 
     -- how far the search goes in the block of a media rule on the way
     block_fits : (k : ℕ) (m : MediaForm) (first : Token) (last : Option Token) (inner : List PartForm) (within : List Laid)
-        (rs : List RuleForm) (ms : List MediaRule) (xs zs rest : List Token) → AreParts Inner inner m.inside
+        (rs : List RuleForm) (ms : List MediaRule) (xs zs rest : List Token) → AreParts block_level inner m.inside
         → Way text Here (Some k) (suc k) inner within rs ms xs zs → OpensMedia m first last rest
-        → until stops.BlockEnd (xs ++ (head ++ (brace ∷ (zs ++ (option_to_list last ++ rest))))) ≡ length (xs ++ (head ++ brace ∷ zs))
+        → until block_end (xs ++ (head ++ (brace ∷ (zs ++ (option_to_list last ++ rest))))) ≡ length (xs ++ (head ++ brace ∷ zs))
     block_fits k m first last inner within rs ms xs zs rest own way o =
-        let inside_is = (flat_of Inner inner m.inside own).0 ∙ way_flat (Some k) (suc k) inner within rs ms xs zs way in
+        let inside_is = (flat_of block_level inner m.inside own).0 ∙ way_flat (Some k) (suc k) inner within rs ms xs zs way in
         let behind = option_to_list last ++ rest in
-        ap (until stops.BlockEnd) (sym (spread xs head brace zs behind))
-        ∙ ap (λ (ys : List Token). until stops.BlockEnd (ys ++ behind)) (sym inside_is) ∙ o.fits
+        ap (until block_end) (sym (spread xs head brace zs behind))
+        ∙ ap (λ (ys : List Token). until block_end (ys ++ behind)) (sym inside_is) ∙ o.fits
         ∙ ap (λ (ys : List Token). length ys) inside_is
 
     size_is : (xs zs : List Token) → length (xs ++ (head ++ brace ∷ zs)) ≡ length xs + (length head + suc (length zs))
@@ -134,7 +131,7 @@ module _ (text : List ℕ) (Here : Option ℕ → ℕ → List PartForm → List
         record { a = s.a; j = s.j; rs = n.0; spot = n.1; ps = s.ps; ls = s.ls; zs = s.zs; is = s.is; all = s.all }
     spot_at around k _ _ _ _ _ _ (into m first last inner ps within ls rs ms xs zs is own way are) all =
         let o = opens_media (level_of around) m first last (flat ps) all.0 in
-        let s = spot_at (Some k) (suc k) inner within rs ms xs zs way (flat_of Inner inner m.inside own).1 in
+        let s = spot_at (Some k) (suc k) inner within rs ms xs zs way (flat_of block_level inner m.inside own).1 in
         let cut = block_fits k m first last inner within rs ms xs zs (flat ps) own way o in
         record {
           a = s.a;
@@ -142,7 +139,7 @@ module _ (text : List ℕ) (Here : Option ℕ → ℕ → List PartForm → List
           rs = s.rs;
           spot = spots.in_media m.keyword m.prelude first s.rs xs o.at (names_media_is text m.keyword m.prelude first m.inside last m is)
               o.values o.curly
-              (λ others. reaches stops.BlockEnd xs (head ++ (brace ∷ (zs ++ (option_to_list last ++ flat ps)))) others []
+              (λ others. reaches block_end xs (head ++ (brace ∷ (zs ++ (option_to_list last ++ flat ps)))) others []
               (omega (arith, cut, size_is xs zs))) s.spot;
           ps = s.ps;
           ls = s.ls;
@@ -163,11 +160,11 @@ module _ (text : List ℕ) (Here : Option ℕ → ℕ → List PartForm → List
     way_depth around k _ _ _ _ _ _ (into m first last inner ps within ls rs ms xs zs is own way are) all =
         let o = opens_media (level_of around) m first last (flat ps) all.0 in
         let cut = block_fits k m first last inner within rs ms xs zs (flat ps) own way o in
-        let none = values_shut stops.BlockOrSemicolon m.prelude first []
-        (until_is stops.BlockOrSemicolon m.prelude (first ∷ []) (o.values []) (ap (stops_at stops.BlockOrSemicolon) o.curly)) in
+        let none = values_shut block_or_semicolon m.prelude first []
+        (until_is block_or_semicolon m.prelude (first ∷ []) (o.values []) (ap (stops_at block_or_semicolon) o.curly)) in
         deeper head m.keyword first m.prelude xs (brace ∷ (zs ++ (option_to_list last ++ flat ps))) o.at none o.curly
         (omega (arith, cut, size_is xs zs, length-append xs head))
-        (way_depth (Some k) (suc k) inner within rs ms xs zs way (flat_of Inner inner m.inside own).1)
+        (way_depth (Some k) (suc k) inner within rs ms xs zs way (flat_of block_level inner m.inside own).1)
 
 -- ---- the exchange
 
@@ -204,7 +201,7 @@ at_rule_again : (level : Level) (keyword first : Token) (prelude within own : Li
     → IsPart level (at_rule keyword prelude (block first own last2)) rest2
 at_rule_again level keyword first prelude within own last last2 rest rest2 again (at_rule_part _ _ _ e r) =
     at_rule_part keyword prelude (block first own last2) e (record {
-      values = values_rest (outside stops.BlockOrSemicolon) prelude (first ∷ ((within ++ option_to_list last) ++ rest))
+      values = values_rest (outside block_or_semicolon) prelude (first ∷ ((within ++ option_to_list last) ++ rest))
           (first ∷ ((own ++ option_to_list last2) ++ rest2)) (cons_follows first _) r.values;
       stopped = r.stopped;
       ends = again r.ends;
@@ -282,7 +279,7 @@ module _ (text other : List ℕ) (c : Cut) (lo hi : ℕ) (same : SamePart text o
       are = λ qs out are. part_laid p qs out (form_kept p all ∙ ap (option_map (raised_media (moved_place c))) is_none) are;
     }
     before_too around k _ _ _ (media_before p m inner within is own_parts inner_are) all =
-        let inner_flat = flat_of Inner inner m.inside own_parts in
+        let inner_flat = flat_of block_level inner m.inside own_parts in
         let inner_tokens : AllTokens 0 c.start (flat inner) = subst (AllTokens 0 c.start) inner_flat.0
         (form_in text 0 c.start p m is all).1 in
         let within_all = laid_in 0 c.start text (Some k) (suc k) inner within inner_are inner_tokens in
@@ -408,7 +405,7 @@ module _ (text other : List ℕ) (c : Cut) (lo hi : ℕ) (same : SamePart text o
                 (flat ps2) again all.0,
             flat_again (level_of around) (moved_place c) ps all.1,
           );
-          are_laid = media_laid p2 m2 n.parts ps2 n.out ls2 form2 (flat_parts Inner n.parts n.all) n.are_laid
+          are_laid = media_laid p2 m2 n.parts ps2 n.out ls2 form2 (flat_parts block_level n.parts n.all) n.are_laid
               (subst (λ (j : ℕ). AreLaid other around (suc k + j) ps2 ls2) number
               (laid_again text other (moved_place c) lo hi back around (suc k + length (media_in text within)) ps ls are tail));
           old_rules = no_rule text around p m (within ++ ls) (record { first = first; close = last; is = refl })
@@ -450,7 +447,7 @@ module _ (text other : List ℕ) (c : Cut) (lo hi : ℕ) (same : SamePart text o
         let both = tokens_split 0 c.start m.prelude (first ∷ xs) lead.1 in
         let halves = tokens_split lo hi zs (option_to_list last ++ flat ps) tail in
         let behind = tokens_split lo hi (option_to_list last) (flat ps) halves.1 in
-        let inner_flat = flat_of Inner inner m.inside own_parts in
+        let inner_flat = flat_of block_level inner m.inside own_parts in
         let inside_is = inner_flat.0 ∙ way_flat text Here head brace starts (Some k) (suc k) inner within rs ms xs zs way in
         let depth = way_depth text Here head brace starts (Some k) (suc k) inner within rs ms xs zs way inner_flat.1 in
         around_it around k m first last inner ps within ls rs ms xs zs is inside_is (depth_keeps head (opens [] xs) none depth) are all

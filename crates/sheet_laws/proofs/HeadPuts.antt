@@ -13,11 +13,7 @@ use Rattle.selectors.specs.Words.{word_reading, words_after, words_of}
 use Rattle.selectors.specs.Forms.{SelectorForm}
 use Rattle.selectors.specs.Reading.{range_of, selector_list_of, selectors_of}
 use Rattle.selectors.specs.Moves.{placed_range, placed_selector}
-use Rattle.sheet_reader.specs.declared.brackets.Bracket.{Bracket}
-use Rattle.sheet_reader.specs.declared.brackets.Nesting.TheVariants.{Closed}
-use Rattle.sheet_reader.specs.declared.brackets.Stop.TheVariants as stops
-use Rattle.sheet_reader.specs.declared.parts.Level.TheVariants.{Inner}
-use Rattle.sheet_reader.specs.Brackets.{stops_at, until, until_in, nesting}
+use Rattle.sheet_reader.specs.Brackets.{stops_at, until, until_in, nesting, nesting_of}
 use Rattle.sheet_reader.specs.Grammar.{AreNested}
 use Rattle.sheet_reader.specs.Lone.{is_blank_kind}
 use Rattle.sheet_reader.specs.Parts.{is_passed}
@@ -39,27 +35,28 @@ use Rattle.sheet_reader.proofs.SealedCuts.{AllWhite}
 use Rattle.sheet_reader.proofs.WordMoves.{SamePart, AllIn, list_same, range_same}
 use Rattle.sheet_laws.specs.Heads.{starts_solid, ends_in_return}
 use Rattle.sheet_laws.proofs.HeadCuts.{PutCut, put_cut, put_words}
+use Rattle.sheet_laws.proofs.Names.{Bracket, block_level, at_block}
 
 -- the search for a block passes its pieces but for white space at its end
 us_pass : (put : List ℕ) (ss : List SelectorForm) → selectors_of put ≡ Some ss → is_sealed put ≡ true → (p : PutCut put) → (ys : List Token)
-    → until stops.Block (p.us ++ ys) ≡ length p.us + until stops.Block ys
+    → until at_block (p.us ++ ys) ≡ length p.us + until at_block ys
 us_pass put ss found sealed p ys =
-    passes stops.Block p.us ys [] (by p.either)
-    ∙ ap (λ (bs : List Bracket). length p.us + until_in stops.Block bs ys) (closed_opens [] p.us p.closed)
+    passes at_block p.us ys [] (by p.either)
+    ∙ ap (λ (bs : List Bracket). length p.us + until_in at_block bs ys) (closed_opens [] p.us p.closed)
   where
-    all : (rest : List Token) → until stops.Block (pieces put ++ rest) ≡ length (pieces put) + until stops.Block rest
+    all : (rest : List Token) → until at_block (pieces put ++ rest) ≡ length (pieces put) + until at_block rest
     all rest = selectors_pass put ss found (sealed_nesting put sealed) rest
 
     by : (pieces put ≡ p.us) ⊎ ((w : Token) × (pieces put ≡ p.us ++ w ∷ []) × (w.kind ≡ tokens.WhiteSpace))
-        → length p.us ≤ until stops.Block (p.us ++ ys)
+        → length p.us ≤ until at_block (p.us ++ ys)
     by (inl e) =
         let h = all ys in
-        subst (λ (ts : List Token). length ts ≤ until stops.Block (ts ++ ys)) e (omega (arith, h))
+        subst (λ (ts : List Token). length ts ≤ until at_block (ts ++ ys)) e (omega (arith, h))
     by (inr w) =
         let h = all [] in
-        let cut : until stops.Block (pieces put ++ []) ≡ until stops.Block (p.us ++ (w.0 ∷ [])) =
-        ap (λ (ts : List Token). until stops.Block ts) (append-nil (pieces put) ∙ w.1) in
-        reaches stops.Block p.us (w.0 ∷ []) ys []
+        let cut : until at_block (pieces put ++ []) ≡ until at_block (p.us ++ (w.0 ∷ [])) =
+        ap (λ (ts : List Token). until at_block ts) (append-nil (pieces put) ∙ w.1) in
+        reaches at_block p.us (w.0 ∷ []) ys []
         (omega (arith, h, cut, ap (λ (ts : List Token). length ts) w.1, length-append p.us (w.0 ∷ [])))
 
 -- its first piece
@@ -71,14 +68,14 @@ pub record SolidPut (put : List ℕ) : Type 0 where
   pub parted : put ≡ front ++ trail
   pub blank : AllWhite trail
   pub whole : (v : List ℕ) → Facts v → IsWholeBefore (trail ++ v) 0 front (first ∷ others)
-  pub closed : nesting (first ∷ others) ≡ Closed
+  pub closed : nesting (first ∷ others) ≡ nesting_of []
   pub inside : AllTokens 0 (length put) (first ∷ others)
-  pub solid : is_passed Inner first.kind ≡ false
+  pub solid : is_passed block_level first.kind ≡ false
   pub begins : BeginsPrelude first.kind
   pub words : words_of put ≡ words_after put false (first ∷ others)
-  pub pass : (ys : List Token) → until stops.Block ((first ∷ others) ++ ys) ≡ length (first ∷ others) + until stops.Block ys
+  pub pass : (ys : List Token) → until at_block ((first ∷ others) ++ ys) ≡ length (first ∷ others) + until at_block ys
 
-not_blank : (k : TokenKind) → not (is_blank_kind k) ≡ true → is_passed Inner k ≡ false
+not_blank : (k : TokenKind) → not (is_blank_kind k) ≡ true → is_passed block_level k ≡ false
 not_blank tokens.Comment e = absurd (cc)
 not_blank tokens.WhiteSpace e = absurd (cc)
 not_blank _ e = refl
@@ -126,13 +123,13 @@ solid_put put ss sealed starts no_return found = by p.us refl
           begins = begins_prelude put t (words_after put false ts) ss solid
               (ap (λ ws. selector_list_of (word_reading put ws)) (sym (first_word put false t ts solid) ∙ sym words) ∙ found);
           words = words;
-          pass = λ ys. subst (λ (us : List Token). until stops.Block (us ++ ys) ≡ length us + until stops.Block ys) e
+          pass = λ ys. subst (λ (us : List Token). until at_block (us ++ ys) ≡ length us + until at_block ys) e
               (us_pass put ss found sealed p ys);
         }
 
 -- ---- as a prelude
 
-module _ (put : List ℕ) (p : SolidPut put) (n : ℕ) (tail : List Token) (passed : AllPassed Inner tail) where
+module _ (put : List ℕ) (p : SolidPut put) (n : ℕ) (tail : List Token) (passed : AllPassed block_level tail) where
   -- its pieces behind n codes, and white space and comments behind them
   abbrev pub new_head : List Token
   new_head = map (raised (λ x. n + x)) (p.first ∷ p.others) ++ tail
@@ -141,19 +138,19 @@ module _ (put : List ℕ) (p : SolidPut put) (n : ℕ) (tail : List Token) (pass
   head_nested =
       let own = map (raised (λ x. n + x)) (p.first ∷ p.others) in
       nested_append own tail (closed_nested own (nesting_raised (λ x. n + x) [] (p.first ∷ p.others) ∙ p.closed))
-      (passed_nested Inner tail passed)
+      (passed_nested block_level tail passed)
 
   -- the search for its `{`
   pub head_ends : (brace : Token) (rest : List Token) → brace.kind ≡ tokens.OpenCurly
-      → until stops.Block (new_head ++ brace ∷ rest) ≡ length new_head
+      → until at_block (new_head ++ brace ∷ rest) ≡ length new_head
   head_ends brace rest curly =
       let ts = p.first ∷ p.others in
       let f = λ (x : ℕ). n + x in
-      let whole = ap (until stops.Block) (append_assoc (map (raised f) ts) tail (brace ∷ rest)) in
-      let front = until_front stops.Block f [] ts (tail ++ brace ∷ rest) in
+      let whole = ap (until at_block) (append_assoc (map (raised f) ts) tail (brace ∷ rest)) in
+      let front = until_front at_block f [] ts (tail ++ brace ∷ rest) in
       let own = p.pass (tail ++ brace ∷ rest) in
-      let on = passed_until Inner tail passed [] (brace ∷ rest) in
-      let here = stop_here stops.Block [] brace rest (ap (stops_at stops.Block) curly) in
+      let on = passed_until block_level tail passed [] (brace ∷ rest) in
+      let here = stop_here at_block [] brace rest (ap (stops_at at_block) curly) in
       omega (arith, whole, front, own, on, here, length-append (map (raised f) ts) tail, map_length (raised f) ts)
 
   -- what is read from them

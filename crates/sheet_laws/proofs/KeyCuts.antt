@@ -1,12 +1,13 @@
 -- The keyword of a media rule, before a new prelude with the spaces that it needs.
-use Rattle.std.proofs.Common.{◌≡◌, ℕ, suc, ◌+◌, ◌-◌, ◌<◌, ◌==◌, ◌&&◌, Bool, true, false, cond, List, [], ◌∷◌, ◌++◌, map, length}
+use Rattle.std.proofs.Common.{◌≡◌, ℕ, suc, ◌+◌, ◌-◌, ◌<◌, ◌≤◌, nat_le, ◌==◌, ◌&&◌, Bool, true, false, cond, List, [], ◌∷◌, ◌++◌, map, length}
 use Rattle.std.proofs.Common.{take, drop, Option, Some, None, refl, sym, ap, subst, ◌∙◌, append_assoc, append-nil, length-append, arith}
-use Rattle.std.specs.Prelude.{codes}
+use Rattle.std.specs.Prelude.{codes, fold}
 use Rattle.std.specs.List.{list_all, find}
 use Rattle.std.specs.Char.{to_ascii_lowercase}
 use Rattle.std.specs.Str.{bytes_eq}
 use Rattle.std.proofs.lemmas.Bool.Decides.{nat_tests}
 use Rattle.std.proofs.lemmas.Bool.{eq-eqb}
+use Rattle.std.proofs.lemmas.List.Sums.{fold-append}
 use Rattle.std.proofs.Math.Seq.{drop-append_seam, take-append_seam}
 use Rattle.css_tokens.specs.declared.token.Token.{Token}
 use Rattle.css_tokens.specs.declared.token.TokenKind.{TokenKind}
@@ -19,19 +20,21 @@ use Rattle.css_tokens.specs.Rows.{piece, first_piece}
 use Rattle.css_tokens.specs.Runs.{name_unit, starts_ident}
 use Rattle.css_tokens.proofs.Cuts.{piece_first}
 use Rattle.selectors.specs.Words.{between}
-use Rattle.sheet_reader.specs.declared.parts.Level.TheVariants.{Inner}
 use Rattle.sheet_reader.specs.Grammar.{is_at_keyword}
+use Rattle.sheet_reader.specs.Parts.{is_passed}
 use Rattle.sheet_reader.specs.Preludes.{ends_keyword, takes_space, spaces_by}
-use Rattle.sheet_reader.proofs.Gaps.{Gap, no_gap, gap_white, gap_comment, gap_mark, gap_append, gap_whites, white_codes, white_first}
+use Rattle.sheet_reader.proofs.Gaps.{AllPassed, Gap, no_gap, gap_white, gap_comment, gap_mark, gap_append, gap_whites, white_codes, white_first}
 use Rattle.sheet_reader.proofs.KeyNames.{units_front, Moves, stays, grows, units_move, SaysMedia, starts_media, KeyName, key_name, key_piece}
 use Rattle.sheet_reader.proofs.NewMedia.{spaces_for}
 use Rattle.sheet_reader.proofs.MediaPreludes.{and_no}
 use Rattle.sheet_reader.proofs.ReadMoves.{AllTokens}
+use Rattle.sheet_laws.specs.Keywords.{last_end}
+use Rattle.sheet_laws.proofs.Names.{block_level}
 
 -- ---- the keyword, before the new prelude
 
 -- the first code of such a text goes on no name
-gap_code : (c : ℕ) (x y all : List ℕ) → all ≡ c ∷ x → Gap Inner all → name_unit (c ∷ y) ≡ 0
+gap_code : (c : ℕ) (x y all : List ℕ) → all ≡ c ∷ x → Gap block_level all → name_unit (c ∷ y) ≡ 0
 unfolding escape_len
 gap_code c x y _ e no_gap = absurd (cc)
 gap_code c x y _ e (gap_white d z w g) =
@@ -52,9 +55,10 @@ pub record NewKey (key lead spaces behind : List ℕ) : Type 0 where
   pub name : List ℕ
   pub gap : List ℕ
   pub is : key ++ (lead ++ (spaces ++ behind)) ≡ (64 ∷ name) ++ (gap ++ behind)
-  pub open_gap : Gap Inner gap
+  pub open_gap : Gap block_level gap
   pub found : first_piece ((64 ∷ name) ++ (gap ++ behind)) ≡ Some (piece tokens.AtKeyword (length (64 ∷ name)))
   pub says : SaysMedia name
+  pub size : length (64 ∷ name) ≡ length key + (length spaces - 1)
 
 two_pieces : (key : List ℕ) (k : TokenKind) → 0 < length key → first_piece (key ++ 32 ∷ []) ≡ Some (piece k (length key))
     → (length (pieces (key ++ 32 ∷ [])) == 1) ≡ false
@@ -86,9 +90,9 @@ one_piece key k some found =
 
 pub new_key : (key lead old spaces behind : List ℕ) (k : TokenKind) → is_at_keyword k ≡ true
     → first_piece (key ++ (lead ++ old)) ≡ Some (piece k (length key))
-    → 0 < length old → Gap Inner lead → list_all is_white spaces ≡ true → (lead ≡ [] → spaces ≡ spaces_for key)
-    → (KeyName key (lead ++ old) → SaysMedia (drop 1 key)) → NewKey key lead spaces behind
-new_key key lead old spaces behind k at found some open_lead white fits says = by lead refl (key_name key (lead ++ old) k at found)
+    → 0 < length old → Gap block_level lead → list_all is_white spaces ≡ true → (lead ≡ [] → spaces ≡ spaces_for key)
+    → (0 < length lead → spaces ≡ []) → (KeyName key (lead ++ old) → SaysMedia (drop 1 key)) → NewKey key lead spaces behind
+new_key key lead old spaces behind k at found some open_lead white fits loose says = by lead refl (key_name key (lead ++ old) k at found)
   where
     name_says : (n : KeyName key (lead ++ old)) → SaysMedia n.name
     name_says n = subst SaysMedia (ap (drop 1) n.is) (says n)
@@ -105,10 +109,11 @@ new_key key lead old spaces behind k at found some open_lead white fits says = b
           name = n.name;
           gap = lead ++ spaces;
           is = ap (λ (t : List ℕ). t ++ (lead ++ (spaces ++ behind))) n.is ∙ ap (λ (t : List ℕ). (64 ∷ n.name) ++ t) whole;
-          open_gap = gap_append Inner lead spaces open_lead (gap_whites Inner spaces white);
+          open_gap = gap_append block_level lead spaces open_lead (gap_whites block_level spaces white);
           found = ap (λ (t : List ℕ). first_piece ((64 ∷ n.name) ++ t)) (sym whole ∙ ap (λ (t : List ℕ). t ++ (spaces ++ behind)) e)
               ∙ piece_is;
           says = name_says n;
+          size = omega (arith, ap length n.is, ap length (loose (omega (arith, ap length e))));
         }
 
     -- where nothing does
@@ -131,6 +136,7 @@ new_key key lead old spaces behind k at found some open_lead white fits says = b
               open_gap = gap_white 32 [] refl no_gap;
               found = key_piece n.name (32 ∷ behind) (start (32 ∷ behind)) (f behind) (space_unit behind);
               says = name_says n;
+              size = omega (arith, ap length n.is, ap length spaces_is);
             }
         moves (grows f same) =
             let long = n.name ++ 32 ∷ [] in
@@ -149,6 +155,7 @@ new_key key lead old spaces behind k at found some open_lead white fits says = b
               open_gap = gap_white 32 [] refl no_gap;
               found = key_piece long (32 ∷ behind) (begin (32 ∷ behind)) (f (32 ∷ behind)) (space_unit behind);
               says = ap (λ (t : List ℕ). says_by t) same ∙ name_says n;
+              size = omega (arith, ap length n.is, ap length spaces_is, length-append n.name (32 ∷ []));
             }
           where
             says_by : List ℕ → Bool
@@ -197,3 +204,83 @@ find_key place lo (t ∷ before) keyword more all less at end =
   where
     far : (a b : ℕ) → a < b → (a == b) ≡ false
     far a b e = grind (arith, nat_tests)
+
+
+-- ---- what is found
+
+far : (a b : ℕ) → a < b → (a == b) ≡ false
+far a b e = grind (arith, nat_tests)
+
+beyond : (a b : ℕ) → a < b → (b == a) ≡ false
+beyond a b e = grind (arith, nat_tests)
+
+late : (a b : ℕ) → a < b → nat_le b a ≡ false
+late a b e = grind (arith, nat_tests)
+
+early : (a b : ℕ) → a ≤ b → nat_le a b ≡ true
+early a b e = grind (arith, nat_tests)
+
+quiet_kind : (k : TokenKind) → is_passed block_level k ≡ true → is_at_keyword k ≡ false
+quiet_kind tokens.Comment e = refl
+quiet_kind tokens.WhiteSpace e = refl
+quiet_kind _ e = absurd (cc)
+
+-- no keyword ends at a place where pieces that are passed over end
+find_before : (place lo : ℕ) (before rest : List Token) → AllTokens 0 lo before → lo < place
+    → find (ends_keyword place) (before ++ rest) ≡ find (ends_keyword place) rest
+find_before place lo [] rest all less = refl
+find_before place lo (t ∷ before) rest all less =
+    let none : ends_keyword place t ≡ false =
+    ap (λ (b : Bool). is_at_keyword t.kind && b) (far t.end place (omega (arith, all.0.2, less))) ∙ and_no (is_at_keyword t.kind) false refl in
+    rw none (find_before place lo before rest all.1 less)
+
+find_passed : (place : ℕ) (blanks rest : List Token) → AllPassed block_level blanks
+    → find (ends_keyword place) (blanks ++ rest) ≡ find (ends_keyword place) rest
+find_passed place [] rest all = refl
+find_passed place (t ∷ blanks) rest all =
+    let none : ends_keyword place t ≡ false = ap (λ (b : Bool). b && t.end == place) (quiet_kind t.kind all.0) in
+    rw none (find_passed place blanks rest all.1)
+
+find_behind : (place hi : ℕ) (others : List Token) → AllTokens place hi others → find (ends_keyword place) others ≡ None
+find_behind place hi [] all = refl
+find_behind place hi (t ∷ others) all =
+    let none : ends_keyword place t ≡ false =
+    ap (λ (b : Bool). is_at_keyword t.kind && b) (beyond place t.end (omega (arith, all.0.0, all.0.1)))
+    ∙ and_no (is_at_keyword t.kind) false refl in
+    rw none (find_behind place hi others all.1)
+
+pub find_none : (place lo hi : ℕ) (before : List Token) (keyword : Token) (blanks others : List Token) → AllTokens 0 lo before → lo < place
+    → keyword.end < place → AllPassed block_level blanks → AllTokens place hi others
+    → find (ends_keyword place) (before ++ keyword ∷ (blanks ++ others)) ≡ None
+find_none place lo hi before keyword blanks others all less end passed behind =
+    let none : ends_keyword place keyword ≡ false =
+    ap (λ (b : Bool). is_at_keyword keyword.kind && b) (far keyword.end place end) ∙ and_no (is_at_keyword keyword.kind) false refl in
+    find_before place lo before (keyword ∷ (blanks ++ others)) all less
+    ∙ rw none (find_passed place blanks others passed ∙ find_behind place hi others behind)
+
+-- ---- the last keyword
+
+end_passed : (place end : ℕ) (blanks : List Token) → AllPassed block_level blanks → fold (last_end place) end blanks ≡ end
+end_passed place end [] all = refl
+end_passed place end (t ∷ blanks) all =
+    let none : (is_at_keyword t.kind && nat_le t.end place) ≡ false = ap (λ (b : Bool). b && nat_le t.end place) (quiet_kind t.kind all.0) in
+    rw none (end_passed place end blanks all.1)
+
+end_behind : (place hi end : ℕ) (others : List Token) → AllTokens place hi others → fold (last_end place) end others ≡ end
+end_behind place hi end [] all = refl
+end_behind place hi end (t ∷ others) all =
+    let none : (is_at_keyword t.kind && nat_le t.end place) ≡ false =
+    ap (λ (b : Bool). is_at_keyword t.kind && b) (late place t.end (omega (arith, all.0.0, all.0.1)))
+    ∙ and_no (is_at_keyword t.kind) false refl in
+    rw none (end_behind place hi end others all.1)
+
+pub end_found : (place hi : ℕ) (before : List Token) (keyword : Token) (blanks others : List Token) → keyword.kind ≡ tokens.AtKeyword
+    → keyword.end ≤ place → AllPassed block_level blanks → AllTokens place hi others
+    → fold (last_end place) 0 (before ++ keyword ∷ (blanks ++ others)) ≡ keyword.end
+end_found place hi before keyword blanks others at within passed behind =
+    let here : (is_at_keyword keyword.kind && nat_le keyword.end place) ≡ true =
+    (λ i. is_at_keyword (at i) && early keyword.end place within i) in
+    fold-append (last_end place) 0 before (keyword ∷ (blanks ++ others))
+    ∙ rw here (fold-append (last_end place) keyword.end blanks others
+    ∙ ap (λ (e : ℕ). fold (last_end place) e others) (end_passed place keyword.end blanks passed)
+    ∙ end_behind place hi keyword.end others behind)

@@ -6,6 +6,7 @@ pub mod SaidLists
 pub mod BodyCuts
 pub mod PlaceCuts
 pub mod SheetCuts
+pub mod Names
 pub mod HeadRows
 pub mod HeadBlocks
 pub mod HeadPaths

@@ -1,7 +1,7 @@
 -- The reading of a sheet where the prelude of a media rule is replaced by a sealed one is the old reading with its places moved.
 use Rattle.std.proofs.Common.{◌≡◌, ◌⊎◌, inl, inr, ℕ, zero, suc, ◌+◌, ◌-◌, ◌<◌, ◌≤◌, Bool, true, false, List, [], ◌∷◌, ◌++◌, map, take, drop}
 use Rattle.std.proofs.Common.{length, Option, Some, None, refl, sym, ap, subst, ◌∙◌, append_assoc, length-append, arith}
-use Rattle.std.specs.Prelude.{option_map, option_to_list, slice_get, codes}
+use Rattle.std.specs.Prelude.{option_map, option_to_list, slice_get, codes, fold}
 use Rattle.std.specs.List.{find, list_all}
 use Rattle.std.specs.Char.{to_ascii_lowercase}
 use Rattle.std.specs.Str.{bytes_eq}
@@ -21,13 +21,10 @@ use Rattle.css_tokens.proofs.SeamPieces.{pieces_at}
 use Rattle.selectors.specs.Words.{words_after, words_of, between}
 use Rattle.selectors.specs.Reading.{range_of}
 use Rattle.selectors.specs.Moves.{Cut, cut, moved_place, placed_range}
-use Rattle.sheet_reader.specs.declared.brackets.Stop.TheVariants as stops
-use Rattle.sheet_reader.specs.declared.parts.Level.{Level}
-use Rattle.sheet_reader.specs.declared.parts.Level.TheVariants.{Top, Inner}
 use Rattle.sheet_reader.specs.declared.sheet.MediaRule.{MediaRule}
 use Rattle.sheet_reader.specs.declared.sheet.Sheet.{Sheet}
 use Rattle.sheet_reader.specs.Brackets.{open_after, stops_at, until}
-use Rattle.sheet_reader.specs.Forms.{RuleForm}
+use Rattle.sheet_reader.specs.Forms.{range, RuleForm}
 use Rattle.sheet_reader.specs.Grammar.{AreParts, AreNested, plain_and, IsEnding, in_block, in_open_block, IsPart, at_rule_part, is_at_keyword}
 use Rattle.sheet_reader.specs.Layout.{names_media, MediaForm, media_form, media_rule, prelude_range, media_in, Laid, laid, laid_out, level_of}
 use Rattle.sheet_reader.specs.Layout.{AreLaid, none_laid, part_laid, media_laid}
@@ -37,9 +34,9 @@ use Rattle.sheet_reader.specs.Preludes.{ends_keyword, spaces_by, spaces_behind, 
 use Rattle.sheet_reader.specs.Sealing.{is_sealed_prelude}
 use Rattle.sheet_reader.specs.Sheets.{closing_place, place_of, rules_in, places_in, sheet_of}
 use Rattle.sheet_reader.proofs.FrameForms.{media_append, media_cons}
-use Rattle.sheet_reader.proofs.Gaps.{AllPassed, Gap, LeadIs, gap_append, facts_gap, skips}
+use Rattle.sheet_reader.proofs.Gaps.{Gap}
 use Rattle.sheet_reader.proofs.GrammarForms.{parts_only, parts_spelled}
-use Rattle.sheet_reader.proofs.KeyNames.{SaysMedia, KeyName, key_name}
+use Rattle.sheet_reader.proofs.KeyNames.{SaysMedia, KeyName}
 use Rattle.sheet_reader.proofs.LaidMoves.{laid_in, laid_in_append, laid_again, parts_again, flat_raised, flat_again, goes, stays, any_moved}
 use Rattle.sheet_reader.proofs.LayoutForms.{laid_spelled, laid_only}
 use Rattle.sheet_reader.proofs.NewMedia.{spaces_for}
@@ -60,9 +57,11 @@ use Rattle.sheet_laws.proofs.HeadPaths.{plain_before, media_before, Way, past, i
 use Rattle.sheet_laws.proofs.HeadCuts.{front_again, brace_at, put_pieces, pieces_there, pieces_in, put_in_both, with_head, behind_brace}
 use Rattle.sheet_laws.proofs.HeadCuts.{head_cut, moves, ends_move, front_stands, end_stands}
 use Rattle.sheet_laws.proofs.HeadLaw.{changed_append, replaced_at}
-use Rattle.sheet_laws.proofs.KeyCuts.{NewKey, new_key, key_text, spaces_white, find_key}
+use Rattle.sheet_laws.specs.Keywords.{last_end, keyword_end, new_keyword_end}
+use Rattle.sheet_laws.proofs.KeyCuts.{NewKey, new_key, key_text, spaces_white, find_key, find_none, end_found}
 use Rattle.sheet_laws.proofs.MediaTexts.{MediaText, media_text}
-use Rattle.sheet_laws.proofs.MediaPuts.{WordPut, word_put, media_head, media_nested, media_ends, media_read}
+use Rattle.sheet_laws.proofs.MediaPuts.{NewPrelude, with_words, without_words}
+use Rattle.sheet_laws.proofs.Names.{Level, top_level, block_level, block_or_semicolon}
 
 -- ---- the media rule on its way
 
@@ -83,7 +82,7 @@ form_of q = record { keyword = q.keyword; prelude = q.prelude; inside = q.inside
 -- the media rule is the first part, with these pieces behind its `{`
 data MediaHere (text : List ℕ) (m : MediaRule) (q : MediaPart) : Option ℕ → ℕ → List PartForm → List Laid → List Token → Type 0 where
   media_here : {around : Option ℕ} {k : ℕ} (inner ps : List PartForm) (within ls : List Laid)
-      → media_form text (media_part q) ≡ Some (form_of q) → AreParts Inner inner q.inside → AreLaid text (Some k) (suc k) inner within
+      → media_form text (media_part q) ≡ Some (form_of q) → AreParts block_level inner q.inside → AreLaid text (Some k) (suc k) inner within
       → AreLaid text around (suc k + length (media_in text within)) ps ls → media_rule text around (form_of q) ≡ m
       → MediaHere text m q around k (media_part q ∷ ps) (laid around (media_part q) ∷ (within ++ ls))
       (q.inside ++ (option_to_list q.close ++ flat ps))
@@ -106,7 +105,7 @@ none_at zero m e = cc
 none_at (suc i) m e = cc
 
 find_here : (text : List ℕ) (m : MediaRule) (around : Option ℕ) (k : ℕ) (p : PartForm) (form : MediaForm) (inner ps : List PartForm)
-    (within ls : List Laid) → media_form text p ≡ Some form → AreParts Inner inner form.inside → AreLaid text (Some k) (suc k) inner within
+    (within ls : List Laid) → media_form text p ≡ Some form → AreParts block_level inner form.inside → AreLaid text (Some k) (suc k) inner within
     → AreLaid text around (suc k + length (media_in text within)) ps ls → media_rule text around form ≡ m
     → MediaWay text m around k (p ∷ ps) (laid around p ∷ (within ++ ls)) 0
 find_here text m around k p form inner ps within ls is own inner_are are same =
@@ -132,7 +131,7 @@ find_here text m around k p form inner ps within ls is own inner_are are same =
     })
 
 find_within : (text : List ℕ) (m : MediaRule) (around : Option ℕ) (k : ℕ) (p : PartForm) (form : MediaForm) (inner ps : List PartForm)
-    (within ls : List Laid) (i : ℕ) → media_form text p ≡ Some form → AreParts Inner inner form.inside
+    (within ls : List Laid) (i : ℕ) → media_form text p ≡ Some form → AreParts block_level inner form.inside
     → AreLaid text around (suc k + length (media_in text within)) ps ls → MediaWay text m (Some k) (suc k) inner within i
     → MediaWay text m around k (p ∷ ps) (laid around p ∷ (within ++ ls)) (suc i)
 find_within text m around k p form inner ps within ls i is own are w =
@@ -223,8 +222,8 @@ media_there text m q around k xs s = by s.is s.all
         → AreFlat (level_of a) ps → MediaKnown text m q
     by {a = a} (media_here inner ps within ls form own inner_are are same) all =
         let o = opens_media (level_of a) (form_of q) q.brace q.close (flat ps) all.0 in
-        let quiet = values_shut stops.BlockOrSemicolon q.prelude q.brace []
-        (until_is stops.BlockOrSemicolon q.prelude (q.brace ∷ []) (o.values []) (ap (stops_at stops.BlockOrSemicolon) o.curly)) in
+        let quiet = values_shut block_or_semicolon q.prelude q.brace []
+        (until_is block_or_semicolon q.prelude (q.brace ∷ []) (o.values []) (ap (stops_at block_or_semicolon) o.curly)) in
         record {
           at = o.at;
           curly = o.curly;
@@ -243,7 +242,7 @@ rebraced first first2 within _ rest curly (in_open_block _ _ k vs over) = in_ope
 -- its part with its ending moved, behind another prelude
 part_again : (level : Level) (f : ℕ → ℕ) (q : MediaPart) (ps : List PartForm) (keyword : Token) (prelude : List Token) (brace : Token)
     → keyword.kind ≡ tokens.AtKeyword → brace.kind ≡ tokens.OpenCurly
-    → ((rest : List Token) → until stops.BlockOrSemicolon (prelude ++ brace ∷ rest) ≡ length prelude)
+    → ((rest : List Token) → until block_or_semicolon (prelude ++ brace ∷ rest) ≡ length prelude)
     → AreFlat level (media_part q ∷ ps)
     → AreFlat level (at_rule keyword prelude (block brace (map (raised f) q.inside) (option_map (raised f) q.close)) ∷ map (raised_part f) ps)
 part_again level f q ps keyword prelude brace at curly ends all =
@@ -263,9 +262,9 @@ part_again level f q ps keyword prelude brace at curly ends all =
     by (at_rule_part _ _ _ k r) =
         at_rule_part keyword prelude (block brace within close) at
         (record {
-          values = values_at stops.BlockOrSemicolon prelude (brace ∷ ((within ++ option_to_list close) ++ rest))
+          values = values_at block_or_semicolon prelude (brace ∷ ((within ++ option_to_list close) ++ rest))
               (ends ((within ++ option_to_list close) ++ rest));
-          stopped = ap (stops_at stops.BlockOrSemicolon) curly;
+          stopped = ap (stops_at block_or_semicolon) curly;
           ends = rebraced (raised f q.brace) brace within close rest curly r.ends;
         })
 
@@ -278,7 +277,7 @@ module _ (text other : List ℕ) (m : MediaRule) (q : MediaPart) (lo hi : ℕ) (
     (back : SamePart text other (moved_place c) lo hi) (ended : moved_place c (length text) ≡ length other)
     (keyword : Token) (prelude : List Token) (brace : Token) (at : keyword.kind ≡ tokens.AtKeyword)
     (named : names_media other keyword keyword.kind ≡ true) (curly : brace.kind ≡ tokens.OpenCurly)
-    (ends : (rest : List Token) → until stops.BlockOrSemicolon (prelude ++ brace ∷ rest) ≡ length prelude) (made : Range)
+    (ends : (rest : List Token) → until block_or_semicolon (prelude ++ brace ∷ rest) ≡ length prelude) (made : Range)
     (read : prelude_range keyword (range_of (words_after other false prelude)) ≡ made) where
   media_target : (around : Option ℕ) (k : ℕ) (ps : List PartForm) (ls : List Laid) (zs : List Token) → MediaHere text m q around k ps ls zs
       → AreFlat (level_of around) ps → AllTokens lo hi zs
@@ -292,7 +291,7 @@ module _ (text other : List ℕ) (m : MediaRule) (q : MediaPart) (lo hi : ℕ) (
       let ps2 = map (raised_part (moved_place c)) ps in
       let ls2 = map (raised_laid (moved_place c)) ls in
       let within2 = map (raised_laid (moved_place c)) within in
-      let inner_flat = flat_of Inner inner q.inside own in
+      let inner_flat = flat_of block_level inner q.inside own in
       let halves = tokens_split lo hi q.inside (option_to_list q.close ++ flat ps) more in
       let behind = (tokens_split lo hi (option_to_list q.close) (flat ps) halves.1).1 in
       let inner_tokens : AllTokens lo hi (flat inner) = subst (AllTokens lo hi) inner_flat.0 halves.0 in
@@ -327,7 +326,7 @@ module _ (text other : List ℕ) (m : MediaRule) (q : MediaPart) (lo hi : ℕ) (
             ∙ (λ i. inside2 ++ (close2 i ++ flat_ps2 i)) ∙ sym tail_is));
         all = part_again (level_of around) (moved_place c) q ps keyword prelude brace at curly ends all;
         are_laid = media_laid p2 form2 (map (raised_part (moved_place c)) inner) ps2 within2 ls2 is2
-            (parts_again Inner (moved_place c) inner q.inside own)
+            (parts_again block_level (moved_place c) inner q.inside own)
             (laid_again text other (moved_place c) lo hi back (Some k) (suc k) inner within inner_are inner_tokens)
             (subst (λ (j : ℕ). AreLaid other around (suc k + j) ps2 ls2) count
             (laid_again text other (moved_place c) lo hi back around (suc k + length (media_in text within)) ps ls are behind));
@@ -347,14 +346,14 @@ module _ (text other : List ℕ) (m : MediaRule) (q : MediaPart) (lo hi : ℕ) (
 -- the sheet of the new text, by what it is laid out in
 reading_is : (text other : List ℕ) (c : Cut) (new : List Token) (brace : Token) (m : MediaRule) (k size : ℕ) (made : Range)
     (rs : List RuleForm) (ms : List MediaRule) (xs zs : List Token)
-    → (x : Exchanged text other (moved_place c) new brace [] [] (m ∷ []) (repreluded made m ∷ []) None 0 (parts Top (pieces text))
+    → (x : Exchanged text other (moved_place c) new brace [] [] (m ∷ []) (repreluded made m ∷ []) None 0 (parts top_level (pieces text))
     (laid_out text None 0 (pieces text)) rs ms xs zs) → pieces other ≡ xs ++ (new ++ brace ∷ map (raised (moved_place c)) zs)
     → length ms ≡ k → c ≡ range_cut m.prelude size
     → sheet_of other ≡ media_moved_by (sheet_of text) k made size (Some m)
 reading_is text other c new brace m k size made rs ms xs zs x is number cuts =
     let ls = laid_out text None 0 (pieces text) in
-    let parts_new : x.parts ≡ parts Top (pieces other) =
-    parts_only Top x.parts (flat x.parts) (flat_parts Top x.parts x.all) ∙ ap (parts Top) (x.flat_is ∙ sym is) in
+    let parts_new : x.parts ≡ parts top_level (pieces other) =
+    parts_only top_level x.parts (flat x.parts) (flat_parts top_level x.parts x.all) ∙ ap (parts top_level) (x.flat_is ∙ sym is) in
     let out_new : x.out ≡ laid_out other None 0 (pieces other) =
     laid_only other None 0 (pieces other) x.out (subst (λ (ps : List PartForm). AreLaid other None 0 ps x.out) parts_new x.are_laid) in
     let rules_new : rules_in other (laid_out other None 0 (pieces other)) ≡ map (placed_rule (moved_place c)) (rules_in text ls) =
@@ -365,38 +364,39 @@ reading_is text other c new brace m k size made rs ms xs zs x is number cuts =
     sym (ap (media_in other) out_new) ∙ x.new_media
     ∙ sym (changed_append (repreluded made) (placed_media (moved_place c)) ms m x.media)
     ∙ (λ i. changed_at (repreluded made) (placed_media (moved_place c)) (number i) (sym x.old_media i)) in
-    let places_new : places_in other (parts Top (pieces other)) ≡ map (moved_place c) (places_in text (parts Top (pieces text))) =
+    let places_new : places_in other (parts top_level (pieces other)) ≡ map (moved_place c) (places_in text (parts top_level (pieces text))) =
     sym (ap (places_in other) parts_new) ∙ x.new_places in
     let zero_stays : 0 ≡ moved_place c 0 = sym (stays c 0 (omega arith)) in
     (λ i. record { rules = rules_new i; places = zero_stays i ∷ places_new i; media = media_new i })
     ∙ ap (λ (d : Cut). record {
       rules = map (placed_rule (moved_place d)) (rules_in text ls);
-      places = map (moved_place d) (0 ∷ places_in text (parts Top (pieces text)));
+      places = map (moved_place d) (0 ∷ places_in text (parts top_level (pieces text)));
       media = changed_at (repreluded made) (placed_media (moved_place d)) k (media_in text ls);
     }) cuts
 
 -- ---- the law
 
--- at a media rule whose way is known
-media_at : (text put : List ℕ) (k : ℕ) (m : MediaRule) (head : Range) (q : MediaPart) (rs : List RuleForm) (ms : List MediaRule)
+-- at a media rule whose way is known, where it is known what the text put in is as a prelude
+media_at : (text put : List ℕ) (k : ℕ) (m : MediaRule) (made : Range) (q : MediaPart) (rs : List RuleForm) (ms : List MediaRule)
     (xs zs : List Token)
-    → Way text (MediaHere text m q) None 0 (parts Top (pieces text)) (laid_out text None 0 (pieces text)) rs ms xs zs → length ms ≡ k
-    → is_sealed_prelude put ≡ true → ends_in_return put ≡ false → range_of (words_of put) ≡ Some head
+    → Way text (MediaHere text m q) None 0 (parts top_level (pieces text)) (laid_out text None 0 (pieces text)) rs ms xs zs → length ms ≡ k
+    → ((gap behind rest : List ℕ) (n e : ℕ) → Gap block_level gap → Gap block_level behind → n + length gap + length put + length behind ≡ e
+    → n + length gap ≡ m.prelude.start + length (spaces_at text m.prelude.start) → n ≡ new_keyword_end text m.prelude.start
+    → NewPrelude put gap behind rest n e made)
     → sheet_of (replaced text m.prelude (spaces_at text m.prelude.start ++ put))
-    ≡ media_moved_by (sheet_of text) k (placed_range (λ place. m.prelude.start + length (spaces_at text m.prelude.start) + place) head)
-    (length (spaces_at text m.prelude.start ++ put)) (Some m)
-media_at text put k m head q rs ms xs zs way number sealed no_return spans =
+    ≡ media_moved_by (sheet_of text) k made (length (spaces_at text m.prelude.start ++ put)) (Some m)
+media_at text put k m made q rs ms xs zs way number make =
     ap sheet_of (replaced_at front h.prelude v own text m.prelude text_is start_is end_is)
-    ∙ reading_is text other c (keyword ∷ prelude) brace m k (length own) made rs ms xs zs exchanged pieces_are number cuts
+    ∙ reading_is text other c (keyword ∷ w.prelude) brace m k (length own) made rs ms xs zs exchanged pieces_are number cuts
   where
     ps : List PartForm
-    ps = parts Top (pieces text)
+    ps = parts top_level (pieces text)
 
     ls : List Laid
     ls = laid_out text None 0 (pieces text)
 
-    both : (pieces text ≡ flat ps) × AreFlat Top ps
-    both = flat_of Top ps (pieces text) (parts_spelled Top (pieces text))
+    both : (pieces text ≡ flat ps) × AreFlat top_level ps
+    both = flat_of top_level ps (pieces text) (parts_spelled top_level (pieces text))
 
     spot : SpotAt text (MediaHere text m q) None 0 xs
     spot = spot_at text (MediaHere text m q) (q.keyword ∷ q.prelude) q.brace (media_starts text m q) None 0 ps ls rs ms xs zs way both.1
@@ -446,12 +446,12 @@ media_at text put k m head q rs ms xs zs way number sealed no_return spans =
     cuts : c ≡ range_cut m.prelude (length own)
     cuts = λ i. record { start = sym start_is i; end = sym end_is i; size = length own }
 
-    made : Range
-    made = placed_range (λ place. m.prelude.start + length spaces + place) head
-
     -- ---- the keyword
-    name : KeyName h.key (h.lead ++ (h.prelude ++ v))
-    name = key_name h.key (h.lead ++ (h.prelude ++ v)) q.keyword.kind (ap is_at_keyword known.at) h.found
+    all_before : AllTokens 0 (0 + length h.front) xs
+    all_before = whole_tokens (h.key ++ (h.lead ++ (h.prelude ++ v))) 0 h.front xs h.whole
+
+    others_behind : AllTokens m.prelude.start h.hi h.others
+    others_behind = subst (λ (n : ℕ). AllTokens n h.hi h.others) (sym h.start) h.behind
 
     says : (n : KeyName h.key (h.lead ++ (h.prelude ++ v))) → SaysMedia (drop 1 h.key)
     says n =
@@ -468,10 +468,9 @@ media_at text put k m head q rs ms xs zs way number sealed no_return spans =
     tight : h.lead ≡ [] → spaces ≡ spaces_for h.key
     tight none =
         let at : m.prelude.start ≡ q.keyword.end = h.start ∙ omega (arith, ap length none, h.key_end) in
-        let all = whole_tokens (h.key ++ (h.lead ++ (h.prelude ++ v))) 0 h.front xs h.whole in
         let found : find (ends_keyword m.prelude.start) (pieces text) ≡ Some q.keyword =
         ap (find (ends_keyword m.prelude.start)) old_pieces
-        ∙ find_key m.prelude.start (0 + length h.front) xs q.keyword (q.prelude ++ q.brace ∷ zs) all
+        ∙ find_key m.prelude.start (0 + length h.front) xs q.keyword (q.prelude ++ q.brace ∷ zs) all_before
         (omega (arith, at, h.key_end, h.some)) known.at (sym at) in
         let size : q.keyword.end - q.keyword.start ≡ length h.key = omega (arith, h.key_end, h.key_start) in
         let behind : drop q.keyword.start text ≡ h.key ++ (h.lead ++ (h.prelude ++ v)) =
@@ -480,16 +479,30 @@ media_at text put k m head q rs ms xs zs way number sealed no_return spans =
         (λ x. take (size x) (behind x)) ∙ take-append_seam h.key (h.lead ++ (h.prelude ++ v)) in
         ap (spaces_by text) found ∙ ap spaces_behind key_is
 
+    loose : 0 < length h.lead → spaces ≡ []
+    loose some =
+        ap (spaces_by text)
+        (ap (find (ends_keyword m.prelude.start)) h.cut
+        ∙ find_none m.prelude.start (0 + length h.front) h.hi xs q.keyword h.blanks h.others all_before (omega (arith, h.start, h.some))
+        (omega (arith, h.start, h.key_end, some)) h.passed others_behind)
+
     key : NewKey h.key h.lead spaces (put ++ v)
     key = new_key h.key h.lead (h.prelude ++ v) spaces (put ++ v) q.keyword.kind (ap is_at_keyword known.at) h.found
         (omega (arith, length-append h.prelude v, length-append h.gap (123 ∷ h.rest))) h.open_lead
-        (spaces_white text (find (ends_keyword m.prelude.start) (pieces text))) tight says
+        (spaces_white text (find (ends_keyword m.prelude.start) (pieces text))) tight loose says
 
     n : ℕ
     n = length h.front + length (64 ∷ key.name)
 
     keyword : Token
     keyword = record { kind = tokens.AtKeyword; start = length h.front; end = n }
+
+    key_end : n ≡ new_keyword_end text m.prelude.start
+    key_end =
+        let last : keyword_end text m.prelude.start ≡ q.keyword.end =
+        ap (fold (last_end m.prelude.start) 0) h.cut
+        ∙ end_found m.prelude.start h.hi xs q.keyword h.blanks h.others known.at (omega (arith, h.start, h.key_end)) h.passed others_behind in
+        omega (arith, last, h.key_end, key.size)
 
     behind_key : List ℕ
     behind_key = (64 ∷ key.name) ++ (key.gap ++ (put ++ v))
@@ -506,14 +519,8 @@ media_at text put k m head q rs ms xs zs way number sealed no_return spans =
         (ap (λ (t : List ℕ). between t (length h.front + 1) n) other_is ∙ key_text h.front key.name (key.gap ++ (put ++ v))) ∙ key.says
 
     -- ---- the prelude
-    w : WordPut put v head
-    w = word_put put v head sealed no_return spans (facts_gap h.gap h.rest h.blank)
-
-    g : ℕ
-    g = n + length key.gap
-
-    g_is : g ≡ length front + length spaces
-    g_is = omega (
+    gap_end : n + length key.gap ≡ length front + length spaces
+    gap_end = omega (
       arith,
       front_size,
       ap length key.is,
@@ -524,56 +531,21 @@ media_at text put k m head q rs ms xs zs way number sealed no_return spans =
       length-append key.gap (put ++ v),
     )
 
+    brace_place : ℕ
+    brace_place = length front + length own + length h.gap
+
     brace : Token
-    brace = brace_at (length front + length own + length h.gap)
+    brace = brace_at brace_place
+
+    w : NewPrelude put key.gap h.gap h.rest n brace_place made
+    w = make key.gap h.gap h.rest n brace_place key.open_gap h.blank (omega (arith, gap_end, length-append spaces put))
+        (gap_end ∙ ap (λ (x : ℕ). x + length spaces) (sym start_is)) key_end
 
     old_end : ℕ
     old_end = behind_brace front h.prelude h.gap
 
     new_end : ℕ
     new_end = behind_brace front own h.gap
-
-    at_brace : g + (length w.lead + length w.main) + length (w.trail ++ h.gap) ≡ length front + length own + length h.gap
-    at_brace = omega (
-      arith,
-      g_is,
-      length-append spaces put,
-      ap length w.parted,
-      length-append w.lead (w.main ++ w.trail),
-      length-append w.main w.trail,
-      length-append w.trail h.gap,
-    )
-
-    cut_new : (tail : List Token) × AllPassed Inner tail × (pieces_after (g + length w.lead) 0 (w.main ++ (w.trail ++ v))
-        ≡ (map (raised (λ x. g + x)) (w.first ∷ w.others) ++ tail) ++ brace ∷ pieces_after new_end 0 h.rest)
-    cut_new = put_pieces put w.main w.trail h.gap h.rest g (length w.lead) (length front + length own + length h.gap) (w.first ∷ w.others)
-        at_brace w.blank h.blank w.whole
-
-    lead_new : LeadIs Inner (pieces_after n 0 ((key.gap ++ w.lead) ++ (w.main ++ (w.trail ++ v))))
-        (pieces_after (n + length (key.gap ++ w.lead)) 0 (w.main ++ (w.trail ++ v)))
-    lead_new = (skips Inner (w.main ++ (w.trail ++ v)) w.begin (key.gap ++ w.lead)
-        (gap_append Inner key.gap w.lead key.open_gap w.open_lead) n).start
-
-    prelude : List Token
-    prelude = lead_new.lead ++ (map (raised (λ x. g + x)) (w.first ∷ w.others) ++ cut_new.0)
-
-    tail_is : key.gap ++ (put ++ v) ≡ (key.gap ++ w.lead) ++ (w.main ++ (w.trail ++ v))
-    tail_is =
-        ap (λ (x : List ℕ). key.gap ++ (x ++ v)) w.parted
-        ∙ ap (λ (x : List ℕ). key.gap ++ x) (append_assoc w.lead (w.main ++ w.trail) v
-        ∙ ap (λ (x : List ℕ). w.lead ++ x) (append_assoc w.main w.trail v))
-        ∙ sym (append_assoc key.gap w.lead (w.main ++ (w.trail ++ v)))
-
-    place_is : n + length (key.gap ++ w.lead) ≡ g + length w.lead
-    place_is = omega (arith, length-append key.gap w.lead)
-
-    prelude_pieces : pieces_after n 0 (key.gap ++ (put ++ v)) ≡ prelude ++ brace ∷ pieces_after new_end 0 h.rest
-    prelude_pieces =
-        let mine = map (raised (λ x. g + x)) (w.first ∷ w.others) ++ cut_new.0 in
-        ap (pieces_after n 0) tail_is ∙ lead_new.is
-        ∙ ap (λ (ys : List Token). lead_new.lead ++ ys)
-        (ap (λ (x : ℕ). pieces_after x 0 (w.main ++ (w.trail ++ v))) place_is ∙ cut_new.2)
-        ∙ sym (append_assoc lead_new.lead mine (brace ∷ pieces_after new_end 0 h.rest))
 
     -- ---- both texts
     back : SamePart text other (moved_place c) old_end (old_end + length h.rest)
@@ -598,7 +570,7 @@ media_at text put k m head q rs ms xs zs way number sealed no_return spans =
     front_whole = front_again text h.front (h.key ++ (h.lead ++ (h.prelude ++ v))) spot.a spot.j spot.rs xs h.is
         (omega (arith, h.some, length-append h.key (h.lead ++ (h.prelude ++ v)))) h.whole spot.spot behind_key refl
 
-    pieces_are : pieces other ≡ xs ++ ((keyword ∷ prelude) ++ brace ∷ map (raised (moved_place c)) zs)
+    pieces_are : pieces other ≡ xs ++ ((keyword ∷ w.prelude) ++ brace ∷ map (raised (moved_place c)) zs)
     pieces_are =
         let first = piece_first behind_key (length h.front) (piece tokens.AtKeyword (length (64 ∷ key.name))) key.found (omega arith)
         (omega (arith, length-append (64 ∷ key.name) (key.gap ++ (put ++ v)))) in
@@ -606,52 +578,59 @@ media_at text put k m head q rs ms xs zs way number sealed no_return spans =
         ap pieces other_is ∙ pieces_at behind_key h.front xs front_whole
         ∙ ap (λ (ys : List Token). xs ++ ys)
         (first ∙ ap (λ (ys : List Token). keyword ∷ ys)
-        (ap (pieces_after n 0) tail ∙ prelude_pieces ∙ ap (λ (ys : List Token). prelude ++ brace ∷ ys) left))
+        (ap (pieces_after n 0) tail ∙ w.is ∙ ap (λ (ys : List Token). w.prelude ++ brace ∷ ys) left))
 
-    put_stands : SamePart put other (λ x. g + x) 0 (length put)
+    put_stands : SamePart put other (λ x. n + length key.gap + x) 0 (length put)
     put_stands =
         let whole : other ≡ (front ++ spaces) ++ (put ++ v) =
         ap (λ (x : List ℕ). front ++ x) (append_assoc spaces put v) ∙ sym (append_assoc front spaces (put ++ v)) in
-        let size : length (front ++ spaces) ≡ g = length-append front spaces ∙ sym g_is in
-        subst (λ (t : List ℕ). SamePart put t (λ x. g + x) 0 (length put)) (sym whole)
+        let size : length (front ++ spaces) ≡ n + length key.gap = length-append front spaces ∙ sym gap_end in
+        subst (λ (t : List ℕ). SamePart put t (λ x. n + length key.gap + x) 0 (length put)) (sym whole)
         (subst (λ (d : ℕ). SamePart put ((front ++ spaces) ++ (put ++ v)) (λ x. d + x) 0 (length put)) size
         (put_in_both (front ++ spaces) put v))
 
-    range_is : placed_range (λ x. g + x) head ≡ made
-    range_is =
-        let place : (x : ℕ) → g + x ≡ m.prelude.start + length spaces + x = λ x. omega (arith, g_is, start_is) in
-        λ i. record { start = place head.start i; end = place head.end i }
-
-    read : prelude_range keyword (range_of (words_after other false prelude)) ≡ made
-    read = ap (prelude_range keyword) (media_read put v head w g lead_new.lead cut_new.0 lead_new.passed cut_new.1 other put_stands) ∙ range_is
-
     lead : AllTokens 0 (length front) xs
-    lead = widen 0 (0 + length h.front) 0 (length front) xs (omega arith) (omega (arith, front_size))
-        (whole_tokens (h.key ++ (h.lead ++ (h.prelude ++ v))) 0 h.front xs h.whole)
+    lead = widen 0 (0 + length h.front) 0 (length front) xs (omega arith) (omega (arith, front_size)) all_before
 
     behind : AllTokens old_end (old_end + length h.rest) zs
     behind = subst (AllTokens old_end (old_end + length h.rest)) (sym old_left) (pieces_in old_end h.rest)
 
-    nested : AreNested (keyword ∷ prelude)
-    nested = plain_and keyword prelude refl refl (media_nested put v head w g lead_new.lead cut_new.0 lead_new.passed cut_new.1)
-
-    exchanged : Exchanged text other (moved_place c) (keyword ∷ prelude) brace [] [] (m ∷ []) (repreluded made m ∷ []) None 0 ps ls rs
+    exchanged : Exchanged text other (moved_place c) (keyword ∷ w.prelude) brace [] [] (m ∷ []) (repreluded made m ∷ []) None 0 ps ls rs
         ms xs zs
     exchanged =
         exchange text other c old_end (old_end + length h.rest) same back ended (MediaHere text m q) (q.keyword ∷ q.prelude)
-        (keyword ∷ prelude) q.brace brace (media_starts text m q) known.curly refl known.none nested [] [] (m ∷ []) (repreluded made m ∷ [])
-        refl
-        (media_target text other m q old_end (old_end + length h.rest) c back ended keyword prelude brace refl named refl
-        (λ rest. media_ends put v head w g lead_new.lead cut_new.0 lead_new.passed cut_new.1 brace rest refl) made read)
+        (keyword ∷ w.prelude) q.brace brace (media_starts text m q) known.curly refl known.none
+        (plain_and keyword w.prelude refl refl w.nested) [] [] (m ∷ []) (repreluded made m ∷ []) refl
+        (media_target text other m q old_end (old_end + length h.rest) c back ended keyword w.prelude brace refl named refl
+        (λ rest. w.ends brace rest refl) made (w.read other keyword refl put_stands))
         None 0 ps ls rs ms xs zs way both.1 lead behind
 
+-- where the text put in has words
 pub media_holds : (text put : List ℕ) (k : ℕ) (m : MediaRule) (head : Range) → slice_get (sheet_of text).media k ≡ Some m
     → is_sealed_prelude put ≡ true → ends_in_return put ≡ false → range_of (words_of put) ≡ Some head
     → sheet_of (replaced text m.prelude (spaces_at text m.prelude.start ++ put))
     ≡ moved_media (sheet_of text) k (placed_range (λ place. m.prelude.start + length (spaces_at text m.prelude.start) + place) head)
     (length (spaces_at text m.prelude.start ++ put))
 media_holds text put k m head e sealed no_return spans =
-    let w = media_way text m None 0 (parts Top (pieces text)) (laid_out text None 0 (pieces text)) (laid_spelled text None 0 (pieces text)) k e in
-    media_at text put k m head w.q w.rs w.ms w.xs w.zs w.way w.number sealed no_return spans
-    ∙ ap (media_moved_by (sheet_of text) k (placed_range (λ place. m.prelude.start + length (spaces_at text m.prelude.start) + place) head)
-    (length (spaces_at text m.prelude.start ++ put))) (sym e)
+    let w = media_way text m None 0 (parts top_level (pieces text)) (laid_out text None 0 (pieces text)) (laid_spelled text None 0 (pieces text)) k e in
+    let made = placed_range (λ place. m.prelude.start + length (spaces_at text m.prelude.start) + place) head in
+    media_at text put k m made w.q w.rs w.ms w.xs w.zs w.way w.number
+    (λ gap behind rest n place open_gap blank at start ends.
+    subst (λ (g : ℕ). NewPrelude put gap behind rest n place (placed_range (λ x. g + x) head)) start
+    (with_words put gap behind rest n place head sealed no_return spans open_gap blank at))
+    ∙ ap (media_moved_by (sheet_of text) k made (length (spaces_at text m.prelude.start ++ put))) (sym e)
+
+-- where it has none
+pub blank_holds : (text put : List ℕ) (k : ℕ) (m : MediaRule) → slice_get (sheet_of text).media k ≡ Some m
+    → is_sealed_prelude put ≡ true → ends_in_return put ≡ false → range_of (words_of put) ≡ None
+    → sheet_of (replaced text m.prelude (spaces_at text m.prelude.start ++ put))
+    ≡ moved_media (sheet_of text) k (range (new_keyword_end text m.prelude.start) (new_keyword_end text m.prelude.start))
+    (length (spaces_at text m.prelude.start ++ put))
+blank_holds text put k m e sealed no_return spans =
+    let w = media_way text m None 0 (parts top_level (pieces text)) (laid_out text None 0 (pieces text)) (laid_spelled text None 0 (pieces text)) k e in
+    let end = new_keyword_end text m.prelude.start in
+    media_at text put k m (range end end) w.q w.rs w.ms w.xs w.zs w.way w.number
+    (λ gap behind rest n place open_gap blank at start ends.
+    subst (λ (x : ℕ). NewPrelude put gap behind rest n place (range x x)) ends
+    (without_words put gap behind rest n place sealed no_return spans open_gap blank at))
+    ∙ ap (media_moved_by (sheet_of text) k (range end end) (length (spaces_at text m.prelude.start ++ put))) (sym e)

@@ -3,3 +3,4 @@ pub mod Values
 pub mod Readings
 pub mod Places
 pub mod Heads
+pub mod Keywords
