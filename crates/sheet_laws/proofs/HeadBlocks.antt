@@ -13,10 +13,10 @@ use Rattle.sheet_reader.proofs.Raised.{raised}
 use Rattle.sheet_reader.proofs.BracketLemmas.{stop_here, go_on}
 use Rattle.sheet_reader.proofs.ExchangeForms.{reaches}
 use Rattle.sheet_reader.proofs.OpenForms.{opens, opens_append, passes, under_by, values_shut}
-use Rattle.sheet_reader.proofs.PartMoves.{Follows, until_raised, map_append, map_length}
+use Rattle.sheet_reader.proofs.PartMoves.{until_raised, map_append, map_length}
 use Rattle.sheet_reader.proofs.Spots.{nested_stays, values_at}
 use Rattle.sheet_reader.proofs.ValueForms.{until_is}
-use Rattle.sheet_laws.proofs.Names.{Bracket, Stop, Level, opened, at_block, block_or_semicolon, block_end}
+use Rattle.sheet_laws.proofs.Names.{Follows, Bracket, Stop, Level, opened, at_block, block_or_semicolon, block_end}
 
 -- ---- what is open behind pieces
 

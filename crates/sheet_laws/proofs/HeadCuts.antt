@@ -43,15 +43,15 @@ use Rattle.sheet_laws.proofs.Names.{Level, top_level, block_level}
 -- ---- what stands before
 
 -- whole pieces one behind the other
-pub whole_join : (after : List ℕ) (place : ℕ) (x y : List ℕ) (xs ys : List Token) → IsWholeBefore (y ++ after) place x xs
+pub whole_join : (after y : List ℕ) (place : ℕ) (x : List ℕ) (xs ys : List Token) → IsWholeBefore (y ++ after) place x xs
     → IsWholeBefore after (place + length x) y ys → IsWholeBefore after place (x ++ y) (xs ++ ys)
-whole_join after place _ y _ ys no_more second =
+whole_join after y place _ _ ys no_more second =
     let at : place + 0 ≡ place = omega arith in subst (λ (n : ℕ). IsWholeBefore after n y ys) at second
-whole_join after place x y _ ys (piece_and {ts = more} p front rest is len found whole) second =
+whole_join after y place x _ ys (piece_and {ts = more} p front rest is len found whole) second =
     let at : place + length x ≡ place + p.len + length rest = omega (arith, len, ap length is, length-append front rest) in
     piece_and p front (rest ++ y) (ap (λ (t : List ℕ). t ++ y) is ∙ append_assoc front rest y) len
     (ap first_piece (append_assoc x y after) ∙ found)
-    (whole_join after (place + p.len) rest y more ys whole (subst (λ (n : ℕ). IsWholeBefore after n y ys) at second))
+    (whole_join after y (place + p.len) rest more ys whole (subst (λ (n : ℕ). IsWholeBefore after n y ys) at second))
 
 -- pieces that are passed over stay what they are before another text that begins with no white space
 pub lead_whole : (level : Level) (after other : List ℕ) → 0 < length after → begins is_white other ≡ false → (place : ℕ) (z : List ℕ)
@@ -114,7 +114,7 @@ front_again text front after a j rs xs is some whole spot other solid = by (plac
         let first = ends_whole text w.front (w.behind ++ after) l.own parted w.first l.ends (w.behind ++ other) in
         let second = lead_whole (level_of l.a) after other some solid (0 + length w.front) w.behind l.lead w.second l.passed in
         subst (λ (t : List ℕ). IsWholeBefore other 0 t xs) (sym w.is)
-        (subst (IsWholeBefore other 0 (w.front ++ w.behind)) (sym l.is) (whole_join other 0 w.front w.behind l.own l.lead first second))
+        (subst (IsWholeBefore other 0 (w.front ++ w.behind)) (sym l.is) (whole_join other w.behind 0 w.front l.own l.lead first second))
 
 -- ---- the new text
 
@@ -199,8 +199,8 @@ pub put_pieces : (put main trail gap rest : List ℕ) (n m e : ℕ) (ts : List T
     → AllWhite trail → Gap block_level gap → IsWholeBefore (trail ++ (gap ++ 123 ∷ rest)) m main ts
     → (tail : List Token) × AllPassed block_level tail × (pieces_after (n + m) 0 (main ++ (trail ++ (gap ++ 123 ∷ rest)))
     ≡ (map (raised (λ x. n + x)) ts ++ tail) ++ brace_at e ∷ pieces_after (e + 1) 0 rest)
-put_pieces put main trail gap rest n m e ts at white blank whole =
-    let k = gap_pieces (n + (m + length main)) (trail ++ gap) rest (gap_append block_level trail gap (gap_whites block_level trail white) blank) in
+put_pieces put main trail gap rest n m e ts at spaces blank whole =
+    let k = gap_pieces (n + (m + length main)) (trail ++ gap) rest (gap_append block_level trail gap (gap_whites block_level trail spaces) blank) in
     let own = map (raised (λ x. n + x)) ts in (
       k.lead,
       k.passed,

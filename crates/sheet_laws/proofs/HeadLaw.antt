@@ -57,19 +57,19 @@ use Rattle.sheet_laws.proofs.Names.{Level, top_level, block_level, at_block}
 -- ---- the rule on its way
 
 -- the rule is the first part, with these pieces behind its `{`
-pub data RuleHere (text : List ℕ) (r : RuleForm) (q : RulePart) : Option ℕ → ℕ → List PartForm → List Laid → List Token → Type 0 where
+data RuleHere (text : List ℕ) (r : RuleForm) (q : RulePart) : Option ℕ → ℕ → List PartForm → List Laid → List Token → Type 0 where
   rule_here : {around : Option ℕ} {k : ℕ} (ps : List PartForm) (ls : List Laid) → AreLaid text around k ps ls
       → rule_of text around (rule_part q) ≡ Some r
       → RuleHere text r q around k (rule_part q ∷ ps) (laid around (rule_part q) ∷ ls) (q.body ++ (option_to_list q.close ++ flat ps))
 
-pub record RuleWay (text : List ℕ) (r : RuleForm) (q : RulePart) (around : Option ℕ) (k : ℕ) (ps : List PartForm) (ls : List Laid)
+record RuleWay (text : List ℕ) (r : RuleForm) (q : RulePart) (around : Option ℕ) (k : ℕ) (ps : List PartForm) (ls : List Laid)
     (rs : List RuleForm) : Type 0 where
-  pub ms : List MediaRule
-  pub xs : List Token
-  pub zs : List Token
-  pub way : Way text (RuleHere text r q) around k ps ls rs ms xs zs
+  ms : List MediaRule
+  xs : List Token
+  zs : List Token
+  way : Way text (RuleHere text r q) around k ps ls rs ms xs zs
 
-pub rule_way : (text : List ℕ) (r : RuleForm) (q : RulePart) (around : Option ℕ) (k : ℕ) (ps : List PartForm) (ls : List Laid)
+rule_way : (text : List ℕ) (r : RuleForm) (q : RulePart) (around : Option ℕ) (k : ℕ) (ps : List PartForm) (ls : List Laid)
     (rs : List RuleForm) (xs more : List Token) → Path text r q around k ps ls rs xs more → RuleWay text r q around k ps ls rs
 rule_way text r q around k _ _ _ _ _ (here ps ls are e) = record {
   ms = [];
@@ -102,7 +102,7 @@ rule_way text r q around k _ _ _ _ _ (in_media m first last inner ps within ls r
       way = into m first last inner ps within ls rs w.ms w.xs w.zs is own w.way are;
     }
 
-pub rule_starts : (text : List ℕ) (r : RuleForm) (q : RulePart) (around : Option ℕ) (k : ℕ) (ps : List PartForm) (ls : List Laid)
+rule_starts : (text : List ℕ) (r : RuleForm) (q : RulePart) (around : Option ℕ) (k : ℕ) (ps : List PartForm) (ls : List Laid)
     (zs : List Token) → RuleHere text r q around k ps ls zs → flat ps ≡ q.prelude ++ q.brace ∷ zs
 rule_starts text r q around k _ _ _ (rule_here ps ls are e) =
     append_assoc q.prelude (q.brace ∷ (q.body ++ option_to_list q.close)) (flat ps)
@@ -175,7 +175,7 @@ rule_head text r q a level rest e (qualified_part _ _ starts rule) = by q.prelud
     }
 
 -- where its way ends
-pub rule_there : (text : List ℕ) (r : RuleForm) (q : RulePart) (around : Option ℕ) (k : ℕ) (xs : List Token)
+rule_there : (text : List ℕ) (r : RuleForm) (q : RulePart) (around : Option ℕ) (k : ℕ) (xs : List Token)
     → SpotAt text (RuleHere text r q) around k xs → RuleHead text r q
 rule_there text r q around k xs s = by s.is s.all
   where
@@ -299,7 +299,7 @@ module _ (text other put : List ℕ) (r : RuleForm) (q : RulePart) (n lo hi : �
         new_rules = λ i. option_to_list (new i) ++ rules i;
         old_media = media_cons text around (rule_part q) ls None refl;
         new_media = media_cons other around q2 ls2 None refl ∙ media;
-        new_places = (λ i. option_to_list (ending_place_same (moved_place c) (block q.brace q.body q.close) i) ++ places i)
+        new_places = (λ i. option_to_list (ending_place_same text other (moved_place c) lo hi back (block q.brace q.body q.close) i) ++ places i)
             ∙ joined (place_of text (rule_part q)) (places_in text ps);
       }
     where
@@ -313,7 +313,7 @@ module _ (text other put : List ℕ) (r : RuleForm) (q : RulePart) (n lo hi : �
 pub changed_append : {A : Type 0} (own other : A → A) (xs : List A) (x : A) (ys : List A)
     → changed_at own other (length xs) (xs ++ x ∷ ys) ≡ map other xs ++ own x ∷ map other ys
 changed_append own other [] x ys = refl
-changed_append own other (z ∷ xs) x ys = ap (λ (zs : List _). other z ∷ zs) (changed_append own other xs x ys)
+changed_append {A = A} own other (z ∷ xs) x ys = ap (λ (zs : List A). other z ∷ zs) (changed_append own other xs x ys)
 
 -- the sheet of the new text, by what it is laid out in
 reading_is : (text other : List ℕ) (c : Cut) (new : List Token) (brace : Token) (r : RuleForm) (k size : ℕ) (head : Range)

@@ -21,7 +21,7 @@ use Rattle.sheet_reader.proofs.LaidMoves.{laid_in, laid_again, flat_raised, flat
 use Rattle.sheet_reader.proofs.LaidMoves.{parts_kept, laid_kept, any_moved}
 use Rattle.sheet_reader.proofs.MovedParts.{places_cons}
 use Rattle.sheet_reader.proofs.OpenForms.{opens, opens_append, values_shut}
-use Rattle.sheet_reader.proofs.PartMoves.{AreFlat, flat_of, flat_parts, Follows, cons_follows, append_follows, values_rest, part_rest}
+use Rattle.sheet_reader.proofs.PartMoves.{AreFlat, flat_of, flat_parts, cons_follows, append_follows, values_rest, part_rest}
 use Rattle.sheet_reader.proofs.PartMoves.{to_list_raised, map_append, map_length}
 use Rattle.sheet_reader.proofs.Raised.{raised, raised_part, raised_laid, raised_media, flat}
 use Rattle.sheet_reader.proofs.ReadMoves.{AllTokens, tokens_split, LaidIn, form_in, form_same, names_same, rules_same, media_same}
@@ -33,7 +33,7 @@ use Rattle.sheet_reader.proofs.UsableForms.{media_is, rules_append, no_rule}
 use Rattle.sheet_reader.proofs.ValueForms.{until_is}
 use Rattle.sheet_reader.proofs.WordMoves.{SamePart}
 use Rattle.sheet_laws.proofs.HeadBlocks.{part_quiet, Depth, no_block, depth_keeps, deeper, spread, block_again}
-use Rattle.sheet_laws.proofs.Names.{Bracket, Level, block_level, block_or_semicolon, block_end}
+use Rattle.sheet_laws.proofs.Names.{Follows, Bracket, Level, block_level, block_or_semicolon, block_end}
 
 -- A part that stands before: one that is no media rule, or a media rule with what is laid out from its block. Before it stand k media
 -- rules, and behind it j.
@@ -187,7 +187,7 @@ pub record Exchanged (text other : List ℕ) (f : ℕ → ℕ) (new : List Token
 
 -- four lists one behind the other
 regroup : {A : Type 0} (a b c d : List A) → (a ++ (b ++ c)) ++ d ≡ a ++ (b ++ (c ++ d))
-regroup a b c d = append_assoc a (b ++ c) d ∙ ap (λ (ys : List _). a ++ ys) (append_assoc b c d)
+regroup {A = A} a b c d = append_assoc a (b ++ c) d ∙ ap (λ (ys : List A). a ++ ys) (append_assoc b c d)
 
 closing_same : (f : ℕ → ℕ) (last : Option Token) → option_to_list (closing_place (option_map (raised f) last))
     ≡ map f (option_to_list (closing_place last))

@@ -9,6 +9,7 @@ use Rattle.css_tokens.specs.declared.token.TokenKind.{TokenKind}
 use Rattle.css_tokens.specs.declared.token.TokenKind.TheVariants as tokens
 use Rattle.css_tokens.specs.Pieces.{pieces}
 use Rattle.css_tokens.specs.Seams.{IsWholeBefore}
+use Rattle.selectors.specs.declared.words.Word.{Word}
 use Rattle.selectors.specs.Words.{word_reading, words_after, words_of}
 use Rattle.selectors.specs.Forms.{SelectorForm}
 use Rattle.selectors.specs.Reading.{range_of, selector_list_of, selectors_of}
@@ -95,7 +96,7 @@ solid_put put ss sealed starts no_return found = by p.us refl
     first_kind ts e = subst (λ (xs : List Token). kind_passes (λ kind. not (is_blank_kind kind)) (slice_get xs 0) ≡ true) e starts
 
     none : p.us ≡ [] → (pieces put ≡ p.us) ⊎ ((w : Token) × (pieces put ≡ p.us ++ w ∷ []) × (w.kind ≡ tokens.WhiteSpace)) → ⊥
-    none e (inl is) = let h = first_kind [] (is ∙ e) in cc
+    none e (inl is) = let h : false ≡ true = first_kind [] (is ∙ e) in cc
     none e (inr w) =
         white (w.0).kind w.2 (first_kind (w.0 ∷ []) (w.1 ∙ ap (λ (ts : List Token). ts ++ w.0 ∷ []) e))
 
@@ -121,7 +122,7 @@ solid_put put ss sealed starts no_return found = by p.us refl
           inside = subst (AllTokens 0 (length put)) e p.inside;
           solid = solid;
           begins = begins_prelude put t (words_after put false ts) ss solid
-              (ap (λ ws. selector_list_of (word_reading put ws)) (sym (first_word put false t ts solid) ∙ sym words) ∙ found);
+              (ap (λ (ws : List Word). selector_list_of (word_reading put ws)) (sym (first_word put false t ts solid) ∙ sym words) ∙ found);
           words = words;
           pass = λ ys. subst (λ (us : List Token). until at_block (us ++ ys) ≡ length us + until at_block ys) e
               (us_pass put ss found sealed p ys);
@@ -169,9 +170,9 @@ module _ (put : List ℕ) (p : SolidPut put) (n : ℕ) (tail : List Token) (pass
       trail_words other false (map (raised f) ts) tail passed
       ∙ words_same put other f 0 (length put) same false ts p.inside
       ∙ ap (map (raised_word f)) (sym p.words) in
-      let inside = subst (λ xs. AllIn 0 (length put) xs) (sym p.words) (words_in put other f 0 (length put) same false ts p.inside) in
+      let inside = subst (λ (xs : List Word). AllIn 0 (length put) xs) (sym p.words) (words_in put other f 0 (length put) same false ts p.inside) in
       record {
         ranged = ap range_of words ∙ range_same put other f 0 (length put) same ws ∙ ap (option_map (placed_range f)) spans;
-        listed = ap (λ xs. selector_list_of (word_reading other xs)) words
+        listed = ap (λ (xs : List Word). selector_list_of (word_reading other xs)) words
             ∙ list_same put other f 0 (length put) same ws inside ∙ ap (option_map (map (placed_selector f))) found;
       }

@@ -8,16 +8,16 @@ use Rattle.sheet_reader.specs.Forms.{range, RuleForm}
 use Rattle.sheet_laws.specs.Heads.{moved_head}
 
 -- a selector that is only its range
-one : ℕ → ℕ → SelectorForm
+abbrev one : ℕ → ℕ → SelectorForm
 one from to = record { compounds = []; pseudo_element = false; range = range from to }
 
-rule : Range → List SelectorForm → Range → List Property → RuleForm
+abbrev rule : Range → List SelectorForm → Range → List Property → RuleForm
 rule prelude ss body ps = record { prelude = prelude; selectors = ss; body = body; properties = ps; media = None }
 
-declared : ℕ → ℕ → ℕ → Property
+abbrev declared : ℕ → ℕ → ℕ → Property
 declared from value to = record { name = 100 ∷ []; value = range value to; important = false; whole = range from to }
 
-shut : Sheet
+abbrev shut : Sheet
 shut = record {
   rules = rule (range 0 1) (one 0 1 ∷ []) (range 2 2) []
       ∷ rule (range 3 6) (one 3 6 ∷ []) (range 7 10) (declared 7 9 10 ∷ [])
@@ -37,7 +37,7 @@ shut_row : moved_head shut 1 (range 0 4) (one 0 1 ∷ one 3 4 ∷ []) 4 ≡ reco
 }
 shut_row = refl
 
-left_open : Sheet
+abbrev left_open : Sheet
 left_open = record {
   rules = rule (range 0 1) (one 0 1 ∷ []) (range 3 3) [] ∷ rule (range 4 5) (one 4 5 ∷ []) (range 6 6) [] ∷ [];
   places = 0 ∷ 4 ∷ [];

@@ -34,6 +34,12 @@ top_level = level_of None
 abbrev pub block_level : Level
 block_level = level_of (Some 0)
 
+-- ---- pieces
+
+-- there are some
+abbrev pub Follows : List Token → Type 0
+Follows ts = ts ≡ [] → ⊥
+
 -- ---- what is open behind a `{`
 abbrev pub opened : List Bracket → List Bracket
 opened bs = open_after bs OpenCurly
@@ -41,23 +47,26 @@ opened bs = open_after bs OpenCurly
 -- ---- where component values stop
 
 -- a piece of this kind
-piece_of : TokenKind → Token
+abbrev pub piece_of : TokenKind → Token
 piece_of kind = record { kind = kind; start = 0; end = 1 }
 
 -- where the values of a block stop
-block_values : {first close : Token} {within rest : List Token} → IsEnding (block first within (Some close)) rest
+abbrev pub block_values : {first close : Token} {within rest : List Token} → IsEnding (block first within (Some close)) rest
     → (place : Place) × AreValues place within (close ∷ rest)
 block_values (in_block _ _ _ k vs closed) = (_, vs)
 
-stop_of : Stop → Place → Stop
+-- the stop of a place outside brackets
+abbrev pub stop_of : Stop → Place → Stop
 stop_of other (outside stop) = stop
 stop_of other (inside b) = other
 
-at_rule_stop : {level : Level} {keyword : Token} {prelude rest : List Token} {ending : EndingForm}
+-- where an at-rule's prelude stops
+abbrev pub at_rule_stop : {level : Level} {keyword : Token} {prelude rest : List Token} {ending : EndingForm}
     → IsPart level (at_rule keyword prelude ending) rest → (stop : Stop) × IsRule stop prelude ending rest
 at_rule_stop (at_rule_part _ _ _ k r) = (_, r)
 
-rule_stop : {level : Level} {prelude rest : List Token} {ending : EndingForm} → IsPart level (qualified prelude ending) rest
+-- where a qualified rule's prelude stops
+abbrev pub rule_stop : {level : Level} {prelude rest : List Token} {ending : EndingForm} → IsPart level (qualified prelude ending) rest
     → (stop : Stop) × IsRule stop prelude ending rest
 rule_stop (qualified_part _ _ starts r) = (_, r)
 
