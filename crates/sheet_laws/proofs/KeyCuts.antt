@@ -281,6 +281,7 @@ end_found place hi before keyword blanks others at within passed behind =
     let here : (is_at_keyword keyword.kind && nat_le keyword.end place) ≡ true =
     (λ i. is_at_keyword (at i) && early keyword.end place within i) in
     fold-append (last_end place) 0 before (keyword ∷ (blanks ++ others))
-    ∙ rw here (fold-append (last_end place) keyword.end blanks others
+    ∙ ap (λ (b : Bool). fold (last_end place) (cond b keyword.end (fold (last_end place) 0 before)) (blanks ++ others)) here
+    ∙ fold-append (last_end place) keyword.end blanks others
     ∙ ap (λ (e : ℕ). fold (last_end place) e others) (end_passed place keyword.end blanks passed)
-    ∙ end_behind place hi keyword.end others behind)
+    ∙ end_behind place hi keyword.end others behind

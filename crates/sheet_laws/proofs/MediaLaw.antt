@@ -376,42 +376,132 @@ reading_is text other c new brace m k size made rs ms xs zs x is number cuts =
 
 -- ---- the law
 
+-- the keyword in the new text
+record KeyAt (text put : List ℕ) (m : MediaRule) (front key lead v : List ℕ) : Type 0 where
+  own : NewKey key lead (spaces_at text m.prelude.start) (put ++ v)
+  end : length front + length (64 ∷ own.name) ≡ new_keyword_end text m.prelude.start
+
+key_at : (text put : List ℕ) (m : MediaRule) (q : MediaPart) (xs zs : List Token)
+    → pieces text ≡ xs ++ (q.keyword ∷ (q.prelude ++ q.brace ∷ zs)) → MediaKnown text m q
+    → (h : MediaText text m.prelude xs q.keyword q.brace zs) → KeyAt text put m h.front h.key h.lead (h.gap ++ 123 ∷ h.rest)
+key_at text put m q xs zs old_pieces known h = record {
+  own = made;
+  end = omega (arith, last, h.key_end, made.size);
+}
+  where
+    v : List ℕ
+    v = h.gap ++ 123 ∷ h.rest
+
+    all_before : AllTokens 0 (0 + length h.front) xs
+    all_before = whole_tokens (h.key ++ (h.lead ++ (h.prelude ++ v))) 0 h.front xs h.whole
+
+    others_behind : AllTokens m.prelude.start h.hi h.others
+    others_behind = subst (λ (n : ℕ). AllTokens n h.hi h.others) (sym h.start) h.behind
+
+    says : (n : KeyName h.key (h.lead ++ (h.prelude ++ v))) → SaysMedia (drop 1 h.key)
+    says n =
+        let rest = h.lead ++ (h.prelude ++ v) in
+        let is : text ≡ h.front ++ ((64 ∷ n.name) ++ rest) = h.is ∙ ap (λ (x : List ℕ). h.front ++ (x ++ rest)) n.is in
+        let size : length h.front + length h.key ≡ length h.front + length (64 ∷ n.name) =
+        ap (λ (x : List ℕ). length h.front + length x) n.is in
+        let own_name : between text (q.keyword.start + 1) q.keyword.end ≡ n.name =
+        (λ x. between (is x) (h.key_start x + 1) ((h.key_end ∙ size) x)) ∙ key_text h.front n.name rest in
+        subst SaysMedia (sym (ap (drop 1) n.is))
+        (sym (ap (λ (t : List ℕ). bytes_eq (map to_ascii_lowercase (unescaped t)) (codes "media")) own_name)
+        ∙ sym (ap (names_media text q.keyword) known.at) ∙ known.named)
+
+    tight : h.lead ≡ [] → spaces_at text m.prelude.start ≡ spaces_for h.key
+    tight none =
+        let at : m.prelude.start ≡ q.keyword.end = h.start ∙ omega (arith, ap length none, h.key_end) in
+        let found : find (ends_keyword m.prelude.start) (pieces text) ≡ Some q.keyword =
+        ap (find (ends_keyword m.prelude.start)) old_pieces
+        ∙ find_key m.prelude.start (0 + length h.front) xs q.keyword (q.prelude ++ q.brace ∷ zs) all_before
+        (omega (arith, at, h.key_end, h.some)) known.at (sym at) in
+        let size : q.keyword.end - q.keyword.start ≡ length h.key = omega (arith, h.key_end, h.key_start) in
+        let behind : drop q.keyword.start text ≡ h.key ++ (h.lead ++ (h.prelude ++ v)) =
+        (λ x. drop (h.key_start x) (h.is x)) ∙ drop-append_seam h.front (h.key ++ (h.lead ++ (h.prelude ++ v))) in
+        let key_is : between text q.keyword.start q.keyword.end ≡ h.key =
+        (λ x. take (size x) (behind x)) ∙ take-append_seam h.key (h.lead ++ (h.prelude ++ v)) in
+        ap (spaces_by text) found ∙ ap spaces_behind key_is
+
+    loose : 0 < length h.lead → spaces_at text m.prelude.start ≡ []
+    loose some =
+        ap (spaces_by text)
+        (ap (find (ends_keyword m.prelude.start)) h.cut
+        ∙ find_none m.prelude.start (0 + length h.front) h.hi xs q.keyword h.blanks h.others all_before (omega (arith, h.start, h.some))
+        (omega (arith, h.start, h.key_end, some)) h.passed others_behind)
+
+    made : NewKey h.key h.lead (spaces_at text m.prelude.start) (put ++ v)
+    made = new_key h.key h.lead (h.prelude ++ v) (spaces_at text m.prelude.start) (put ++ v) q.keyword.kind (ap is_at_keyword known.at)
+        h.found (omega (arith, length-append h.prelude v, length-append h.gap (123 ∷ h.rest))) h.open_lead
+        (spaces_white text (find (ends_keyword m.prelude.start) (pieces text))) tight loose says
+
+    last : keyword_end text m.prelude.start ≡ q.keyword.end
+    last =
+        ap (fold (last_end m.prelude.start) 0) h.cut
+        ∙ end_found m.prelude.start h.hi xs q.keyword h.blanks h.others known.at (omega (arith, h.start, h.key_end)) h.passed others_behind
+
+-- the new text behind what stands before the keyword
+key_tail : (front key lead old put spaces v name gap : List ℕ) → key ++ (lead ++ (spaces ++ (put ++ v))) ≡ (64 ∷ name) ++ (gap ++ (put ++ v))
+    → (front ++ (key ++ lead)) ++ ((spaces ++ put) ++ v) ≡ front ++ ((64 ∷ name) ++ (gap ++ (put ++ v)))
+key_tail front key lead old put spaces v name gap is =
+    append_assoc front (key ++ lead) ((spaces ++ put) ++ v)
+    ∙ ap (λ (x : List ℕ). front ++ x)
+    (append_assoc key lead ((spaces ++ put) ++ v) ∙ ap (λ (x : List ℕ). key ++ (lead ++ x)) (append_assoc spaces put v) ∙ is)
+
+-- where what takes the place begins, behind the spaces
+gap_ends : (front key lead put spaces v name gap : List ℕ)
+    → key ++ (lead ++ (spaces ++ (put ++ v))) ≡ (64 ∷ name) ++ (gap ++ (put ++ v))
+    → length front + length (64 ∷ name) + length gap ≡ length (front ++ (key ++ lead)) + length spaces
+gap_ends front key lead put spaces v name gap is = omega (
+  arith,
+  ap (λ (x : List ℕ). length x) is,
+  length-append front (key ++ lead),
+  length-append key lead,
+  length-append key (lead ++ (spaces ++ (put ++ v))),
+  length-append lead (spaces ++ (put ++ v)),
+  length-append spaces (put ++ v),
+  length-append (64 ∷ name) (gap ++ (put ++ v)),
+  length-append gap (put ++ v),
+)
+
+-- the pieces of a text with this keyword
+key_pieces : (front name tail : List ℕ) (xs : List Token)
+    → first_piece ((64 ∷ name) ++ tail) ≡ Some (piece tokens.AtKeyword (length (64 ∷ name))) → IsWholeBefore ((64 ∷ name) ++ tail) 0 front xs
+    → pieces (front ++ ((64 ∷ name) ++ tail))
+    ≡ xs ++ (record { kind = tokens.AtKeyword; start = length front; end = length front + length (64 ∷ name) })
+    ∷ pieces_after (length front + length (64 ∷ name)) 0 tail
+key_pieces front name tail xs found whole =
+    let size = length (64 ∷ name) in
+    pieces_at ((64 ∷ name) ++ tail) front xs whole
+    ∙ ap (λ (ys : List Token). xs ++ ys)
+    (piece_first ((64 ∷ name) ++ tail) (length front) (piece tokens.AtKeyword size) found (omega arith)
+    (omega (arith, length-append (64 ∷ name) tail))
+    ∙ ap (λ (t : List ℕ). (record { kind = tokens.AtKeyword; start = length front; end = length front + size })
+    ∷ pieces_after (length front + size) 0 t)
+    (drop-append_seam (64 ∷ name) tail))
+
+-- the reading of one text where it is another
+read_there : (a b : List ℕ) (s : Sheet) → a ≡ b → sheet_of b ≡ s → sheet_of a ≡ s
+read_there a b s e is = ap sheet_of e ∙ is
+
 -- at a media rule whose way is known, where it is known what the text put in is as a prelude
 media_at : (text put : List ℕ) (k : ℕ) (m : MediaRule) (made : Range) (q : MediaPart) (rs : List RuleForm) (ms : List MediaRule)
     (xs zs : List Token)
     → Way text (MediaHere text m q) None 0 (parts top_level (pieces text)) (laid_out text None 0 (pieces text)) rs ms xs zs → length ms ≡ k
+    → pieces text ≡ xs ++ (q.keyword ∷ (q.prelude ++ q.brace ∷ zs)) → MediaKnown text m q
+    → SpotAt text (MediaHere text m q) None 0 xs
+    → (h : MediaText text m.prelude xs q.keyword q.brace zs) → KeyAt text put m h.front h.key h.lead (h.gap ++ 123 ∷ h.rest)
     → ((gap behind rest : List ℕ) (n e : ℕ) → Gap block_level gap → Gap block_level behind → n + length gap + length put + length behind ≡ e
     → n + length gap ≡ m.prelude.start + length (spaces_at text m.prelude.start) → n ≡ new_keyword_end text m.prelude.start
     → NewPrelude put gap behind rest n e made)
     → sheet_of (replaced text m.prelude (spaces_at text m.prelude.start ++ put))
     ≡ media_moved_by (sheet_of text) k made (length (spaces_at text m.prelude.start ++ put)) (Some m)
-media_at text put k m made q rs ms xs zs way number make =
-    ap sheet_of (replaced_at front h.prelude v own text m.prelude text_is start_is end_is)
-    ∙ reading_is text other c (keyword ∷ w.prelude) brace m k (length own) made rs ms xs zs exchanged pieces_are number cuts
+media_at text put k m made q rs ms xs zs way number old_pieces known spot h keys make =
+    read_there (replaced text m.prelude own) other (media_moved_by (sheet_of text) k made (length own) (Some m))
+    (replaced_at front h.prelude v own text m.prelude text_is start_is end_is)
+    (reading_is text other c (keyword ∷ w.prelude) brace m k (length own) made rs ms xs zs exchanged pieces_are number cuts)
   where
-    ps : List PartForm
-    ps = parts top_level (pieces text)
-
-    ls : List Laid
-    ls = laid_out text None 0 (pieces text)
-
-    both : (pieces text ≡ flat ps) × AreFlat top_level ps
-    both = flat_of top_level ps (pieces text) (parts_spelled top_level (pieces text))
-
-    spot : SpotAt text (MediaHere text m q) None 0 xs
-    spot = spot_at text (MediaHere text m q) (q.keyword ∷ q.prelude) q.brace (media_starts text m q) None 0 ps ls rs ms xs zs way both.1
-
-    known : MediaKnown text m q
-    known = media_there text m q None 0 xs spot
-
-    old_pieces : pieces text ≡ xs ++ (q.keyword ∷ (q.prelude ++ q.brace ∷ zs))
-    old_pieces = both.0
-        ∙ way_flat text (MediaHere text m q) (q.keyword ∷ q.prelude) q.brace (media_starts text m q) None 0 ps ls rs ms xs zs way
-
-    h : MediaText text m.prelude xs q.keyword q.brace zs
-    h = subst (λ (r : Range). MediaText text r xs q.keyword q.brace zs) known.prelude
-        (media_text text xs q.keyword q.prelude q.brace zs old_pieces known.curly)
-
     v : List ℕ
     v = h.gap ++ 123 ∷ h.rest
 
@@ -446,90 +536,31 @@ media_at text put k m made q rs ms xs zs way number make =
     cuts : c ≡ range_cut m.prelude (length own)
     cuts = λ i. record { start = sym start_is i; end = sym end_is i; size = length own }
 
-    -- ---- the keyword
-    all_before : AllTokens 0 (0 + length h.front) xs
-    all_before = whole_tokens (h.key ++ (h.lead ++ (h.prelude ++ v))) 0 h.front xs h.whole
+    name : List ℕ
+    name = keys.own.name
 
-    others_behind : AllTokens m.prelude.start h.hi h.others
-    others_behind = subst (λ (n : ℕ). AllTokens n h.hi h.others) (sym h.start) h.behind
-
-    says : (n : KeyName h.key (h.lead ++ (h.prelude ++ v))) → SaysMedia (drop 1 h.key)
-    says n =
-        let rest = h.lead ++ (h.prelude ++ v) in
-        let is : text ≡ h.front ++ ((64 ∷ n.name) ++ rest) = h.is ∙ ap (λ (x : List ℕ). h.front ++ (x ++ rest)) n.is in
-        let size : length h.front + length h.key ≡ length h.front + length (64 ∷ n.name) =
-        ap (λ (x : List ℕ). length h.front + length x) n.is in
-        let own_name : between text (q.keyword.start + 1) q.keyword.end ≡ n.name =
-        (λ x. between (is x) (h.key_start x + 1) ((h.key_end ∙ size) x)) ∙ key_text h.front n.name rest in
-        subst SaysMedia (sym (ap (drop 1) n.is))
-        (sym (ap (λ (t : List ℕ). bytes_eq (map to_ascii_lowercase (unescaped t)) (codes "media")) own_name)
-        ∙ sym (ap (names_media text q.keyword) known.at) ∙ known.named)
-
-    tight : h.lead ≡ [] → spaces ≡ spaces_for h.key
-    tight none =
-        let at : m.prelude.start ≡ q.keyword.end = h.start ∙ omega (arith, ap length none, h.key_end) in
-        let found : find (ends_keyword m.prelude.start) (pieces text) ≡ Some q.keyword =
-        ap (find (ends_keyword m.prelude.start)) old_pieces
-        ∙ find_key m.prelude.start (0 + length h.front) xs q.keyword (q.prelude ++ q.brace ∷ zs) all_before
-        (omega (arith, at, h.key_end, h.some)) known.at (sym at) in
-        let size : q.keyword.end - q.keyword.start ≡ length h.key = omega (arith, h.key_end, h.key_start) in
-        let behind : drop q.keyword.start text ≡ h.key ++ (h.lead ++ (h.prelude ++ v)) =
-        (λ x. drop (h.key_start x) (h.is x)) ∙ drop-append_seam h.front (h.key ++ (h.lead ++ (h.prelude ++ v))) in
-        let key_is : between text q.keyword.start q.keyword.end ≡ h.key =
-        (λ x. take (size x) (behind x)) ∙ take-append_seam h.key (h.lead ++ (h.prelude ++ v)) in
-        ap (spaces_by text) found ∙ ap spaces_behind key_is
-
-    loose : 0 < length h.lead → spaces ≡ []
-    loose some =
-        ap (spaces_by text)
-        (ap (find (ends_keyword m.prelude.start)) h.cut
-        ∙ find_none m.prelude.start (0 + length h.front) h.hi xs q.keyword h.blanks h.others all_before (omega (arith, h.start, h.some))
-        (omega (arith, h.start, h.key_end, some)) h.passed others_behind)
-
-    key : NewKey h.key h.lead spaces (put ++ v)
-    key = new_key h.key h.lead (h.prelude ++ v) spaces (put ++ v) q.keyword.kind (ap is_at_keyword known.at) h.found
-        (omega (arith, length-append h.prelude v, length-append h.gap (123 ∷ h.rest))) h.open_lead
-        (spaces_white text (find (ends_keyword m.prelude.start) (pieces text))) tight loose says
+    gap : List ℕ
+    gap = keys.own.gap
 
     n : ℕ
-    n = length h.front + length (64 ∷ key.name)
+    n = length h.front + length (64 ∷ name)
 
     keyword : Token
     keyword = record { kind = tokens.AtKeyword; start = length h.front; end = n }
 
-    key_end : n ≡ new_keyword_end text m.prelude.start
-    key_end =
-        let last : keyword_end text m.prelude.start ≡ q.keyword.end =
-        ap (fold (last_end m.prelude.start) 0) h.cut
-        ∙ end_found m.prelude.start h.hi xs q.keyword h.blanks h.others known.at (omega (arith, h.start, h.key_end)) h.passed others_behind in
-        omega (arith, last, h.key_end, key.size)
-
     behind_key : List ℕ
-    behind_key = (64 ∷ key.name) ++ (key.gap ++ (put ++ v))
+    behind_key = (64 ∷ name) ++ (gap ++ (put ++ v))
 
     other_is : other ≡ h.front ++ behind_key
-    other_is =
-        append_assoc h.front (h.key ++ h.lead) (own ++ v)
-        ∙ ap (λ (x : List ℕ). h.front ++ x)
-        (append_assoc h.key h.lead (own ++ v) ∙ ap (λ (x : List ℕ). h.key ++ (h.lead ++ x)) (append_assoc spaces put v) ∙ key.is)
+    other_is = key_tail h.front h.key h.lead h.prelude put spaces v name gap keys.own.is
 
     named : names_media other keyword keyword.kind ≡ true
     named =
         ap (λ (t : List ℕ). bytes_eq (map to_ascii_lowercase (unescaped t)) (codes "media"))
-        (ap (λ (t : List ℕ). between t (length h.front + 1) n) other_is ∙ key_text h.front key.name (key.gap ++ (put ++ v))) ∙ key.says
+        (ap (λ (t : List ℕ). between t (length h.front + 1) n) other_is ∙ key_text h.front name (gap ++ (put ++ v))) ∙ keys.own.says
 
-    -- ---- the prelude
-    gap_end : n + length key.gap ≡ length front + length spaces
-    gap_end = omega (
-      arith,
-      front_size,
-      ap length key.is,
-      length-append h.key (h.lead ++ (spaces ++ (put ++ v))),
-      length-append h.lead (spaces ++ (put ++ v)),
-      length-append spaces (put ++ v),
-      length-append (64 ∷ key.name) (key.gap ++ (put ++ v)),
-      length-append key.gap (put ++ v),
-    )
+    gap_end : n + length gap ≡ length front + length spaces
+    gap_end = gap_ends h.front h.key h.lead put spaces v name gap keys.own.is
 
     brace_place : ℕ
     brace_place = length front + length own + length h.gap
@@ -537,9 +568,9 @@ media_at text put k m made q rs ms xs zs way number make =
     brace : Token
     brace = brace_at brace_place
 
-    w : NewPrelude put key.gap h.gap h.rest n brace_place made
-    w = make key.gap h.gap h.rest n brace_place key.open_gap h.blank (omega (arith, gap_end, length-append spaces put))
-        (gap_end ∙ ap (λ (x : ℕ). x + length spaces) (sym start_is)) key_end
+    w : NewPrelude put gap h.gap h.rest n brace_place made
+    w = make gap h.gap h.rest n brace_place keys.own.open_gap h.blank (omega (arith, gap_end, length-append spaces put))
+        (gap_end ∙ ap (λ (x : ℕ). x + length spaces) (sym start_is)) keys.end
 
     old_end : ℕ
     old_end = behind_brace front h.prelude h.gap
@@ -547,7 +578,6 @@ media_at text put k m made q rs ms xs zs way number make =
     new_end : ℕ
     new_end = behind_brace front own h.gap
 
-    -- ---- both texts
     back : SamePart text other (moved_place c) old_end (old_end + length h.rest)
     back = subst (λ (t : List ℕ). SamePart t other (moved_place c) old_end (old_end + length h.rest)) (sym text_is)
         (end_stands front h.prelude own h.gap h.rest)
@@ -572,38 +602,77 @@ media_at text put k m made q rs ms xs zs way number make =
 
     pieces_are : pieces other ≡ xs ++ ((keyword ∷ w.prelude) ++ brace ∷ map (raised (moved_place c)) zs)
     pieces_are =
-        let first = piece_first behind_key (length h.front) (piece tokens.AtKeyword (length (64 ∷ key.name))) key.found (omega arith)
-        (omega (arith, length-append (64 ∷ key.name) (key.gap ++ (put ++ v)))) in
-        let tail = drop-append_seam (64 ∷ key.name) (key.gap ++ (put ++ v)) in
-        ap pieces other_is ∙ pieces_at behind_key h.front xs front_whole
-        ∙ ap (λ (ys : List Token). xs ++ ys)
-        (first ∙ ap (λ (ys : List Token). keyword ∷ ys)
-        (ap (pieces_after n 0) tail ∙ w.is ∙ ap (λ (ys : List Token). w.prelude ++ brace ∷ ys) left))
+        ap pieces other_is ∙ key_pieces h.front name (gap ++ (put ++ v)) xs keys.own.found front_whole
+        ∙ ap (λ (ys : List Token). xs ++ keyword ∷ ys) (w.is ∙ ap (λ (ys : List Token). w.prelude ++ brace ∷ ys) left)
 
-    put_stands : SamePart put other (λ x. n + length key.gap + x) 0 (length put)
+    put_stands : SamePart put other (λ x. n + length gap + x) 0 (length put)
     put_stands =
         let whole : other ≡ (front ++ spaces) ++ (put ++ v) =
         ap (λ (x : List ℕ). front ++ x) (append_assoc spaces put v) ∙ sym (append_assoc front spaces (put ++ v)) in
-        let size : length (front ++ spaces) ≡ n + length key.gap = length-append front spaces ∙ sym gap_end in
-        subst (λ (t : List ℕ). SamePart put t (λ x. n + length key.gap + x) 0 (length put)) (sym whole)
+        let size : length (front ++ spaces) ≡ n + length gap = length-append front spaces ∙ sym gap_end in
+        subst (λ (t : List ℕ). SamePart put t (λ x. n + length gap + x) 0 (length put)) (sym whole)
         (subst (λ (d : ℕ). SamePart put ((front ++ spaces) ++ (put ++ v)) (λ x. d + x) 0 (length put)) size
         (put_in_both (front ++ spaces) put v))
 
     lead : AllTokens 0 (length front) xs
-    lead = widen 0 (0 + length h.front) 0 (length front) xs (omega arith) (omega (arith, front_size)) all_before
+    lead = widen 0 (0 + length h.front) 0 (length front) xs (omega arith) (omega (arith, front_size))
+        (whole_tokens (h.key ++ (h.lead ++ (h.prelude ++ v))) 0 h.front xs h.whole)
 
     behind : AllTokens old_end (old_end + length h.rest) zs
     behind = subst (AllTokens old_end (old_end + length h.rest)) (sym old_left) (pieces_in old_end h.rest)
 
-    exchanged : Exchanged text other (moved_place c) (keyword ∷ w.prelude) brace [] [] (m ∷ []) (repreluded made m ∷ []) None 0 ps ls rs
-        ms xs zs
+    exchanged : Exchanged text other (moved_place c) (keyword ∷ w.prelude) brace [] [] (m ∷ []) (repreluded made m ∷ []) None 0
+        (parts top_level (pieces text)) (laid_out text None 0 (pieces text)) rs ms xs zs
     exchanged =
         exchange text other c old_end (old_end + length h.rest) same back ended (MediaHere text m q) (q.keyword ∷ q.prelude)
         (keyword ∷ w.prelude) q.brace brace (media_starts text m q) known.curly refl known.none
         (plain_and keyword w.prelude refl refl w.nested) [] [] (m ∷ []) (repreluded made m ∷ []) refl
         (media_target text other m q old_end (old_end + length h.rest) c back ended keyword w.prelude brace refl named refl
         (λ rest. w.ends brace rest refl) made (w.read other keyword refl put_stands))
-        None 0 ps ls rs ms xs zs way both.1 lead behind
+        None 0 (parts top_level (pieces text)) (laid_out text None 0 (pieces text)) rs ms xs zs way
+        (flat_of top_level (parts top_level (pieces text)) (pieces text) (parts_spelled top_level (pieces text))).1 lead behind
+
+-- at media rule k
+media_known : (text put : List ℕ) (k : ℕ) (m : MediaRule) (made : Range) → slice_get (sheet_of text).media k ≡ Some m
+    → ((gap behind rest : List ℕ) (n e : ℕ) → Gap block_level gap → Gap block_level behind → n + length gap + length put + length behind ≡ e
+    → n + length gap ≡ m.prelude.start + length (spaces_at text m.prelude.start) → n ≡ new_keyword_end text m.prelude.start
+    → NewPrelude put gap behind rest n e made)
+    → sheet_of (replaced text m.prelude (spaces_at text m.prelude.start ++ put))
+    ≡ moved_media (sheet_of text) k made (length (spaces_at text m.prelude.start ++ put))
+media_known text put k m made e make =
+    media_at text put k m made way.q way.rs way.ms way.xs way.zs way.way way.number old_pieces known spot h
+    (key_at text put m way.q way.xs way.zs old_pieces known h) make
+    ∙ ap (media_moved_by (sheet_of text) k made (length (spaces_at text m.prelude.start ++ put))) (sym e)
+  where
+    ps : List PartForm
+    ps = parts top_level (pieces text)
+
+    ls : List Laid
+    ls = laid_out text None 0 (pieces text)
+
+    both : (pieces text ≡ flat ps) × AreFlat top_level ps
+    both = flat_of top_level ps (pieces text) (parts_spelled top_level (pieces text))
+
+    way : MediaWay text m None 0 ps ls k
+    way = media_way text m None 0 ps ls (laid_spelled text None 0 (pieces text)) k e
+
+    head : List Token
+    head = way.q.keyword ∷ way.q.prelude
+
+    spot : SpotAt text (MediaHere text m way.q) None 0 way.xs
+    spot = spot_at text (MediaHere text m way.q) head way.q.brace (media_starts text m way.q) None 0 ps ls way.rs way.ms way.xs way.zs way.way
+        both.1
+
+    known : MediaKnown text m way.q
+    known = media_there text m way.q None 0 way.xs spot
+
+    old_pieces : pieces text ≡ way.xs ++ (way.q.keyword ∷ (way.q.prelude ++ way.q.brace ∷ way.zs))
+    old_pieces = both.0
+        ∙ way_flat text (MediaHere text m way.q) head way.q.brace (media_starts text m way.q) None 0 ps ls way.rs way.ms way.xs way.zs way.way
+
+    h : MediaText text m.prelude way.xs way.q.keyword way.q.brace way.zs
+    h = subst (λ (r : Range). MediaText text r way.xs way.q.keyword way.q.brace way.zs) known.prelude
+        (media_text text way.xs way.q.keyword way.q.prelude way.q.brace way.zs old_pieces known.curly)
 
 -- where the text put in has words
 pub media_holds : (text put : List ℕ) (k : ℕ) (m : MediaRule) (head : Range) → slice_get (sheet_of text).media k ≡ Some m
@@ -612,13 +681,10 @@ pub media_holds : (text put : List ℕ) (k : ℕ) (m : MediaRule) (head : Range)
     ≡ moved_media (sheet_of text) k (placed_range (λ place. m.prelude.start + length (spaces_at text m.prelude.start) + place) head)
     (length (spaces_at text m.prelude.start ++ put))
 media_holds text put k m head e sealed no_return spans =
-    let w = media_way text m None 0 (parts top_level (pieces text)) (laid_out text None 0 (pieces text)) (laid_spelled text None 0 (pieces text)) k e in
-    let made = placed_range (λ place. m.prelude.start + length (spaces_at text m.prelude.start) + place) head in
-    media_at text put k m made w.q w.rs w.ms w.xs w.zs w.way w.number
+    media_known text put k m (placed_range (λ place. m.prelude.start + length (spaces_at text m.prelude.start) + place) head) e
     (λ gap behind rest n place open_gap blank at start ends.
     subst (λ (g : ℕ). NewPrelude put gap behind rest n place (placed_range (λ x. g + x) head)) start
     (with_words put gap behind rest n place head sealed no_return spans open_gap blank at))
-    ∙ ap (media_moved_by (sheet_of text) k made (length (spaces_at text m.prelude.start ++ put))) (sym e)
 
 -- where it has none
 pub blank_holds : (text put : List ℕ) (k : ℕ) (m : MediaRule) → slice_get (sheet_of text).media k ≡ Some m
@@ -627,10 +693,7 @@ pub blank_holds : (text put : List ℕ) (k : ℕ) (m : MediaRule) → slice_get 
     ≡ moved_media (sheet_of text) k (range (new_keyword_end text m.prelude.start) (new_keyword_end text m.prelude.start))
     (length (spaces_at text m.prelude.start ++ put))
 blank_holds text put k m e sealed no_return spans =
-    let w = media_way text m None 0 (parts top_level (pieces text)) (laid_out text None 0 (pieces text)) (laid_spelled text None 0 (pieces text)) k e in
-    let end = new_keyword_end text m.prelude.start in
-    media_at text put k m (range end end) w.q w.rs w.ms w.xs w.zs w.way w.number
+    media_known text put k m (range (new_keyword_end text m.prelude.start) (new_keyword_end text m.prelude.start)) e
     (λ gap behind rest n place open_gap blank at start ends.
     subst (λ (x : ℕ). NewPrelude put gap behind rest n place (range x x)) ends
     (without_words put gap behind rest n place sealed no_return spans open_gap blank at))
-    ∙ ap (media_moved_by (sheet_of text) k (range end end) (length (spaces_at text m.prelude.start ++ put))) (sym e)
