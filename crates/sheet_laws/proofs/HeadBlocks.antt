@@ -1,5 +1,5 @@
 -- A block in which what stands before the `{` of one part is exchanged for other pieces: it ends where it did.
-use Rattle.std.proofs.Common.{◌≡◌, ℕ, suc, ◌+◌, ◌≤◌, Bool, true, false, ◌&&◌, List, [], ◌∷◌, ◌++◌, map, length, Option, Some, None}
+use Rattle.std.proofs.Common.{◌≡◌, ℕ, suc, ◌+◌, ◌≤◌, Bool, true, false, ◌&&◌, List, [], ◌∷◌, ◌++◌, map, length, Option}
 use Rattle.std.proofs.Common.{refl, sym, ap, subst, ◌∙◌, append_assoc, length-append, arith}
 use Rattle.std.specs.Prelude.{option_map, option_to_list}
 use Rattle.css_tokens.specs.declared.token.Token.{Token}
@@ -43,8 +43,8 @@ unfolding opens
 ending_quiet front _ rest some none (at_text_end over) = absurd (some over)
 ending_quiet front _ rest some none (at_semicolon t kind) =
     opens_append front (t ∷ []) [] ∙ ap (λ (bs : List Bracket). open_after bs t.kind) none ∙ ap (open_after []) kind
-ending_quiet front _ rest some none (in_block first close within is values closed) =
-    let n = until_is block_end within (close ∷ rest) values (ap (stops_at block_end) closed) in
+ending_quiet front _ rest some none (in_block first close within is vs closed) =
+    let n = until_is block_end within (close ∷ rest) vs (ap (stops_at block_end) closed) in
     let inside : opens (opened []) within ≡ opened [] =
     under within (close ∷ rest) [] [] (omega (arith, n))
     ∙ ap (λ (bs : List Bracket). bs ++ opened []) (values_shut block_end within close rest n) in
@@ -54,7 +54,7 @@ ending_quiet front _ rest some none (in_block first close within is values close
     ∙ opens_append within (close ∷ []) (opened [])
     ∙ ap (λ (bs : List Bracket). open_after bs close.kind) inside
     ∙ ap (open_after (opened [])) closed
-ending_quiet front _ rest some none (in_open_block first within is values over) = absurd (some over)
+ending_quiet front _ rest some none (in_open_block first within is vs over) = absurd (some over)
 
 -- an ending with something behind it has a first piece, or that has one
 first_there : (ending : EndingForm) (rest : List Token) → Follows rest

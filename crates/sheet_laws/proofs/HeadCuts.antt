@@ -3,7 +3,6 @@
 use Rattle.std.proofs.Common.{◌≡◌, ◌⊎◌, inl, inr, ℕ, suc, ◌+◌, ◌-◌, ◌<◌, ◌≤◌, ◌==◌, Bool, true, false, ◌&&◌, List, [], ◌∷◌, ◌++◌, map}
 use Rattle.std.proofs.Common.{length, Option, Some, None, refl, sym, ap, subst, ◌∙◌, append_assoc, length-append, arith}
 use Rattle.std.specs.Prelude.{slice_index}
-use Rattle.std.specs.List.{list_all}
 use Rattle.std.proofs.lemmas.List.{append-nil}
 use Rattle.css_tokens.specs.declared.token.Token.{Token}
 use Rattle.css_tokens.specs.declared.token.TokenKind.{TokenKind}
@@ -20,7 +19,6 @@ use Rattle.sheet_reader.specs.Forms.{RuleForm}
 use Rattle.sheet_reader.specs.Layout.{level_of}
 use Rattle.sheet_reader.specs.Parts.{is_passed}
 use Rattle.sheet_reader.specs.Sealing.{is_sealed}
-use Rattle.sheet_reader.proofs.Behind.{Piece}
 use Rattle.sheet_reader.proofs.Gaps.{AllPassed, Gap, gap_append, gap_whites, LeadIs, skips, passed_top}
 use Rattle.sheet_reader.proofs.LaidMoves.{stays, goes}
 use Rattle.sheet_reader.proofs.MadePreludes.{Placed, placed_at, ends_whole, put_on}
@@ -28,11 +26,11 @@ use Rattle.sheet_reader.proofs.MovedLaw.{white_last, closed_is}
 use Rattle.sheet_reader.proofs.PassedTexts.{PassedForm, a_comment, white, an_opening, a_closing, white_piece, opening_piece, closing_piece}
 use Rattle.sheet_reader.proofs.PassedTexts.{piece_form, comment_closed, comment_piece}
 use Rattle.sheet_reader.proofs.PreludeWords.{trail_words}
-use Rattle.sheet_reader.proofs.PutPieces.{WholeParts, whole_split}
+use Rattle.sheet_reader.proofs.PutPieces.{whole_split}
 use Rattle.sheet_reader.proofs.Raised.{raised}
 use Rattle.sheet_reader.proofs.ReadMoves.{AllTokens}
 use Rattle.sheet_reader.proofs.SealedCuts.{SealedPieces, sealed_pieces, sealed_own, white_is, AllWhite, open_piece, split_at, whole_kept}
-use Rattle.sheet_reader.proofs.SpaceUnits.{ends_return, Facts, Apart}
+use Rattle.sheet_reader.proofs.SpaceUnits.{ends_return, Facts}
 use Rattle.sheet_reader.proofs.SpotEnds.{strip}
 use Rattle.sheet_reader.proofs.Spots.{Spot}
 use Rattle.sheet_reader.proofs.TextMoves.{pieces_from, same_part, whole_tokens, widen}

@@ -1,8 +1,7 @@
 -- The reading of a sheet where the selector list of a rule is replaced by a sealed one is the old reading with its places moved.
-use Rattle.std.proofs.Common.{◌≡◌, ◌⊎◌, inl, inr, ℕ, zero, suc, ◌+◌, ◌-◌, ◌<◌, ◌≤◌, Bool, true, false, List, [], ◌∷◌, ◌++◌, map, take, drop}
+use Rattle.std.proofs.Common.{◌≡◌, ℕ, suc, ◌+◌, Bool, true, false, List, [], ◌∷◌, ◌++◌, map, take, drop}
 use Rattle.std.proofs.Common.{length, Option, Some, None, refl, sym, ap, subst, ◌∙◌, append_assoc, length-append, arith}
 use Rattle.std.specs.Prelude.{option_map, option_to_list, slice_get}
-use Rattle.std.proofs.lemmas.List.{append-nil}
 use Rattle.std.proofs.Math.Seq.{drop-append_seam, take-append_seam}
 use Rattle.css_tokens.specs.declared.token.Range.{Range}
 use Rattle.css_tokens.specs.declared.token.Token.{Token}
@@ -16,29 +15,27 @@ use Rattle.selectors.specs.declared.words.Word.{Word}
 use Rattle.selectors.specs.Words.{word_reading, words_after, words_of}
 use Rattle.selectors.specs.Forms.{SelectorForm, ◌>>=◌}
 use Rattle.selectors.specs.Reading.{range_of, selector_list_of, selectors_of}
-use Rattle.selectors.specs.Moves.{Cut, cut, moved_place, placed_range, placed_selector}
+use Rattle.selectors.specs.Moves.{Cut, moved_place, placed_range, placed_selector}
 use Rattle.sheet_reader.specs.declared.sheet.MediaRule.{MediaRule}
-use Rattle.sheet_reader.specs.declared.sheet.Property.{Property}
-use Rattle.sheet_reader.specs.declared.sheet.Sheet.{Sheet}
 use Rattle.sheet_reader.specs.Brackets.{stops_at, until}
 use Rattle.sheet_reader.specs.Declarations.{declarations}
 use Rattle.sheet_reader.specs.Forms.{range, RuleForm}
 use Rattle.sheet_reader.specs.Grammar.{IsEnding, in_block, in_open_block, IsPart, qualified_part, is_at_keyword, BeginsQualified}
 use Rattle.sheet_reader.specs.Layout.{media_form, media_rule, media_in, Laid, laid, laid_out, level_of, AreLaid, part_laid}
 use Rattle.sheet_reader.specs.Moves.{placed_property, placed_media, placed_rule, replaced}
-use Rattle.sheet_reader.specs.Parts.{EndingForm, block, PartForm, qualified, is_passed, ending_pieces, part_pieces, parts}
+use Rattle.sheet_reader.specs.Parts.{block, PartForm, qualified, is_passed, ending_pieces, part_pieces, parts}
 use Rattle.sheet_reader.specs.Sealing.{is_sealed}
 use Rattle.sheet_reader.specs.Sheets.{body_end, style_rule, rule_of, place_of, rules_in, places_in, sheet_of}
 use Rattle.sheet_reader.proofs.FrameForms.{media_cons}
 use Rattle.sheet_reader.proofs.Gaps.{AllPassed, passed_top, facts_gap}
 use Rattle.sheet_reader.proofs.GrammarForms.{parts_only, parts_spelled}
-use Rattle.sheet_reader.proofs.LaidMoves.{laid_in, laid_again, flat_raised, flat_again, goes, stays, any_moved}
+use Rattle.sheet_reader.proofs.LaidMoves.{laid_in, laid_again, flat_raised, flat_again, stays, any_moved}
 use Rattle.sheet_reader.proofs.LayoutForms.{laid_spelled, laid_only}
 use Rattle.sheet_reader.proofs.OpenForms.{opens, values_shut}
-use Rattle.sheet_reader.proofs.PartMoves.{AreFlat, flat_of, flat_parts, to_list_raised, map_append, map_length}
+use Rattle.sheet_reader.proofs.PartMoves.{AreFlat, flat_of, flat_parts, to_list_raised, map_append}
 use Rattle.sheet_reader.proofs.PutPieces.{inner_solid, solid_begin, no_range}
-use Rattle.sheet_reader.proofs.Raised.{raised, raised_part, raised_laid, raised_ending, flat}
-use Rattle.sheet_reader.proofs.ReadMoves.{AllTokens, tokens_split, declarations_same, end_same, rules_same, media_same, places_same}
+use Rattle.sheet_reader.proofs.Raised.{raised, raised_part, raised_laid, flat}
+use Rattle.sheet_reader.proofs.ReadMoves.{AllTokens, tokens_split, declarations_same, rules_same, media_same, places_same}
 use Rattle.sheet_reader.proofs.ReadMoves.{ending_place_same}
 use Rattle.sheet_reader.proofs.RulePaths.{RulePart, rule_part, Path, here, past_part, past_media, in_media, find}
 use Rattle.sheet_reader.proofs.Spots.{values_at}
@@ -51,7 +48,7 @@ use Rattle.sheet_laws.proofs.HeadPaths.{plain_before, media_before, Way, past, i
 use Rattle.sheet_laws.proofs.HeadCuts.{front_again, brace_at, put_pieces, pieces_there, pieces_in, put_in_both, with_head, behind_brace}
 use Rattle.sheet_laws.proofs.HeadCuts.{head_cut, moves, ends_move, front_stands, end_stands}
 use Rattle.sheet_laws.proofs.HeadTexts.{HeadText, head_text}
-use Rattle.sheet_laws.proofs.HeadPuts.{SolidPut, solid_put, new_head, head_nested, head_ends, HeadRead, head_read}
+use Rattle.sheet_laws.proofs.HeadPuts.{SolidPut, solid_put, new_head, head_nested, head_ends, head_read}
 use Rattle.sheet_laws.proofs.Names.{Level, top_level, block_level, at_block}
 
 -- ---- the rule on its way

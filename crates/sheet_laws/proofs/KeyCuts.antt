@@ -13,7 +13,7 @@ use Rattle.css_tokens.specs.declared.token.Token.{Token}
 use Rattle.css_tokens.specs.declared.token.TokenKind.{TokenKind}
 use Rattle.css_tokens.specs.declared.token.TokenKind.TheVariants as tokens
 use Rattle.css_tokens.specs.Codes.{is_white}
-use Rattle.css_tokens.specs.Escapes.{escape_len, unescaped}
+use Rattle.css_tokens.specs.Escapes.{escape_len}
 use Rattle.css_tokens.specs.Forms.{Units, NameUnit}
 use Rattle.css_tokens.specs.Pieces.{pieces, pieces_after}
 use Rattle.css_tokens.specs.Rows.{piece, first_piece}

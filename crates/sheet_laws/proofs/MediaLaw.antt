@@ -1,17 +1,15 @@
 -- The reading of a sheet where the prelude of a media rule is replaced by a sealed one is the old reading with its places moved.
-use Rattle.std.proofs.Common.{◌≡◌, ◌⊎◌, inl, inr, ℕ, zero, suc, ◌+◌, ◌-◌, ◌<◌, ◌≤◌, Bool, true, false, List, [], ◌∷◌, ◌++◌, map, take, drop}
+use Rattle.std.proofs.Common.{◌≡◌, ℕ, zero, suc, ◌+◌, ◌-◌, ◌<◌, true, false, List, [], ◌∷◌, ◌++◌, map, take, drop}
 use Rattle.std.proofs.Common.{length, Option, Some, None, refl, sym, ap, subst, ◌∙◌, append_assoc, length-append, arith}
 use Rattle.std.specs.Prelude.{option_map, option_to_list, slice_get, codes, fold}
-use Rattle.std.specs.List.{find, list_all}
+use Rattle.std.specs.List.{find}
 use Rattle.std.specs.Char.{to_ascii_lowercase}
 use Rattle.std.specs.Str.{bytes_eq}
-use Rattle.std.proofs.lemmas.List.{append-nil}
 use Rattle.std.proofs.Math.Seq.{drop-append_seam, take-append_seam}
 use Rattle.css_tokens.specs.declared.token.Range.{Range}
 use Rattle.css_tokens.specs.declared.token.Token.{Token}
 use Rattle.css_tokens.specs.declared.token.TokenKind.{TokenKind}
 use Rattle.css_tokens.specs.declared.token.TokenKind.TheVariants as tokens
-use Rattle.css_tokens.specs.Codes.{begins, is_white}
 use Rattle.css_tokens.specs.Escapes.{unescaped}
 use Rattle.css_tokens.specs.Pieces.{pieces, pieces_after}
 use Rattle.css_tokens.specs.Rows.{piece, first_piece}
@@ -20,12 +18,12 @@ use Rattle.css_tokens.proofs.Cuts.{piece_first}
 use Rattle.css_tokens.proofs.SeamPieces.{pieces_at}
 use Rattle.selectors.specs.Words.{words_after, words_of, between}
 use Rattle.selectors.specs.Reading.{range_of}
-use Rattle.selectors.specs.Moves.{Cut, cut, moved_place, placed_range}
+use Rattle.selectors.specs.Moves.{Cut, moved_place, placed_range}
 use Rattle.sheet_reader.specs.declared.sheet.MediaRule.{MediaRule}
 use Rattle.sheet_reader.specs.declared.sheet.Sheet.{Sheet}
 use Rattle.sheet_reader.specs.Brackets.{open_after, stops_at, until}
 use Rattle.sheet_reader.specs.Forms.{range, RuleForm}
-use Rattle.sheet_reader.specs.Grammar.{AreParts, AreNested, plain_and, IsEnding, in_block, in_open_block, IsPart, at_rule_part, is_at_keyword}
+use Rattle.sheet_reader.specs.Grammar.{AreParts, plain_and, IsEnding, in_block, in_open_block, IsPart, at_rule_part, is_at_keyword}
 use Rattle.sheet_reader.specs.Layout.{names_media, MediaForm, media_form, media_rule, prelude_range, media_in, Laid, laid, laid_out, level_of}
 use Rattle.sheet_reader.specs.Layout.{AreLaid, none_laid, part_laid, media_laid}
 use Rattle.sheet_reader.specs.Moves.{placed_media, placed_rule, replaced}
@@ -37,7 +35,7 @@ use Rattle.sheet_reader.proofs.FrameForms.{media_append, media_cons}
 use Rattle.sheet_reader.proofs.Gaps.{Gap}
 use Rattle.sheet_reader.proofs.GrammarForms.{parts_only, parts_spelled}
 use Rattle.sheet_reader.proofs.KeyNames.{SaysMedia, KeyName}
-use Rattle.sheet_reader.proofs.LaidMoves.{laid_in, laid_in_append, laid_again, parts_again, flat_raised, flat_again, goes, stays, any_moved}
+use Rattle.sheet_reader.proofs.LaidMoves.{laid_in, laid_in_append, laid_again, parts_again, flat_raised, flat_again, stays, any_moved}
 use Rattle.sheet_reader.proofs.LayoutForms.{laid_spelled, laid_only}
 use Rattle.sheet_reader.proofs.NewMedia.{spaces_for}
 use Rattle.sheet_reader.proofs.OpenForms.{opens, values_shut}
@@ -48,13 +46,13 @@ use Rattle.sheet_reader.proofs.RulePaths.{Side, on_left, on_right, side}
 use Rattle.sheet_reader.proofs.SpotPaths.{opens_media, names_media_is}
 use Rattle.sheet_reader.proofs.Spots.{values_at, media_named}
 use Rattle.sheet_reader.proofs.TextMoves.{whole_tokens, widen}
-use Rattle.sheet_reader.proofs.UsableForms.{MediaIs, media_is, no_rule}
+use Rattle.sheet_reader.proofs.UsableForms.{media_is, no_rule}
 use Rattle.sheet_reader.proofs.ValueForms.{until_is}
 use Rattle.sheet_reader.proofs.WordMoves.{SamePart}
 use Rattle.sheet_laws.specs.Heads.{ends_in_return, range_cut, changed_at, repreluded, moved_media, media_moved_by}
 use Rattle.sheet_laws.proofs.HeadPaths as paths
 use Rattle.sheet_laws.proofs.HeadPaths.{plain_before, media_before, Way, past, into, Exchanged, SpotAt, way_flat, spot_at, exchange}
-use Rattle.sheet_laws.proofs.HeadCuts.{front_again, brace_at, put_pieces, pieces_there, pieces_in, put_in_both, with_head, behind_brace}
+use Rattle.sheet_laws.proofs.HeadCuts.{front_again, brace_at, pieces_there, pieces_in, put_in_both, with_head, behind_brace}
 use Rattle.sheet_laws.proofs.HeadCuts.{head_cut, moves, ends_move, front_stands, end_stands}
 use Rattle.sheet_laws.proofs.HeadLaw.{changed_append, replaced_at}
 use Rattle.sheet_laws.specs.Keywords.{last_end, keyword_end, new_keyword_end}

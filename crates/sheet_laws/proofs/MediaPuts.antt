@@ -1,5 +1,5 @@
 -- A sealed text with no `{` or `;` outside brackets, behind the keyword of a media rule: the pieces that it is as a prelude.
-use Rattle.std.proofs.Common.{◌≡◌, ◌⊎◌, inl, inr, ℕ, suc, ◌+◌, ◌-◌, ◌<◌, ◌≤◌, Bool, true, false, List, [], ◌∷◌, ◌++◌, map, length, Option, Some}
+use Rattle.std.proofs.Common.{◌≡◌, ◌⊎◌, inl, inr, ℕ, suc, ◌+◌, ◌-◌, ◌≤◌, Bool, true, false, List, [], ◌∷◌, ◌++◌, map, length, Option, Some}
 use Rattle.std.proofs.Common.{None, refl, sym, ap, subst, ◌∙◌, append_assoc, length-append, arith}
 use Rattle.std.specs.Prelude.{option_map, slice_get}
 use Rattle.std.proofs.lemmas.List.{append-nil}
@@ -31,8 +31,8 @@ use Rattle.sheet_reader.proofs.OpenForms.{passes}
 use Rattle.sheet_reader.proofs.PartMoves.{map_length}
 use Rattle.sheet_reader.proofs.PreludeWords.{lead_words, trail_words, first_word, range_some, passed_nested, nested_append, passed_nesting, until_front}
 use Rattle.sheet_reader.proofs.PutPieces.{whole_split, solid_begin, LeadSolid, split_lead, no_range, passed_words}
-use Rattle.sheet_reader.proofs.Raised.{raised, raised_word}
-use Rattle.sheet_reader.proofs.ReadMoves.{AllTokens, tokens_split, words_same, words_in, nesting_raised}
+use Rattle.sheet_reader.proofs.Raised.{raised}
+use Rattle.sheet_reader.proofs.ReadMoves.{AllTokens, tokens_split, words_same, nesting_raised}
 use Rattle.sheet_reader.proofs.SealedCuts.{AllWhite}
 use Rattle.sheet_reader.proofs.SpaceUnits.{Facts, both}
 use Rattle.sheet_reader.proofs.WordMoves.{SamePart, range_same}

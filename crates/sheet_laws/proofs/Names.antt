@@ -1,10 +1,10 @@
 -- Types of `sheet_reader` that have no name outside it, and their values.
-use Rattle.std.specs.Prelude.{◌≡◌, ℕ, List, [], ◌∷◌, Option, Some, None}
+use Rattle.std.specs.Prelude.{◌≡◌, List, [], ◌∷◌, Some, None}
 use Rattle.std.proofs.Common.{refl}
 use Rattle.css_tokens.specs.declared.token.Token.{Token}
 use Rattle.css_tokens.specs.declared.token.TokenKind.{TokenKind}
 use Rattle.css_tokens.specs.declared.token.TokenKind.TheVariants.{AtKeyword, Ident, OpenCurly, CloseCurly}
-use Rattle.sheet_reader.specs.Brackets.{is_same, open_after, stops_at, nesting_of}
+use Rattle.sheet_reader.specs.Brackets.{is_same, open_after, stops_at}
 use Rattle.sheet_reader.specs.Grammar.{Place, outside, inside, AreValues, no_values, piece_and, IsEnding, at_text_end, in_block, IsRule}
 use Rattle.sheet_reader.specs.Grammar.{IsPart, at_rule_part, qualified_part}
 use Rattle.sheet_reader.specs.Layout.{level_of}

@@ -1,33 +1,24 @@
 //! The laws, each the contract of a function that does nothing.
 
 ghost use Rattle.std.specs.Prelude.{◌≡◌, ◌⊎◌, ℕ, ◌+◌, false, true, List, ◌∷◌, ◌++◌, length, slice_index, Contains, Option, Some, None};
-ghost use Rattle.std.specs.Prelude.{slice_get};
-ghost use Rattle.css_tokens.specs.declared.token.Range.{Range};
 ghost use Rattle.css_tokens.specs.declared.token.Token.{Token};
 ghost use Rattle.css_tokens.specs.declared.token.TokenKind.TheVariants.{Ident};
 ghost use Rattle.css_tokens.specs.Pieces.{pieces};
 ghost use Rattle.css_tokens.specs.Rows.{mark_kind};
 ghost use Rattle.css_tokens.specs.Table.{Cuts};
 ghost use Rattle.selectors.specs.Forms.{SelectorForm};
-ghost use Rattle.selectors.specs.Words.{word_reading, words_after, words_of};
+ghost use Rattle.selectors.specs.Words.{word_reading, words_after};
 ghost use Rattle.selectors.specs.Grammar.{IsSelectorList};
-ghost use Rattle.selectors.specs.Moves.{placed_range};
-ghost use Rattle.selectors.specs.Reading.{range_of, selector_list_of, selectors_of};
-ghost use Rattle.sheet_reader.specs.declared.sheet.MediaRule.{MediaRule};
+ghost use Rattle.selectors.specs.Reading.{selector_list_of};
 ghost use Rattle.sheet_reader.specs.declared.sheet.Property.{Property};
 ghost use Rattle.sheet_reader.specs.declared.sheet.Sheet.{Sheet};
 ghost use Rattle.sheet_reader.specs.Forms.{range, RuleForm};
 ghost use Rattle.sheet_reader.specs.Layout.{level_of};
 ghost use Rattle.sheet_reader.specs.Parts.{EndingForm, block, PartForm, qualified, parts};
 ghost use Rattle.sheet_reader.specs.Declarations.{declaration_of, declarations, is_custom, style_of};
-ghost use Rattle.sheet_reader.specs.Moves.{replaced};
-ghost use Rattle.sheet_reader.specs.Preludes.{spaces_at};
-ghost use Rattle.sheet_reader.specs.Sealing.{is_sealed, is_sealed_prelude};
 ghost use Rattle.sheet_reader.specs.Sheets.{rule_of, sheet_of};
 ghost use Rattle.sheet_reader.specs.Solids.{AreBlank, StandBetween, is_character_kind};
 ghost use Rattle.sheet_reader.specs.SelectorLists.{AreSelectorList};
-ghost use Rattle.sheet_laws.specs.Heads.{starts_solid, ends_in_return, moved_head, moved_media};
-ghost use Rattle.sheet_laws.specs.Keywords.{new_keyword_end};
 ghost use Rattle.sheet_laws.specs.Values.{AreDeclarations, EndsImportant, IsDeclaration};
 ghost use Rattle.sheet_laws.specs.Places.{AscendFrom, IsBetweenParts};
 ghost use Rattle.sheet_laws.specs.Readings.{HasPrelude, IsReading, IsStyle, IsStyleRule};
@@ -96,30 +87,4 @@ pub fn reading_law()
         → rule_of text around p ≡ Some r }
     ensures sheet { (text : List ℕ) → IsReading text (sheet_of text) }
     ensures sheet_only { (text : List ℕ) (s : Sheet) → IsReading text s → s ≡ sheet_of text }
-{}
-
-/// Where the selector list of a rule is replaced by a sealed text that is one, begins with neither white space nor a comment and does
-/// not end in a CR, the reading of the new text is the old reading with its places moved, and with the selectors of the new text in
-/// that rule. So it is for a last rule that has no `}` too, and inside media rules.
-pub fn head_law()
-    ensures { (text put : List ℕ) (k : ℕ) (r : RuleForm) (head : Range) (ss : List SelectorForm)
-        → slice_get (sheet_of text).rules k ≡ Some r → is_sealed put ≡ true → starts_solid put ≡ true → ends_in_return put ≡ false
-        → range_of (words_of put) ≡ Some head → selectors_of put ≡ Some ss
-        → sheet_of (replaced text r.prelude put) ≡ moved_head (sheet_of text) k head ss (length put) }
-{}
-
-/// Where the prelude of a media rule is replaced by a sealed text with no `{` or `;` outside brackets that does not end in a CR, behind
-/// the spaces that it needs behind a keyword, the reading of the new text is the old reading with its places moved, and with the new
-/// prelude: the range of its words, or where it has none the empty one behind the keyword.
-pub fn media_head_law()
-    ensures words { (text put : List ℕ) (k : ℕ) (m : MediaRule) (head : Range) → slice_get (sheet_of text).media k ≡ Some m
-        → is_sealed_prelude put ≡ true → ends_in_return put ≡ false → range_of (words_of put) ≡ Some head
-        → sheet_of (replaced text m.prelude (spaces_at text m.prelude.start ++ put))
-        ≡ moved_media (sheet_of text) k (placed_range (λ place. m.prelude.start + length (spaces_at text m.prelude.start) + place) head)
-        (length (spaces_at text m.prelude.start ++ put)) }
-    ensures no_words { (text put : List ℕ) (k : ℕ) (m : MediaRule) → slice_get (sheet_of text).media k ≡ Some m
-        → is_sealed_prelude put ≡ true → ends_in_return put ≡ false → range_of (words_of put) ≡ None
-        → sheet_of (replaced text m.prelude (spaces_at text m.prelude.start ++ put))
-        ≡ moved_media (sheet_of text) k (range (new_keyword_end text m.prelude.start) (new_keyword_end text m.prelude.start))
-        (length (spaces_at text m.prelude.start ++ put)) }
 {}

@@ -11,4 +11,4 @@
 
 mod laws;
 
-pub use laws::{cut_law, declaration_law, head_law, media_head_law, place_law, prelude_law, reading_law};
+pub use laws::{cut_law, declaration_law, place_law, prelude_law, reading_law};
