@@ -6,3 +6,4 @@ pub mod SaidLists
 pub mod BodyCuts
 pub mod PlaceCuts
 pub mod SheetCuts
+pub mod FrontCuts

@@ -2,3 +2,4 @@ pub mod Said
 pub mod Values
 pub mod Readings
 pub mod Places
+pub mod Inserted

@@ -9,6 +9,8 @@
 //! words are in specs/: solid pieces, values, places and readings.
 #![tactic(auto)]
 
+mod insertion;
 mod laws;
 
+pub use insertion::inserted_law;
 pub use laws::{cut_law, declaration_law, place_law, prelude_law, reading_law};
