@@ -13,8 +13,6 @@ use Rattle.css_tokens.specs.Rows.{piece, first_piece}
 use Rattle.css_tokens.specs.Seams.{IsWholeBefore, no_more, piece_and}
 use Rattle.css_tokens.proofs.SeamPieces.{pieces_at}
 use Rattle.css_tokens.proofs.TableForms.{first_fits}
-use Rattle.sheet_reader.specs.declared.parts.Level.{Level}
-use Rattle.sheet_reader.specs.declared.parts.Level.TheVariants.{Top}
 use Rattle.sheet_reader.specs.Grammar.{outside, IsEnding, at_text_end, at_semicolon, in_block, in_open_block, IsRule, IsPart}
 use Rattle.sheet_reader.specs.Grammar.{passed_part, at_rule_part, qualified_part}
 use Rattle.sheet_reader.specs.Layout.{level_of}
@@ -30,7 +28,7 @@ use Rattle.sheet_reader.proofs.PassedTexts.{PassedForm, a_comment, white, an_ope
 use Rattle.sheet_reader.proofs.PassedTexts.{comment_piece, white_piece, opening_piece, closing_piece}
 use Rattle.sheet_reader.proofs.Raised.{raised, flat}
 use Rattle.sheet_reader.proofs.SealedCuts.{first_of, close_first, close_piece, one_more}
-use Rattle.sheet_reader.proofs.TextMoves.{pieces_from, code_front, code_back}
+use Rattle.sheet_reader.proofs.TextMoves.{pieces_from, same_part}
 use Rattle.sheet_laws.specs.Places.{IsWholeEnding, whole_semicolon, whole_block, is_comment_kind, EndsComment, IsWholePart, whole_passed}
 use Rattle.sheet_laws.specs.Places.{whole_comment, whole_at_rule, whole_qualified, IsPlaceBehind, IsBetweenParts}
 use Rattle.sheet_laws.proofs.PlaceCuts.{places_between, stand_last}
@@ -60,7 +58,7 @@ ending_ended _ rest some (in_block first close within e vs closed) = whole_block
 ending_ended _ rest some (in_open_block first within e vs none) = absurd (some none)
 
 -- a part with something behind it
-pub rest_ended : (level : Level) (p : PartForm) (rest : List Token) → (rest ≡ [] → ⊥) → IsPart level p rest → IsEnded p
+pub rest_ended : (level : _) (p : PartForm) (rest : List Token) → (rest ≡ [] → ⊥) → IsPart level p rest → IsEnded p
 rest_ended level _ rest some (passed_part t e) = tt
 rest_ended level _ rest some (at_rule_part keyword prelude ending e r) = ending_ended ending rest some r.ends
 rest_ended level _ rest some (qualified_part prelude ending begins r) = ending_ended ending rest some r.ends
@@ -87,7 +85,7 @@ ended_rule stop prelude _ rest other (whole_block first close within) r = record
         (values_rest _ within (close ∷ rest) (close ∷ other) (cons_follows close rest) own) closed
 
 -- it is a part whatever stands behind it
-pub ended_rest : (level : Level) (p : PartForm) (rest other : List Token) → IsEnded p → IsPart level p rest → IsPart level p other
+pub ended_rest : (level : _) (p : PartForm) (rest other : List Token) → IsEnded p → IsPart level p rest → IsPart level p other
 ended_rest level _ rest other ended (passed_part t e) = passed_part t e
 ended_rest level _ rest other ended (at_rule_part keyword prelude ending e r) =
     at_rule_part keyword prelude ending e (ended_rule _ prelude ending rest other ended r)
@@ -95,13 +93,13 @@ ended_rest level _ rest other ended (qualified_part prelude ending begins r) =
     qualified_part prelude ending begins (ended_rule _ prelude ending rest other ended r)
 
 -- parts have pieces
-pub some_behind : (level : Level) (before : List PartForm) (p : PartForm) (behind : List PartForm) → AreFlat level (before ++ p ∷ behind)
+pub some_behind : (level : _) (before : List PartForm) (p : PartForm) (behind : List PartForm) → AreFlat level (before ++ p ∷ behind)
     → flat (before ++ p ∷ behind) ≡ [] → ⊥
 some_behind level [] p behind all = some_piece level p (flat behind) (flat behind) all.0
 some_behind level (y ∷ before) p behind all = some_piece level y (flat (before ++ p ∷ behind)) (flat (before ++ p ∷ behind)) all.0
 
 -- parts up to one that is ended, without what stands behind
-front_flat : (level : Level) (before : List PartForm) (p : PartForm) (behind : List PartForm) → IsEnded p
+front_flat : (level : _) (before : List PartForm) (p : PartForm) (behind : List PartForm) → IsEnded p
     → AreFlat level (before ++ p ∷ behind) → AreFlat level (before ++ p ∷ []) × AreEnded (before ++ p ∷ [])
 front_flat level [] p behind ended all = ((ended_rest level p (flat behind) [] ended all.0, tt), (ended, tt))
 front_flat level (x ∷ before) p behind ended all =
@@ -110,7 +108,7 @@ front_flat level (x ∷ before) p behind ended all =
     ((ended_rest level x (flat (before ++ p ∷ behind)) (flat (before ++ p ∷ [])) own all.0, more.0), (own, more.1))
 
 -- ended parts, and others behind them
-pub ended_join : (level : Level) (ps qs : List PartForm) → AreEnded ps → AreFlat level ps → AreFlat level qs → AreFlat level (ps ++ qs)
+pub ended_join : (level : _) (ps qs : List PartForm) → AreEnded ps → AreFlat level ps → AreFlat level qs → AreFlat level (ps ++ qs)
 ended_join level [] qs ended all others = others
 ended_join level (p ∷ ps) qs ended all others =
     (ended_rest level p (flat ps) (flat (ps ++ qs)) ended.0 all.0, ended_join level ps qs ended.1 all.1 others)
@@ -166,8 +164,11 @@ comment_marks text front own after t is start end e =
     let long : 4 ≤ length own = omega (arith, e.long, start, end) in
     let two : length front + (length own - 2) ≡ t.end - 2 = omega (arith, long, end) in
     let one : length front + (length own - 1) ≡ t.end - 1 = omega (arith, long, end) in
+    let same = same_part front own after [] [] (λ (x : ℕ). x - length front) (λ x fits. omega arith) in
     let at : (i j : ℕ) → length front + i ≡ j → i < length own → slice_index own i ≡ slice_index text j = λ i j sum less.
-    sym (code_back own after i less) ∙ sym (code_front front (own ++ after) i) ∙ (λ k. slice_index (sym is k) (sum k)) in
+    let back : j - length front ≡ i = omega (arith, sum) in
+    (λ k. slice_index (sym (append-nil own) k) (sym back k))
+    ∙ sym (same.code j (omega (arith, sum)) (omega (arith, sum, less))) ∙ ap (λ (x : List ℕ). slice_index x j) (sym is) in
     (
       long,
       at (length own - 2) (t.end - 2) two (omega (arith, long)) ∙ e.star,
@@ -264,7 +265,7 @@ cut_rule text us front ending more whole ends cuts =
     ∙ sym (append_assoc us front (ending_pieces ending ++ more))))
 
 -- one more part: the last one is whole
-pub cut_part : (text : List ℕ) (us : List Token) (p : PartForm) (more : List Token) → IsPart Top p more → IsEnded p
+pub cut_part : (text : List ℕ) (us : List Token) (p : PartForm) (more : List Token) → IsPart (level_of None) p more → IsEnded p
     → (more ≡ [] → IsWholePart text p) → pieces text ≡ us ++ (part_pieces p ++ more) → FrontCut text us (part_pieces p ++ more)
     → FrontCut text (us ++ part_pieces p) more
 cut_part text us _ more (passed_part t e) ended last cuts c = cut_passed text us t more c e last
@@ -275,15 +276,15 @@ cut_part text us _ more (qualified_part prelude ending begins r) ended last cuts
 
 -- parts one after the other, up to a whole one
 cut_parts : (text : List ℕ) (us : List Token) (before : List PartForm) (p : PartForm) (behind : List PartForm)
-    → AreFlat Top (before ++ p ∷ behind) → IsWholePart text p → pieces text ≡ us ++ flat (before ++ p ∷ behind)
+    → AreFlat (level_of None) (before ++ p ∷ behind) → IsWholePart text p → pieces text ≡ us ++ flat (before ++ p ∷ behind)
     → FrontCut text us (flat (before ++ p ∷ behind)) → FrontCut text (us ++ flat (before ++ p ∷ [])) (flat behind)
 cut_parts text us [] p behind all whole cuts c =
     subst (λ (ts : List Token). FrontCut text (us ++ ts) (flat behind)) (sym (append-nil (part_pieces p)))
     (cut_part text us p (flat behind) all.0 (whole_ended text p whole) (λ none. whole) cuts c)
 cut_parts text us (x ∷ before) p behind all whole cuts c =
     let rest = flat (before ++ p ∷ behind) in
-    let some = some_behind Top before p behind all.1 in
-    let next = cut_part text us x rest all.0 (rest_ended Top x rest some all.0) (λ none. absurd (some none)) cuts c in
+    let some = some_behind (level_of None) before p behind all.1 in
+    let next = cut_part text us x rest all.0 (rest_ended (level_of None) x rest some all.0) (λ none. absurd (some none)) cuts c in
     subst (λ (ts : List Token). FrontCut text ts (flat behind)) (append_assoc us (part_pieces x) (flat (before ++ p ∷ [])))
     (cut_parts text (us ++ part_pieces x) before p behind all.1 whole
     (cuts ∙ sym (append_assoc us (part_pieces x) rest)) next)
@@ -296,7 +297,7 @@ pub record FrontAt (text : List ℕ) (place : ℕ) : Type 0 where
   pub is : text ≡ front ++ after
   pub size : length front ≡ place
   pub ps : List PartForm
-  pub are : AreFlat Top ps
+  pub are : AreFlat (level_of None) ps
   pub ended : AreEnded ps
   pub whole : (other : List ℕ) → (begins is_white after ≡ false → begins is_white other ≡ false) → IsWholeBefore other 0 front (flat ps)
 
@@ -314,12 +315,12 @@ front_behind : (text : List ℕ) (place : ℕ) → IsBetweenParts text (parts (l
 unfolding pieces_after
 front_behind text place b =
     let ps = b.before ++ b.part ∷ [] in
-    let both = flat_of Top (parts Top (pieces text)) (pieces text) (parts_spelled Top (pieces text)) in
-    let all : AreFlat Top (b.before ++ b.part ∷ b.behind) = subst (AreFlat Top) b.is both.1 in
+    let both = flat_of (level_of None) (parts (level_of None) (pieces text)) (pieces text) (parts_spelled (level_of None) (pieces text)) in
+    let all : AreFlat (level_of None) (b.before ++ b.part ∷ b.behind) = subst (AreFlat (level_of None)) b.is both.1 in
     let cuts : pieces text ≡ flat (b.before ++ b.part ∷ b.behind) = both.0 ∙ ap flat b.is in
     let c = cut_parts text [] b.before b.part b.behind all b.ends.whole cuts
     (record { front = []; after = text; is = refl; left = sym cuts; whole = λ other apart. no_more }) in
-    let own = front_flat Top b.before b.part b.behind (whole_ended text b.part b.ends.whole) all in
+    let own = front_flat (level_of None) b.before b.part b.behind (whole_ended text b.part b.ends.whole) all in
     let last : flat ps ≡ (flat b.before ++ b.ends.front) ++ b.ends.last ∷ [] =
     flat_append b.before (b.part ∷ [])
     ∙ ap (λ (ts : List Token). flat b.before ++ ts) (append-nil (part_pieces b.part) ∙ b.ends.is)
@@ -359,9 +360,9 @@ unfolding pieces_after
 front_pieces text place f =
     sym (ap pieces (append-nil f.front)) ∙ pieces_at [] f.front (flat f.ps) (f.whole [] (λ e. refl)) ∙ append-nil (flat f.ps)
 
-pub front_parts : (text : List ℕ) (place : ℕ) (f : FrontAt text place) → f.ps ≡ parts Top (pieces f.front)
+pub front_parts : (text : List ℕ) (place : ℕ) (f : FrontAt text place) → f.ps ≡ parts (level_of None) (pieces f.front)
 front_parts text place f =
-    parts_only Top f.ps (flat f.ps) (flat_parts Top f.ps f.are) ∙ ap (parts Top) (sym (front_pieces text place f))
+    parts_only (level_of None) f.ps (flat f.ps) (flat_parts (level_of None) f.ps f.are) ∙ ap (parts (level_of None)) (sym (front_pieces text place f))
 
 -- what begins with no white space, or stood there before, is cut behind it as it is cut alone
 pub front_moves : (text : List ℕ) (place : ℕ) (f : FrontAt text place) (other : List ℕ)
