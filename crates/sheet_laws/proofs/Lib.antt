@@ -7,3 +7,8 @@ pub mod BodyCuts
 pub mod PlaceCuts
 pub mod SheetCuts
 pub mod FrontCuts
+pub mod FrontJoins
+pub mod InsertedLists
+pub mod HeadBounds
+pub mod OneRules
+pub mod InsertedLaw

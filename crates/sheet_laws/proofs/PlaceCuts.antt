@@ -262,7 +262,7 @@ closed_rule_place text prelude inside brace close within =
 
 -- ---- that they ascend
 
-stand_order : (from to : ℕ) (ts : List Token) → StandBetween from to ts → from ≤ to
+pub stand_order : (from to : ℕ) (ts : List Token) → StandBetween from to ts → from ≤ to
 stand_order from to [] all = omega (arith, all)
 stand_order from to (t ∷ ts) all = let more = stand_order t.end to ts all.2 in omega (arith, all.0, all.1, more)
 
