@@ -1,5 +1,5 @@
 -- What a text says that is one rule.
-use Rattle.std.proofs.Common.{◌≡◌, ℕ, ◌+◌, Bool, true, false, List, [], ◌∷◌, ◌++◌, map, length, Option, Some, None, refl, sym, ap, subst}
+use Rattle.std.proofs.Common.{◌≡◌, ℕ, ◌+◌, ◌<◌, Bool, true, false, List, [], ◌∷◌, ◌++◌, map, length, Option, Some, None, refl, sym, ap, subst}
 use Rattle.std.proofs.Common.{◌∙◌, append_assoc, append-nil, arith}
 use Rattle.std.specs.Prelude.{option_map, option_to_list}
 use Rattle.css_tokens.specs.declared.token.Token.{Token}
