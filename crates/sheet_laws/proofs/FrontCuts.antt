@@ -1,6 +1,6 @@
 -- The text up to a place of its sheet: it ends in a whole part, and a text that begins with no white space is cut behind it as it is
 -- cut alone.
-use Rattle.std.proofs.Common.{◌≡◌, ◌⊎◌, inl, inr, ℕ, zero, suc, ◌+◌, ◌-◌, ◌<◌, ◌≤◌, Bool, true, false, List, [], ◌∷◌, ◌++◌, map, length}
+use Rattle.std.proofs.Common.{◌≡◌, ◌⊎◌, inl, inr, ℕ, ◌+◌, ◌-◌, ◌<◌, ◌≤◌, true, false, List, [], ◌∷◌, ◌++◌, map, length}
 use Rattle.std.proofs.Common.{take, drop, Contains, Some, None, refl, sym, ap, subst, ◌∙◌, append_assoc, append-nil, length-append, arith}
 use Rattle.std.specs.Prelude.{slice_index}
 use Rattle.std.proofs.lemmas.List.{take-append-drop, length-take-le}
@@ -16,7 +16,7 @@ use Rattle.css_tokens.proofs.TableForms.{first_fits}
 use Rattle.sheet_reader.specs.Grammar.{outside, IsEnding, at_text_end, at_semicolon, in_block, in_open_block, IsRule, IsPart}
 use Rattle.sheet_reader.specs.Grammar.{passed_part, at_rule_part, qualified_part}
 use Rattle.sheet_reader.specs.Layout.{level_of}
-use Rattle.sheet_reader.specs.Parts.{EndingForm, text_end, semicolon, block, PartForm, passed, at_rule, qualified, ending_pieces}
+use Rattle.sheet_reader.specs.Parts.{EndingForm, semicolon, block, PartForm, passed, at_rule, qualified, ending_pieces}
 use Rattle.sheet_reader.specs.Parts.{part_pieces, parts}
 use Rattle.sheet_reader.specs.Sheets.{sheet_of}
 use Rattle.sheet_reader.specs.Solids.{StandBetween}
@@ -30,7 +30,7 @@ use Rattle.sheet_reader.proofs.Raised.{raised, flat}
 use Rattle.sheet_reader.proofs.SealedCuts.{first_of, close_first, close_piece, one_more}
 use Rattle.sheet_reader.proofs.TextMoves.{pieces_from, same_part}
 use Rattle.sheet_laws.specs.Places.{IsWholeEnding, whole_semicolon, whole_block, is_comment_kind, EndsComment, IsWholePart, whole_passed}
-use Rattle.sheet_laws.specs.Places.{whole_comment, whole_at_rule, whole_qualified, IsPlaceBehind, IsBetweenParts}
+use Rattle.sheet_laws.specs.Places.{whole_comment, whole_at_rule, whole_qualified, IsBetweenParts}
 use Rattle.sheet_laws.proofs.PlaceCuts.{places_between, stand_last}
 
 -- ---- parts behind which something may stand

@@ -6,7 +6,6 @@ use Rattle.css_tokens.specs.Codes.{is_white, begins}
 use Rattle.css_tokens.specs.Pieces.{pieces}
 use Rattle.css_tokens.specs.Seams.{IsWholeBefore}
 use Rattle.css_tokens.proofs.SeamPieces.{pieces_at}
-use Rattle.sheet_reader.specs.Forms.{RuleForm}
 use Rattle.sheet_reader.specs.Grammar.{IsShutEnding, IsShut, AreShut}
 use Rattle.sheet_reader.specs.Joins.{behind_rule, behind_media, joined}
 use Rattle.sheet_reader.specs.Layout.{level_of, media_in, Laid, laid_out, AreLaid}

@@ -1,5 +1,5 @@
 -- The preludes of the rules and media rules of a text start before its end.
-use Rattle.std.proofs.Common.{◌≡◌, ℕ, zero, suc, ◌+◌, ◌<◌, ◌≤◌, false, List, [], ◌∷◌, ◌++◌, length, Contains, Option, Some, None, refl, sym, ap}
+use Rattle.std.proofs.Common.{◌≡◌, ℕ, suc, ◌+◌, ◌<◌, ◌≤◌, false, List, [], ◌∷◌, ◌++◌, length, Contains, Option, Some, None, refl, sym, ap}
 use Rattle.std.proofs.Common.{subst, append_assoc, append-nil, arith}
 use Rattle.std.specs.List.{AllByRecursion}
 use Rattle.std.specs.Prelude.{option_to_list}
@@ -11,7 +11,7 @@ use Rattle.selectors.specs.Reading.{range_of}
 use Rattle.sheet_reader.specs.declared.sheet.MediaRule.{MediaRule}
 use Rattle.sheet_reader.specs.Forms.{RuleForm}
 use Rattle.sheet_reader.specs.Grammar.{AreParts}
-use Rattle.sheet_reader.specs.Layout.{level_of, MediaForm, media_form, media_rule, media_in, prelude_range, Laid, laid, laid_out, AreLaid}
+use Rattle.sheet_reader.specs.Layout.{level_of, MediaForm, media_rule, media_in, prelude_range, Laid, laid_out, AreLaid}
 use Rattle.sheet_reader.specs.Layout.{none_laid, part_laid, media_laid}
 use Rattle.sheet_reader.specs.Parts.{PartForm, part_pieces, parts}
 use Rattle.sheet_reader.specs.Sheets.{sheet_of}

@@ -8,7 +8,7 @@ use Rattle.std.proofs.Math.Seq.{drop-append_seam, take-append_seam}
 use Rattle.css_tokens.specs.Codes.{is_white, begins}
 use Rattle.css_tokens.specs.Pieces.{pieces}
 use Rattle.selectors.specs.Forms.{SelectorForm}
-use Rattle.selectors.specs.Moves.{placed_range, placed_selector}
+use Rattle.selectors.specs.Moves.{placed_selector}
 use Rattle.sheet_reader.specs.declared.sheet.MediaRule.{MediaRule}
 use Rattle.sheet_reader.specs.declared.sheet.Property.{Property}
 use Rattle.sheet_reader.specs.declared.sheet.Sheet.{Sheet}

@@ -13,7 +13,7 @@ use Rattle.sheet_reader.specs.Forms.{range, RuleForm}
 use Rattle.sheet_reader.specs.Parts.{EndingForm, text_end, semicolon, block, PartForm, passed, at_rule, qualified, ending_pieces}
 use Rattle.sheet_reader.specs.Parts.{part_pieces, parts}
 use Rattle.sheet_reader.specs.Declarations.{declarations}
-use Rattle.sheet_reader.specs.Layout.{level_of, MediaForm, media_form, media_in, Laid, laid, laid_out, AreLaid, none_laid, part_laid}
+use Rattle.sheet_reader.specs.Layout.{level_of, MediaForm, media_in, Laid, laid_out, AreLaid, none_laid, part_laid}
 use Rattle.sheet_reader.specs.Layout.{media_laid}
 use Rattle.sheet_reader.specs.Grammar.{AreParts}
 use Rattle.sheet_reader.proofs.LayoutForms.{laid_spelled}
