@@ -168,8 +168,7 @@ comment_marks text front own after t is start end e =
     let at : (i j : ℕ) → length front + i ≡ j → i < length own → slice_index own i ≡ slice_index text j = λ i j sum less.
     let back : j - length front ≡ i = omega (arith, sum) in
     (λ k. slice_index (sym (append-nil own) k) (sym back k))
-    ∙ sym (same.code j (omega (arith, sum)) (omega (arith, sum, less))) ∙ ap (λ (x : List ℕ). slice_index x j) (sym is) in
-    (
+    ∙ sym (same.code j (omega (arith, sum)) (omega (arith, sum, less))) ∙ ap (λ (x : List ℕ). slice_index x j) (sym is) in (
       long,
       at (length own - 2) (t.end - 2) two (omega (arith, long)) ∙ e.star,
       at (length own - 1) (t.end - 1) one (omega (arith, long)) ∙ e.slash,
@@ -307,9 +306,12 @@ whole_stand : (after : List ℕ) (place : ℕ) (text : List ℕ) (ts : List Toke
 whole_stand after place _ _ no_more = omega arith
 whole_stand after place text _ (piece_and {ts = more} p front rest is len found whole) =
     let fits = first_fits (text ++ after) 0 p (omega arith) found in
-    let size : place + p.len + length rest ≡ place + length text = omega (arith, len, ap length is, length-append front rest) in
-    (refl, omega (arith, fits.0), subst (λ (n : ℕ). StandBetween (place + p.len) n more) size
-    (whole_stand after (place + p.len) rest more whole))
+    let size : place + p.len + length rest ≡ place + length text = omega (arith, len, ap length is, length-append front rest) in (
+      refl,
+      omega (arith, fits.0),
+      subst (λ (n : ℕ). StandBetween (place + p.len) n more) size
+          (whole_stand after (place + p.len) rest more whole),
+    )
 
 front_behind : (text : List ℕ) (place : ℕ) → IsBetweenParts text (parts (level_of None) (pieces text)) place → FrontAt text place
 unfolding pieces_after
@@ -362,7 +364,8 @@ front_pieces text place f =
 
 pub front_parts : (text : List ℕ) (place : ℕ) (f : FrontAt text place) → f.ps ≡ parts (level_of None) (pieces f.front)
 front_parts text place f =
-    parts_only (level_of None) f.ps (flat f.ps) (flat_parts (level_of None) f.ps f.are) ∙ ap (parts (level_of None)) (sym (front_pieces text place f))
+    parts_only (level_of None) f.ps (flat f.ps) (flat_parts (level_of None) f.ps f.are)
+    ∙ ap (parts (level_of None)) (sym (front_pieces text place f))
 
 -- what begins with no white space, or stood there before, is cut behind it as it is cut alone
 pub front_moves : (text : List ℕ) (place : ℕ) (f : FrontAt text place) (other : List ℕ)

@@ -101,8 +101,7 @@ all_before text around k _ _ (media_laid p m inner ps inside ls e is_inner own o
     let whole = subst (StandsIn text) are.1 stands in
     let head = left_stands text (part_pieces p) are.0 whole in
     let Before = λ (m : MediaRule). m.prelude.start < length text in
-    subst (AllByRecursion Before) (sym (media_cons text around p (inside ++ ls) (Some m) e))
-    (
+    subst (AllByRecursion Before) (sym (media_cons text around p (inside ++ ls) (Some m) e)) (
       media_before text around p m form head,
       subst (AllByRecursion Before) (sym (media_append text inside ls))
           (all_append Before (media_in text inside) (media_in text ls)

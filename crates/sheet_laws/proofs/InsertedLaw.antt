@@ -1,6 +1,6 @@
 -- A rule put in at a place of a sheet: the reading of the new text is the old one, and the rule's in it.
-use Rattle.std.proofs.Common.{◌≡◌, ℕ, ◌+◌, ◌<◌, ◌≤◌, true, false, List, [], ◌∷◌, ◌++◌, map, length, take, drop, Contains, Option, Some, None}
-use Rattle.std.proofs.Common.{refl, sym, ap, subst, ◌∙◌, arith}
+use Rattle.std.proofs.Common.{◌≡◌, ℕ, ◌+◌, ◌<◌, ◌≤◌, true, false, List, [], ◌∷◌, ◌++◌, map, length, take, drop, Contains, Option, Some}
+use Rattle.std.proofs.Common.{None, refl, sym, ap, subst, ◌∙◌, arith}
 use Rattle.std.specs.List.{AllByRecursion}
 use Rattle.std.specs.Prelude.{nat_lt, nat_le, option_map}
 use Rattle.std.proofs.lemmas.Bool.Decides.{nat_tests}
@@ -139,7 +139,8 @@ module _ (x n : ℕ) (s own t : Sheet) (before : IsBefore x s) where
       ∙ put_rules no_around in
       let media = (λ i. s.media ++ map (behind_media x (length s.media)) (no_media i ++ map (behind_media n (count i)) t.media))
       ∙ put_media in
-      let places = ap (λ (ns : List ℕ). s.places ++ map (λ place. x + place) (drop 1 (ns ++ map (λ place. n + place) (drop 1 t.places)))) ends
+      let others = map (λ (place : ℕ). n + place) (drop 1 t.places) in
+      let places = ap (λ (ns : List ℕ). s.places ++ map (λ place. x + place) (drop 1 (ns ++ others))) ends
       ∙ put_places (drop 1 t.places) some in
       λ i. record { rules = rules i; places = places i; media = media i }
 

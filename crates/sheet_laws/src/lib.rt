@@ -3,10 +3,11 @@
 //!
 //! Promise, and way in, are the five laws of src/laws.rt: `cut_law` (one way to cut a text by the table), `prelude_law` (where a
 //! prelude is a selector list), `declaration_law` (what a declaration is, with its `!important`), `place_law` (the places for a
-//! rule) and `reading_law` (each text says one sheet, which is the one that is read).
+//! rule) and `reading_law` (each text says one sheet, which is the one that is read); and `inserted_law` of src/insertion.rt (what a
+//! reading becomes where a rule is put in).
 //!
 //! They stand in a crate of their own, above the three that they are about, so that none of these is proved anew for them. Their
-//! words are in specs/: solid pieces, values, places and readings.
+//! words are in specs/: values, places, readings, and a reading with a rule put in.
 #![tactic(auto)]
 
 mod insertion;
