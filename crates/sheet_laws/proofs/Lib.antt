@@ -18,3 +18,9 @@ pub mod KeyCuts
 pub mod MediaTexts
 pub mod MediaPuts
 pub mod MediaLaw
+pub mod FrontCuts
+pub mod FrontJoins
+pub mod InsertedLists
+pub mod HeadBounds
+pub mod OneRules
+pub mod InsertedLaw

@@ -4,3 +4,4 @@ pub mod Readings
 pub mod Places
 pub mod Heads
 pub mod Keywords
+pub mod Inserted
