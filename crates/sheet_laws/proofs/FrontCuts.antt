@@ -127,7 +127,7 @@ begins_same [] x y some e = absurd (omega (arith, some))
 begins_same (c ∷ own) x y some e = e
 
 -- a piece that is passed over stays what it is
-passed_piece : (own after other : List ℕ) (k : TokenKind) → first_piece (own ++ after) ≡ Some (piece k (length own)) → over k ≡ true
+pub passed_piece : (own after other : List ℕ) (k : TokenKind) → first_piece (own ++ after) ≡ Some (piece k (length own)) → over k ≡ true
     → (k ≡ tokens.Comment → after ≡ []
     → (4 ≤ length own) × (slice_index own (length own - 2) ≡ 42) × (slice_index own (length own - 1) ≡ 47))
     → (begins is_white after ≡ false → begins is_white other ≡ false) → first_piece (own ++ other) ≡ Some (piece k (length own))

@@ -5,7 +5,6 @@ use Rattle.std.proofs.Common.{length, Option, Some, None, refl, sym, ap, subst, 
 use Rattle.std.specs.Prelude.{slice_index}
 use Rattle.std.proofs.lemmas.List.{append-nil}
 use Rattle.css_tokens.specs.declared.token.Token.{Token}
-use Rattle.css_tokens.specs.declared.token.TokenKind.{TokenKind}
 use Rattle.css_tokens.specs.declared.token.TokenKind.TheVariants as tokens
 use Rattle.css_tokens.specs.Codes.{begins, is_white}
 use Rattle.css_tokens.specs.Pieces.{pieces, pieces_after}
@@ -23,8 +22,6 @@ use Rattle.sheet_reader.proofs.Gaps.{AllPassed, Gap, gap_append, gap_whites, Lea
 use Rattle.sheet_reader.proofs.LaidMoves.{stays, goes}
 use Rattle.sheet_reader.proofs.MadePreludes.{Placed, placed_at, ends_whole, put_on}
 use Rattle.sheet_reader.proofs.MovedLaw.{white_last, closed_is}
-use Rattle.sheet_reader.proofs.PassedTexts.{PassedForm, a_comment, white, an_opening, a_closing, white_piece, opening_piece, closing_piece}
-use Rattle.sheet_reader.proofs.PassedTexts.{piece_form, comment_closed, comment_piece}
 use Rattle.sheet_reader.proofs.PreludeWords.{trail_words}
 use Rattle.sheet_reader.proofs.PutPieces.{whole_split}
 use Rattle.sheet_reader.proofs.Raised.{raised}
@@ -36,7 +33,8 @@ use Rattle.sheet_reader.proofs.Spots.{Spot}
 use Rattle.sheet_reader.proofs.TextMoves.{pieces_from, same_part, whole_tokens, widen}
 use Rattle.sheet_reader.proofs.WordMoves.{SamePart}
 use Rattle.sheet_laws.specs.Heads.{ends_in_return}
-use Rattle.sheet_laws.proofs.Names.{Level, top_level, block_level}
+use Rattle.sheet_laws.proofs.FrontCuts.{passed_piece}
+use Rattle.sheet_laws.proofs.Names.{Level, block_level}
 
 -- ---- what stands before
 
@@ -58,45 +56,19 @@ lead_whole level after other some solid place z _ no_more all = no_more
 lead_whole level after other some solid place z _ (piece_and {ts = more} p front rest is len found whole) all =
     piece_and p front rest is len there (lead_whole level after other some solid (place + p.len) rest more whole all.1)
   where
-    k : TokenKind
-    k = p.kind
-
-    top : is_passed top_level k ≡ true
-    top = passed_top level k all.0
-
-    here : first_piece (front ++ (rest ++ after)) ≡ Some (piece k (length front))
+    here : first_piece (front ++ (rest ++ after)) ≡ Some (piece p.kind (length front))
     here = ap first_piece (sym (append_assoc front rest after) ∙ ap (λ (x : List ℕ). x ++ after) (sym is)) ∙ found
-        ∙ ap (λ (n : ℕ). Some (piece k n)) len
-
-    g : (behind : List ℕ) × (behind ≡ rest ++ after) × PassedForm k front behind
-    g = piece_form front (rest ++ after) k here top
+        ∙ ap (λ (n : ℕ). Some (piece p.kind n)) len
 
     still : (rest : List ℕ) → begins is_white (rest ++ after) ≡ false → begins is_white (rest ++ other) ≡ false
     still [] e = solid
     still (c ∷ rest) e = e
 
-    marked : (mark : List ℕ) (named : TokenKind) → k ≡ named → front ≡ mark
-        → ((x : List ℕ) → first_piece (mark ++ x) ≡ Some (piece named (length mark)))
-        → first_piece (front ++ (rest ++ other)) ≡ Some (piece k (length front))
-    marked mark named e form own =
-        ap (λ (x : List ℕ). first_piece (x ++ (rest ++ other))) form ∙ own (rest ++ other)
-        ∙ (λ i. Some (piece (sym e i) (length (sym form i))))
-
-    by : (behind : List ℕ) → behind ≡ rest ++ after → PassedForm k front behind
-        → first_piece (front ++ (rest ++ other)) ≡ Some (piece k (length front))
-    by behind same (a_comment f) =
-        let c = comment_closed front (rest ++ after) k here top
-        (λ named none. absurd (omega (arith, ap length none, length-append rest after, some))) f.named in
-        comment_piece k front behind (rest ++ other) c.0 f c.1 ∙ ap (λ (named : TokenKind). Some (piece named (length front))) (sym f.named)
-    by behind same (white f) =
-        white_piece front (rest ++ other) f.run.0 f.some (still rest (sym (ap (begins is_white) same) ∙ f.run.1))
-        ∙ ap (λ (named : TokenKind). Some (piece named (length front))) (sym f.named)
-    by behind same (an_opening f) = marked (60 ∷ 33 ∷ 45 ∷ 45 ∷ []) tokens.Cdo f.named f.is opening_piece
-    by behind same (a_closing f) = marked (45 ∷ 45 ∷ 62 ∷ []) tokens.Cdc f.named f.is closing_piece
-
     there : first_piece (z ++ other) ≡ Some p
-    there = ap first_piece (ap (λ (x : List ℕ). x ++ other) is ∙ append_assoc front rest other) ∙ by g.0 g.1 g.2
-        ∙ ap (λ (n : ℕ). Some (piece k n)) (sym len)
+    there = ap first_piece (ap (λ (x : List ℕ). x ++ other) is ∙ append_assoc front rest other)
+        ∙ passed_piece front (rest ++ after) (rest ++ other) p.kind here (passed_top level p.kind all.0)
+        (λ named none. absurd (omega (arith, ap length none, length-append rest after, some))) (still rest)
+        ∙ ap (λ (n : ℕ). Some (piece p.kind n)) (sym len)
 
 -- what stands before a place between parts is cut as before
 pub front_again : (text front after : List ℕ) (a : Option ℕ) (j : ℕ) (rs : List RuleForm) (xs : List Token) → text ≡ front ++ after

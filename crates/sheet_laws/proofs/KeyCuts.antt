@@ -169,7 +169,6 @@ new_key key lead old spaces behind k at found some open_lead white fits loose sa
         first [] g = absurd (omega (arith, some, ap length g))
         first (d ∷ x) g = tight e d x g n
 
-
 -- the codes of the keyword behind its `@`
 pub key_text : (front name rest : List ℕ)
     → between (front ++ ((64 ∷ name) ++ rest)) (length front + 1) (length front + length (64 ∷ name)) ≡ name
@@ -204,7 +203,6 @@ find_key place lo (t ∷ before) keyword more all less at end =
   where
     far : (a b : ℕ) → a < b → (a == b) ≡ false
     far a b e = grind (arith, nat_tests)
-
 
 -- ---- what is found
 

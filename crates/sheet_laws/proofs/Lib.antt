@@ -7,7 +7,6 @@ pub mod BodyCuts
 pub mod PlaceCuts
 pub mod SheetCuts
 pub mod Names
-pub mod HeadRows
 pub mod HeadBlocks
 pub mod HeadPaths
 pub mod HeadCuts
