@@ -64,7 +64,8 @@ first_there text_end (y ∷ ys) some = (y, ys, refl)
 first_there (semicolon t) rest some = (t, rest, refl)
 first_there (block first within close) rest some = (first, (within ++ option_to_list close) ++ rest, refl)
 
-prelude_quiet : (stop : Stop) (prelude : List Token) (ending : EndingForm) (rest : List Token) → Follows rest → IsRule stop prelude ending rest
+prelude_quiet : (stop : Stop) (prelude : List Token) (ending : EndingForm) (rest : List Token) → Follows rest
+    → IsRule stop prelude ending rest
     → opens [] prelude ≡ []
 prelude_quiet stop prelude ending rest some r =
     let f = first_there ending rest some in
@@ -102,7 +103,8 @@ depth_keeps head _ none (in_blocks bs fits) =
     under head [] [] bs fits ∙ ap (λ (cs : List Bracket). cs ++ opened bs) none
 
 -- one block further out
-pub deeper : (head : List Token) (keyword first : Token) (prelude xs ys : List Token) → keyword.kind ≡ tokens.AtKeyword → opens [] prelude ≡ []
+pub deeper : (head : List Token) (keyword first : Token) (prelude xs ys : List Token) → keyword.kind ≡ tokens.AtKeyword
+    → opens [] prelude ≡ []
     → first.kind ≡ tokens.OpenCurly → length (xs ++ head) ≤ until block_end (xs ++ (head ++ ys)) → Depth head (opens [] xs)
     → Depth head (opens [] (keyword ∷ (prelude ++ first ∷ xs)))
 unfolding opens

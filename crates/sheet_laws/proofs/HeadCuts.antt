@@ -170,7 +170,8 @@ pub put_pieces : (put main trail gap rest : List ℕ) (n m e : ℕ) (ts : List T
     → (tail : List Token) × AllPassed block_level tail × (pieces_after (n + m) 0 (main ++ (trail ++ (gap ++ 123 ∷ rest)))
     ≡ (map (raised (λ x. n + x)) ts ++ tail) ++ brace_at e ∷ pieces_after (e + 1) 0 rest)
 put_pieces put main trail gap rest n m e ts at spaces blank whole =
-    let k = gap_pieces (n + (m + length main)) (trail ++ gap) rest (gap_append block_level trail gap (gap_whites block_level trail spaces) blank) in
+    let k = gap_pieces (n + (m + length main)) (trail ++ gap) rest
+    (gap_append block_level trail gap (gap_whites block_level trail spaces) blank) in
     let own = map (raised (λ x. n + x)) ts in (
       k.lead,
       k.passed,
@@ -269,7 +270,8 @@ module _ (front old put gap rest : List ℕ) where
       ∙ ap (λ (n : ℕ). n + length rest) (text_size front own gap) in
       ap (moved_place (head_cut front old put)) (size old) ∙ moves (length rest) ∙ sym (size put)
 
-  pub front_stands : SamePart (with_head front old gap rest) (with_head front put gap rest) (moved_place (head_cut front old put)) 0 (length front)
+  pub front_stands : SamePart (with_head front old gap rest) (with_head front put gap rest) (moved_place (head_cut front old put)) 0
+      (length front)
   front_stands = front_in_both front (old ++ (gap ++ 123 ∷ rest)) (put ++ (gap ++ 123 ∷ rest)) (head_cut front old put) (omega arith)
 
   pub end_stands : SamePart (with_head front old gap rest) (with_head front put gap rest) (moved_place (head_cut front old put))

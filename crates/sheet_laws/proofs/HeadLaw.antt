@@ -72,7 +72,8 @@ rule_way text r q around k _ _ _ _ _ (here ps ls are e) = record {
   ms = [];
   xs = [];
   zs = q.body ++ (option_to_list q.close ++ flat ps);
-  way = paths.here (rule_part q ∷ ps) (laid around (rule_part q) ∷ ls) (q.body ++ (option_to_list q.close ++ flat ps)) (rule_here ps ls are e);
+  way = paths.here (rule_part q ∷ ps) (laid around (rule_part q) ∷ ls) (q.body ++ (option_to_list q.close ++ flat ps))
+      (rule_here ps ls are e);
 }
 rule_way text r q around k _ _ _ _ _ (past_part p ps ls rs xs more none path) =
     let w = rule_way text r q around k ps ls rs xs more path in
@@ -193,7 +194,8 @@ not_passed level k e = by (is_passed level k) refl
     by true h = absurd (clash (is_passed top_level k) (passed_top level k h) e)
     by false h = h
 
-rebraced : (first first2 : Token) (within : List Token) (close : Option Token) (rest : List Token) → first2.kind ≡ tokens.OpenCurly
+-- an ending with another `{`
+pub rebraced : (first first2 : Token) (within : List Token) (close : Option Token) (rest : List Token) → first2.kind ≡ tokens.OpenCurly
     → IsEnding (block first within close) rest → IsEnding (block first2 within close) rest
 rebraced first first2 within _ rest curly (in_block _ c _ k vs closed) = in_block first2 c within curly vs closed
 rebraced first first2 within _ rest curly (in_open_block _ _ k vs over) = in_open_block first2 within curly vs over
@@ -203,7 +205,8 @@ part_again : (level : Level) (f : ℕ → ℕ) (q : RulePart) (ps : List PartFor
     → is_passed top_level first.kind ≡ false → is_at_keyword first.kind ≡ false → brace.kind ≡ tokens.OpenCurly
     → ((rest : List Token) → until at_block ((first ∷ others) ++ brace ∷ rest) ≡ length (first ∷ others))
     → AreFlat level (rule_part q ∷ ps)
-    → AreFlat level (qualified (first ∷ others) (block brace (map (raised f) q.body) (option_map (raised f) q.close)) ∷ map (raised_part f) ps)
+    → AreFlat level
+    (qualified (first ∷ others) (block brace (map (raised f) q.body) (option_map (raised f) q.close)) ∷ map (raised_part f) ps)
 part_again level f q ps first others brace solid no_at curly ends all =
     let moved = flat_again level f (rule_part q ∷ ps) all in
     (by moved.0, moved.1)
@@ -230,7 +233,8 @@ part_again level f q ps first others brace solid no_at curly ends all =
 module _ (text other put : List ℕ) (r : RuleForm) (q : RulePart) (n lo hi : ℕ) (c : Cut) (start_is : c.start ≡ n)
     (back : SamePart text other (moved_place c) lo hi) (ended : moved_place c (length text) ≡ length other)
     (own : SamePart put other (λ x. n + x) 0 (length put)) (p : SolidPut put) (tail : List Token) (passed : AllPassed block_level tail)
-    (head : Range) (ss : List SelectorForm) (spans : range_of (words_of put) ≡ Some head) (found : selectors_of put ≡ Some ss) (brace : Token)
+    (head : Range) (ss : List SelectorForm) (spans : range_of (words_of put) ≡ Some head) (found : selectors_of put ≡ Some ss)
+    (brace : Token)
     (curly : brace.kind ≡ tokens.OpenCurly) (opened : moved_place c q.brace.end ≡ brace.end) where
   close_moved : (close : Option Token) → body_end other (option_map (raised (moved_place c)) close) ≡ moved_place c (body_end text close)
   close_moved None = sym ended
@@ -262,7 +266,8 @@ module _ (text other put : List ℕ) (r : RuleForm) (q : RulePart) (n lo hi : �
   rule_target around k _ _ _ (rule_here ps ls are e) all more =
       let first = raised (λ x. n + x) p.first in
       let others = map (raised (λ x. n + x)) p.others ++ tail in
-      let q2 = qualified (first ∷ others) (block brace (map (raised (moved_place c)) q.body) (option_map (raised (moved_place c)) q.close)) in
+      let q2 = qualified (first ∷ others)
+      (block brace (map (raised (moved_place c)) q.body) (option_map (raised (moved_place c)) q.close)) in
       let ps2 = map (raised_part (moved_place c)) ps in
       let ls2 = map (raised_laid (moved_place c)) ls in
       let halves = tokens_split lo hi q.body (option_to_list q.close ++ flat ps) more in
@@ -272,10 +277,12 @@ module _ (text other put : List ℕ) (r : RuleForm) (q : RulePart) (n lo hi : �
       let media = media_same text other (moved_place c) lo hi back ls in_tail in
       let places = places_same text other (moved_place c) lo hi back ps behind in
       let new = rule_again around e halves.0 in
+      let place = ending_place_same text other (moved_place c) lo hi back (block q.brace q.body q.close) in
       let flat_ps2 = flat_raised (moved_place c) ps in
       let close2 = to_list_raised (moved_place c) q.close in
       let tail_is : map (raised (moved_place c)) (q.body ++ (option_to_list q.close ++ flat ps))
-      ≡ map (raised (moved_place c)) q.body ++ (map (raised (moved_place c)) (option_to_list q.close) ++ map (raised (moved_place c)) (flat ps)) =
+      ≡ map (raised (moved_place c)) q.body
+      ++ (map (raised (moved_place c)) (option_to_list q.close) ++ map (raised (moved_place c)) (flat ps)) =
       map_append (raised (moved_place c)) q.body (option_to_list q.close ++ flat ps)
       ∙ ap (λ (ys : List Token). map (raised (moved_place c)) q.body ++ ys)
       (map_append (raised (moved_place c)) (option_to_list q.close) (flat ps)) in
@@ -296,8 +303,7 @@ module _ (text other put : List ℕ) (r : RuleForm) (q : RulePart) (n lo hi : �
         new_rules = λ i. option_to_list (new i) ++ rules i;
         old_media = media_cons text around (rule_part q) ls None refl;
         new_media = media_cons other around q2 ls2 None refl ∙ media;
-        new_places = (λ i. option_to_list (ending_place_same text other (moved_place c) lo hi back (block q.brace q.body q.close) i) ++ places i)
-            ∙ joined (place_of text (rule_part q)) (places_in text ps);
+        new_places = (λ i. option_to_list (place i) ++ places i) ∙ joined (place_of text (rule_part q)) (places_in text ps);
       }
     where
       joined : (o : Option ℕ) (xs : List ℕ) → option_to_list (option_map (moved_place c) o) ++ map (moved_place c) xs
@@ -333,7 +339,8 @@ reading_is text other c new brace r k size head ss rs ms xs zs x is number cuts 
     let media_new : media_in other (laid_out other None 0 (pieces other)) ≡ map (placed_media (moved_place c)) (media_in text ls) =
     sym (ap (media_in other) out_new) ∙ x.new_media ∙ sym (map_append (placed_media (moved_place c)) ms x.media)
     ∙ ap (map (placed_media (moved_place c))) (sym x.old_media) in
-    let places_new : places_in other (parts top_level (pieces other)) ≡ map (moved_place c) (places_in text (parts top_level (pieces text))) =
+    let places_new : places_in other (parts top_level (pieces other))
+    ≡ map (moved_place c) (places_in text (parts top_level (pieces text))) =
     sym (ap (places_in other) parts_new) ∙ x.new_places in
     let zero_stays : 0 ≡ moved_place c 0 = sym (stays c 0 (omega arith)) in
     (λ i. record { rules = rules_new i; places = zero_stays i ∷ places_new i; media = media_new i })
@@ -478,11 +485,13 @@ head_at text put k r head ss q rs ms xs zs way number sealed solid no_return spa
     exchanged : Exchanged text other (moved_place c) new brace (r ∷ []) (reheaded c head ss r ∷ []) [] [] None 0 ps ls rs ms xs zs
     exchanged =
         exchange text other c old_end (old_end + length h.rest) same back ended (RuleHere text r q) q.prelude new q.brace brace
-        (rule_starts text r q) known.curly refl known.none (head_nested put p n tail cut_new.1) (r ∷ []) (reheaded c head ss r ∷ []) [] [] refl
+        (rule_starts text r q) known.curly refl known.none (head_nested put p n tail cut_new.1) (r ∷ [])
+        (reheaded c head ss r ∷ []) [] [] refl
         (rule_target text other put r q n old_end (old_end + length h.rest) c refl back ended (put_in_both h.front put v) p tail cut_new.1
         head ss spans found brace refl opened) None 0 ps ls rs ms xs zs way both.1 lead behind
 
-pub head_holds : (text put : List ℕ) (k : ℕ) (r : RuleForm) (head : Range) (ss : List SelectorForm) → slice_get (sheet_of text).rules k ≡ Some r
+pub head_holds : (text put : List ℕ) (k : ℕ) (r : RuleForm) (head : Range) (ss : List SelectorForm)
+    → slice_get (sheet_of text).rules k ≡ Some r
     → is_sealed put ≡ true → starts_solid put ≡ true → ends_in_return put ≡ false → range_of (words_of put) ≡ Some head
     → selectors_of put ≡ Some ss
     → sheet_of (replaced text r.prelude put) ≡ moved_head (sheet_of text) k head ss (length put)

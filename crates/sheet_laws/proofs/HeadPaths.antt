@@ -189,7 +189,8 @@ pub record Exchanged (text other : List ℕ) (f : ℕ → ℕ) (new : List Token
 regroup : {A : Type 0} (a b c d : List A) → (a ++ (b ++ c)) ++ d ≡ a ++ (b ++ (c ++ d))
 regroup {A = A} a b c d = append_assoc a (b ++ c) d ∙ ap (λ (ys : List A). a ++ ys) (append_assoc b c d)
 
-closing_same : (f : ℕ → ℕ) (last : Option Token) → option_to_list (closing_place (option_map (raised f) last))
+-- the place behind a block, moved
+pub closing_same : (f : ℕ → ℕ) (last : Option Token) → option_to_list (closing_place (option_map (raised f) last))
     ≡ map f (option_to_list (closing_place last))
 closing_same f None = refl
 closing_same f (Some t) = refl
@@ -221,7 +222,8 @@ module _ (text other : List ℕ) (c : Cut) (lo hi : ℕ) (same : SamePart text o
     keep : (x : ℕ) → 0 ≤ x → x ≤ c.start → moved_place c x ≡ x
     keep x a b = stays c x b
 
-    front_rules : (front : List Laid) → LaidIn 0 c.start front → rules_in other front ≡ map (placed_rule (moved_place c)) (rules_in text front)
+    front_rules : (front : List Laid) → LaidIn 0 c.start front
+        → rules_in other front ≡ map (placed_rule (moved_place c)) (rules_in text front)
     front_rules front all =
         sym (ap (rules_in other) (laid_kept (moved_place c) 0 c.start keep front all))
         ∙ rules_same text other (moved_place c) 0 c.start same front all (any_moved text other (moved_place c) ended front)
@@ -379,9 +381,11 @@ module _ (text other : List ℕ) (c : Cut) (lo hi : ℕ) (same : SamePart text o
         (λ i. media_rule other around (record { keyword = sym keyword_kept i; prelude = sym prelude_kept i; inside = flat n.parts }))
         ∙ media_rule_same text other (moved_place c) 0 c.start same around m lead.1 in
         let tail_is : map (raised (moved_place c)) (zs ++ (option_to_list last ++ flat ps))
-        ≡ map (raised (moved_place c)) zs ++ (map (raised (moved_place c)) (option_to_list last) ++ map (raised (moved_place c)) (flat ps)) =
+        ≡ map (raised (moved_place c)) zs
+        ++ (map (raised (moved_place c)) (option_to_list last) ++ map (raised (moved_place c)) (flat ps)) =
         map_append (raised (moved_place c)) zs (option_to_list last ++ flat ps)
-        ∙ ap (λ (ys : List Token). map (raised (moved_place c)) zs ++ ys) (map_append (raised (moved_place c)) (option_to_list last) (flat ps)) in
+        ∙ ap (λ (ys : List Token). map (raised (moved_place c)) zs ++ ys)
+        (map_append (raised (moved_place c)) (option_to_list last) (flat ps)) in
         let cut : xs ++ (new ++ brace2 ∷ map (raised (moved_place c)) (zs ++ (option_to_list last ++ flat ps)))
         ≡ flat n.parts ++ (option_to_list last2 ++ flat ps2) =
         ap (λ (ys : List Token). xs ++ (new ++ brace2 ∷ ys)) tail_is

@@ -101,7 +101,8 @@ solid_put put ss sealed starts no_return found = by p.us refl
         white (w.0).kind w.2 (first_kind (w.0 ∷ []) (w.1 ∙ ap (λ (ts : List Token). ts ++ w.0 ∷ []) e))
 
     kind_of : (t : Token) (ts : List Token) → p.us ≡ t ∷ ts
-        → (pieces put ≡ p.us) ⊎ ((w : Token) × (pieces put ≡ p.us ++ w ∷ []) × (w.kind ≡ tokens.WhiteSpace)) → not (is_blank_kind t.kind) ≡ true
+        → (pieces put ≡ p.us) ⊎ ((w : Token) × (pieces put ≡ p.us ++ w ∷ []) × (w.kind ≡ tokens.WhiteSpace))
+        → not (is_blank_kind t.kind) ≡ true
     kind_of t ts e (inl is) = first_kind (t ∷ ts) (is ∙ e)
     kind_of t ts e (inr w) = first_kind (t ∷ (ts ++ w.0 ∷ [])) (w.1 ∙ ap (λ (xs : List Token). xs ++ w.0 ∷ []) e)
 
@@ -170,7 +171,8 @@ module _ (put : List ℕ) (p : SolidPut put) (n : ℕ) (tail : List Token) (pass
       trail_words other false (map (raised f) ts) tail passed
       ∙ words_same put other f 0 (length put) same false ts p.inside
       ∙ ap (map (raised_word f)) (sym p.words) in
-      let inside = subst (λ (xs : List Word). AllIn 0 (length put) xs) (sym p.words) (words_in put other f 0 (length put) same false ts p.inside) in
+      let inside = subst (λ (xs : List Word). AllIn 0 (length put) xs) (sym p.words)
+      (words_in put other f 0 (length put) same false ts p.inside) in
       record {
         ranged = ap range_of words ∙ range_same put other f 0 (length put) same ws ∙ ap (option_map (placed_range f)) spans;
         listed = ap (λ (xs : List Word). selector_list_of (word_reading other xs)) words

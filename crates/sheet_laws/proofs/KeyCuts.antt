@@ -1,5 +1,6 @@
 -- The keyword of a media rule, before a new prelude with the spaces that it needs.
-use Rattle.std.proofs.Common.{◌≡◌, ℕ, suc, ◌+◌, ◌-◌, ◌<◌, ◌≤◌, nat_le, ◌==◌, ◌&&◌, Bool, true, false, cond, List, [], ◌∷◌, ◌++◌, map, length}
+use Rattle.std.proofs.Common.{◌≡◌, ℕ, suc, ◌+◌, ◌-◌, ◌<◌, ◌≤◌, nat_le, ◌==◌, ◌&&◌, Bool, true, false, cond, List, [], ◌∷◌, ◌++◌, map}
+use Rattle.std.proofs.Common.{length}
 use Rattle.std.proofs.Common.{take, drop, Option, Some, None, refl, sym, ap, subst, ◌∙◌, append_assoc, append-nil, length-append, arith}
 use Rattle.std.specs.Prelude.{codes, fold}
 use Rattle.std.specs.List.{list_all, find}
@@ -23,8 +24,10 @@ use Rattle.selectors.specs.Words.{between}
 use Rattle.sheet_reader.specs.Grammar.{is_at_keyword}
 use Rattle.sheet_reader.specs.Parts.{is_passed}
 use Rattle.sheet_reader.specs.Preludes.{ends_keyword, takes_space, spaces_by}
-use Rattle.sheet_reader.proofs.Gaps.{AllPassed, Gap, no_gap, gap_white, gap_comment, gap_mark, gap_append, gap_whites, white_codes, white_first}
-use Rattle.sheet_reader.proofs.KeyNames.{units_front, Moves, stays, grows, units_move, SaysMedia, starts_media, KeyName, key_name, key_piece}
+use Rattle.sheet_reader.proofs.Gaps.{AllPassed, Gap, no_gap, gap_white, gap_comment, gap_mark, gap_append, gap_whites, white_codes}
+use Rattle.sheet_reader.proofs.Gaps.{white_first}
+use Rattle.sheet_reader.proofs.KeyNames.{units_front, Moves, stays, grows, units_move, SaysMedia, starts_media, KeyName, key_name}
+use Rattle.sheet_reader.proofs.KeyNames.{key_piece}
 use Rattle.sheet_reader.proofs.NewMedia.{spaces_for}
 use Rattle.sheet_reader.proofs.MediaPreludes.{and_no}
 use Rattle.sheet_reader.proofs.ReadMoves.{AllTokens}
@@ -229,7 +232,8 @@ find_before : (place lo : ℕ) (before rest : List Token) → AllTokens 0 lo bef
 find_before place lo [] rest all less = refl
 find_before place lo (t ∷ before) rest all less =
     let none : ends_keyword place t ≡ false =
-    ap (λ (b : Bool). is_at_keyword t.kind && b) (far t.end place (omega (arith, all.0.2, less))) ∙ and_no (is_at_keyword t.kind) false refl in
+    ap (λ (b : Bool). is_at_keyword t.kind && b) (far t.end place (omega (arith, all.0.2, less)))
+    ∙ and_no (is_at_keyword t.kind) false refl in
     rw none (find_before place lo before rest all.1 less)
 
 find_passed : (place : ℕ) (blanks rest : List Token) → AllPassed block_level blanks
@@ -261,7 +265,8 @@ find_none place lo hi before keyword blanks others all less end passed behind =
 end_passed : (place end : ℕ) (blanks : List Token) → AllPassed block_level blanks → fold (last_end place) end blanks ≡ end
 end_passed place end [] all = refl
 end_passed place end (t ∷ blanks) all =
-    let none : (is_at_keyword t.kind && nat_le t.end place) ≡ false = ap (λ (b : Bool). b && nat_le t.end place) (quiet_kind t.kind all.0) in
+    let none : (is_at_keyword t.kind && nat_le t.end place) ≡ false =
+    ap (λ (b : Bool). b && nat_le t.end place) (quiet_kind t.kind all.0) in
     rw none (end_passed place end blanks all.1)
 
 end_behind : (place hi end : ℕ) (others : List Token) → AllTokens place hi others → fold (last_end place) end others ≡ end

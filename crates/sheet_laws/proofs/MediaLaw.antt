@@ -23,8 +23,9 @@ use Rattle.sheet_reader.specs.declared.sheet.MediaRule.{MediaRule}
 use Rattle.sheet_reader.specs.declared.sheet.Sheet.{Sheet}
 use Rattle.sheet_reader.specs.Brackets.{open_after, stops_at, until}
 use Rattle.sheet_reader.specs.Forms.{range, RuleForm}
-use Rattle.sheet_reader.specs.Grammar.{AreParts, plain_and, IsEnding, in_block, in_open_block, IsPart, at_rule_part, is_at_keyword}
-use Rattle.sheet_reader.specs.Layout.{names_media, MediaForm, media_form, media_rule, prelude_range, media_in, Laid, laid, laid_out, level_of}
+use Rattle.sheet_reader.specs.Grammar.{AreParts, plain_and, IsPart, at_rule_part, is_at_keyword}
+use Rattle.sheet_reader.specs.Layout.{names_media, MediaForm, media_form, media_rule, prelude_range, media_in, Laid, laid, laid_out}
+use Rattle.sheet_reader.specs.Layout.{level_of}
 use Rattle.sheet_reader.specs.Layout.{AreLaid, none_laid, part_laid, media_laid}
 use Rattle.sheet_reader.specs.Moves.{placed_media, placed_rule, replaced}
 use Rattle.sheet_reader.specs.Parts.{block, PartForm, at_rule, part_pieces, parts}
@@ -51,10 +52,11 @@ use Rattle.sheet_reader.proofs.ValueForms.{until_is}
 use Rattle.sheet_reader.proofs.WordMoves.{SamePart}
 use Rattle.sheet_laws.specs.Heads.{ends_in_return, range_cut, changed_at, repreluded, moved_media, media_moved_by}
 use Rattle.sheet_laws.proofs.HeadPaths as paths
-use Rattle.sheet_laws.proofs.HeadPaths.{plain_before, media_before, Way, past, into, Exchanged, SpotAt, way_flat, spot_at, exchange}
+use Rattle.sheet_laws.proofs.HeadPaths.{closing_same, plain_before, media_before, Way, past, into, Exchanged, SpotAt, way_flat, spot_at}
+use Rattle.sheet_laws.proofs.HeadPaths.{exchange}
 use Rattle.sheet_laws.proofs.HeadCuts.{front_again, brace_at, pieces_there, pieces_in, put_in_both, with_head, behind_brace}
 use Rattle.sheet_laws.proofs.HeadCuts.{head_cut, moves, ends_move, front_stands, end_stands}
-use Rattle.sheet_laws.proofs.HeadLaw.{changed_append, replaced_at}
+use Rattle.sheet_laws.proofs.HeadLaw.{changed_append, rebraced, replaced_at}
 use Rattle.sheet_laws.specs.Keywords.{last_end, keyword_end, new_keyword_end}
 use Rattle.sheet_laws.proofs.KeyCuts.{NewKey, new_key, key_text, spaces_white, find_key, find_none, end_found}
 use Rattle.sheet_laws.proofs.MediaTexts.{MediaText, media_text}
@@ -103,7 +105,8 @@ none_at zero m e = cc
 none_at (suc i) m e = cc
 
 find_here : (text : List ℕ) (m : MediaRule) (around : Option ℕ) (k : ℕ) (p : PartForm) (form : MediaForm) (inner ps : List PartForm)
-    (within ls : List Laid) → media_form text p ≡ Some form → AreParts block_level inner form.inside → AreLaid text (Some k) (suc k) inner within
+    (within ls : List Laid) → media_form text p ≡ Some form → AreParts block_level inner form.inside
+    → AreLaid text (Some k) (suc k) inner within
     → AreLaid text around (suc k + length (media_in text within)) ps ls → media_rule text around form ≡ m
     → MediaWay text m around k (p ∷ ps) (laid around p ∷ (within ++ ls)) 0
 find_here text m around k p form inner ps within ls is own inner_are are same =
@@ -150,7 +153,8 @@ media_way : (text : List ℕ) (m : MediaRule) (around : Option ℕ) (k : ℕ) (p
 unfolding media_in
 media_way text m around k _ _ none_laid i e = absurd (none_at i m e)
 media_way text m around k _ _ (part_laid p ps ls none are) i e =
-    let w = media_way text m around k ps ls are i (ap (λ (ms : List MediaRule). slice_get ms i) (sym (media_cons text around p ls None none)) ∙ e) in
+    let w = media_way text m around k ps ls are i
+    (ap (λ (ms : List MediaRule). slice_get ms i) (sym (media_cons text around p ls None none)) ∙ e) in
     let empty : media_in text (laid around p ∷ []) ≡ [] = media_cons text around p [] None none ∙ no_media text in
     record {
       q = w.q;
@@ -232,17 +236,13 @@ media_there text m q around k xs s = by s.is s.all
 
 -- ---- the media rule with another prelude
 
-rebraced : (first first2 : Token) (within : List Token) (close : Option Token) (rest : List Token) → first2.kind ≡ tokens.OpenCurly
-    → IsEnding (block first within close) rest → IsEnding (block first2 within close) rest
-rebraced first first2 within _ rest curly (in_block _ c _ k vs closed) = in_block first2 c within curly vs closed
-rebraced first first2 within _ rest curly (in_open_block _ _ k vs over) = in_open_block first2 within curly vs over
-
 -- its part with its ending moved, behind another prelude
 part_again : (level : Level) (f : ℕ → ℕ) (q : MediaPart) (ps : List PartForm) (keyword : Token) (prelude : List Token) (brace : Token)
     → keyword.kind ≡ tokens.AtKeyword → brace.kind ≡ tokens.OpenCurly
     → ((rest : List Token) → until block_or_semicolon (prelude ++ brace ∷ rest) ≡ length prelude)
     → AreFlat level (media_part q ∷ ps)
-    → AreFlat level (at_rule keyword prelude (block brace (map (raised f) q.inside) (option_map (raised f) q.close)) ∷ map (raised_part f) ps)
+    → AreFlat level
+    (at_rule keyword prelude (block brace (map (raised f) q.inside) (option_map (raised f) q.close)) ∷ map (raised_part f) ps)
 part_again level f q ps keyword prelude brace at curly ends all =
     let moved = flat_again level f (media_part q ∷ ps) all in
     (by moved.0, moved.1)
@@ -265,11 +265,6 @@ part_again level f q ps keyword prelude brace at curly ends all =
           stopped = ap (stops_at block_or_semicolon) curly;
           ends = rebraced (raised f q.brace) brace within close rest curly r.ends;
         })
-
-closing_same : (f : ℕ → ℕ) (last : Option Token) → option_to_list (closing_place (option_map (raised f) last))
-    ≡ map f (option_to_list (closing_place last))
-closing_same f None = refl
-closing_same f (Some t) = refl
 
 module _ (text other : List ℕ) (m : MediaRule) (q : MediaPart) (lo hi : ℕ) (c : Cut)
     (back : SamePart text other (moved_place c) lo hi) (ended : moved_place c (length text) ≡ length other)
@@ -296,7 +291,8 @@ module _ (text other : List ℕ) (m : MediaRule) (q : MediaPart) (lo hi : ℕ) (
       let in_within = laid_in lo hi text (Some k) (suc k) inner within inner_are inner_tokens in
       let in_tail = laid_in lo hi text around (suc k + length (media_in text within)) ps ls are behind in
       let in_both = laid_in_append lo hi within ls in_within in_tail in
-      let rules = rules_same text other (moved_place c) lo hi back (within ++ ls) in_both (any_moved text other (moved_place c) ended (within ++ ls)) in
+      let rules = rules_same text other (moved_place c) lo hi back (within ++ ls) in_both
+      (any_moved text other (moved_place c) ended (within ++ ls)) in
       let medias = media_same text other (moved_place c) lo hi back (within ++ ls) in_both in
       let places = places_same text other (moved_place c) lo hi back ps behind in
       let out_is : map (raised_laid (moved_place c)) (within ++ ls) ≡ within2 ++ ls2 = map_append (raised_laid (moved_place c)) within ls in
@@ -362,7 +358,8 @@ reading_is text other c new brace m k size made rs ms xs zs x is number cuts =
     sym (ap (media_in other) out_new) ∙ x.new_media
     ∙ sym (changed_append (repreluded made) (placed_media (moved_place c)) ms m x.media)
     ∙ (λ i. changed_at (repreluded made) (placed_media (moved_place c)) (number i) (sym x.old_media i)) in
-    let places_new : places_in other (parts top_level (pieces other)) ≡ map (moved_place c) (places_in text (parts top_level (pieces text))) =
+    let places_new : places_in other (parts top_level (pieces other))
+    ≡ map (moved_place c) (places_in text (parts top_level (pieces text))) =
     sym (ap (places_in other) parts_new) ∙ x.new_places in
     let zero_stays : 0 ≡ moved_place c 0 = sym (stays c 0 (omega arith)) in
     (λ i. record { rules = rules_new i; places = zero_stays i ∷ places_new i; media = media_new i })
@@ -440,7 +437,8 @@ key_at text put m q xs zs old_pieces known h = record {
         ∙ end_found m.prelude.start h.hi xs q.keyword h.blanks h.others known.at (omega (arith, h.start, h.key_end)) h.passed others_behind
 
 -- the new text behind what stands before the keyword
-key_tail : (front key lead old put spaces v name gap : List ℕ) → key ++ (lead ++ (spaces ++ (put ++ v))) ≡ (64 ∷ name) ++ (gap ++ (put ++ v))
+key_tail : (front key lead old put spaces v name gap : List ℕ)
+    → key ++ (lead ++ (spaces ++ (put ++ v))) ≡ (64 ∷ name) ++ (gap ++ (put ++ v))
     → (front ++ (key ++ lead)) ++ ((spaces ++ put) ++ v) ≡ front ++ ((64 ∷ name) ++ (gap ++ (put ++ v)))
 key_tail front key lead old put spaces v name gap is =
     append_assoc front (key ++ lead) ((spaces ++ put) ++ v)
@@ -465,7 +463,8 @@ gap_ends front key lead put spaces v name gap is = omega (
 
 -- the pieces of a text with this keyword
 key_pieces : (front name tail : List ℕ) (xs : List Token)
-    → first_piece ((64 ∷ name) ++ tail) ≡ Some (piece tokens.AtKeyword (length (64 ∷ name))) → IsWholeBefore ((64 ∷ name) ++ tail) 0 front xs
+    → first_piece ((64 ∷ name) ++ tail) ≡ Some (piece tokens.AtKeyword (length (64 ∷ name)))
+    → IsWholeBefore ((64 ∷ name) ++ tail) 0 front xs
     → pieces (front ++ ((64 ∷ name) ++ tail))
     ≡ xs ++ (record { kind = tokens.AtKeyword; start = length front; end = length front + length (64 ∷ name) })
     ∷ pieces_after (length front + length (64 ∷ name)) 0 tail
@@ -658,7 +657,8 @@ media_known text put k m made e make =
     head = way.q.keyword ∷ way.q.prelude
 
     spot : SpotAt text (MediaHere text m way.q) None 0 way.xs
-    spot = spot_at text (MediaHere text m way.q) head way.q.brace (media_starts text m way.q) None 0 ps ls way.rs way.ms way.xs way.zs way.way
+    spot = spot_at text (MediaHere text m way.q) head way.q.brace
+        (media_starts text m way.q) None 0 ps ls way.rs way.ms way.xs way.zs way.way
         both.1
 
     known : MediaKnown text m way.q
@@ -666,7 +666,8 @@ media_known text put k m made e make =
 
     old_pieces : pieces text ≡ way.xs ++ (way.q.keyword ∷ (way.q.prelude ++ way.q.brace ∷ way.zs))
     old_pieces = both.0
-        ∙ way_flat text (MediaHere text m way.q) head way.q.brace (media_starts text m way.q) None 0 ps ls way.rs way.ms way.xs way.zs way.way
+        ∙ way_flat text (MediaHere text m way.q) head way.q.brace
+        (media_starts text m way.q) None 0 ps ls way.rs way.ms way.xs way.zs way.way
 
     h : MediaText text m.prelude way.xs way.q.keyword way.q.brace way.zs
     h = subst (λ (r : Range). MediaText text r way.xs way.q.keyword way.q.brace way.zs) known.prelude

@@ -15,7 +15,8 @@ use Rattle.selectors.specs.declared.words.Word.{Word}
 use Rattle.selectors.specs.Words.{word_of, words_after, words_of}
 use Rattle.selectors.specs.Reading.{range_by, range_of}
 use Rattle.selectors.specs.Moves.{placed_range}
-use Rattle.sheet_reader.specs.Brackets.{opened_by, closed_by, is_none_open, stops_at, open_after, open_by, until_in, until, nesting, nesting_of}
+use Rattle.sheet_reader.specs.Brackets.{opened_by, closed_by, is_none_open, stops_at, open_after, open_by, until_in, until, nesting}
+use Rattle.sheet_reader.specs.Brackets.{nesting_of}
 use Rattle.sheet_reader.specs.Forms.{range}
 use Rattle.sheet_reader.specs.Grammar.{AreNested}
 use Rattle.sheet_reader.specs.Layout.{prelude_range}
@@ -29,7 +30,8 @@ use Rattle.sheet_reader.proofs.NestingForms.{closed_nested}
 use Rattle.sheet_reader.proofs.MediaPreludes.{and_no}
 use Rattle.sheet_reader.proofs.OpenForms.{passes}
 use Rattle.sheet_reader.proofs.PartMoves.{map_length}
-use Rattle.sheet_reader.proofs.PreludeWords.{lead_words, trail_words, first_word, range_some, passed_nested, nested_append, passed_nesting, until_front}
+use Rattle.sheet_reader.proofs.PreludeWords.{lead_words, trail_words, first_word, range_some, passed_nested, nested_append, passed_nesting}
+use Rattle.sheet_reader.proofs.PreludeWords.{until_front}
 use Rattle.sheet_reader.proofs.PutPieces.{whole_split, solid_begin, LeadSolid, split_lead, no_range, passed_words}
 use Rattle.sheet_reader.proofs.Raised.{raised}
 use Rattle.sheet_reader.proofs.ReadMoves.{AllTokens, tokens_split, words_same, nesting_raised}
@@ -224,7 +226,8 @@ with_words put gap behind rest n e head sealed no_return spans open_gap blank at
 
     quiet : LeadIs block_level (pieces_after n 0 ((gap ++ p.lead) ++ (p.main ++ (p.trail ++ v))))
         (pieces_after (n + length (gap ++ p.lead)) 0 (p.main ++ (p.trail ++ v)))
-    quiet = (skips block_level (p.main ++ (p.trail ++ v)) p.begin (gap ++ p.lead) (gap_append block_level gap p.lead open_gap p.open_lead) n).start
+    quiet = (skips block_level (p.main ++ (p.trail ++ v)) p.begin (gap ++ p.lead)
+        (gap_append block_level gap p.lead open_gap p.open_lead) n).start
 
     prelude : List Token
     prelude = quiet.lead ++ (own ++ cut.0)
@@ -299,12 +302,14 @@ without_words put gap behind rest n e sealed no_return spans open_gap blank at =
     by : AllPassed block_level p.us ⊎ LeadSolid p.us → NewPrelude put gap behind rest n e (range n n)
     by (inr l) = absurd (some_words l)
     by (inl all) =
-        let open_put = gap_of block_level (p.trail ++ v) (omega (arith, length-append p.trail v, length-append behind (123 ∷ rest))) 0 p.front p.us
+        let open_put = gap_of block_level (p.trail ++ v)
+        (omega (arith, length-append p.trail v, length-append behind (123 ∷ rest))) 0 p.front p.us
         (p.whole v (facts_gap behind rest blank)) all in
         let z = gap ++ (p.front ++ (p.trail ++ behind)) in
         let k = gap_pieces n z rest
         (gap_append block_level gap (p.front ++ (p.trail ++ behind)) open_gap
-        (gap_append block_level p.front (p.trail ++ behind) open_put (gap_append block_level p.trail behind (gap_whites block_level p.trail p.blank) blank))) in
+        (gap_append block_level p.front (p.trail ++ behind) open_put
+        (gap_append block_level p.trail behind (gap_whites block_level p.trail p.blank) blank))) in
         let whole : gap ++ (put ++ v) ≡ z ++ 123 ∷ rest =
         ap (λ (x : List ℕ). gap ++ (x ++ v)) p.parted
         ∙ ap (λ (x : List ℕ). gap ++ x) (append_assoc p.front p.trail v

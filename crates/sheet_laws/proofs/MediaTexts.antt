@@ -15,7 +15,8 @@ use Rattle.sheet_reader.specs.Layout.{prelude_range}
 use Rattle.sheet_reader.specs.Parts.{is_passed}
 use Rattle.sheet_reader.proofs.Gaps.{AllPassed, Gap, no_gap, gap_of}
 use Rattle.sheet_reader.proofs.PreludeWords.{trail_words, lead_words, range_some, first_word}
-use Rattle.sheet_reader.proofs.PutPieces.{starts_there, ends_there, LeadSolid, split_lead, TrailSolid, split_trail, passed_words, words_end_by}
+use Rattle.sheet_reader.proofs.PutPieces.{starts_there, ends_there, LeadSolid, split_lead, TrailSolid, split_trail, passed_words}
+use Rattle.sheet_reader.proofs.PutPieces.{words_end_by}
 use Rattle.sheet_reader.proofs.ReadMoves.{AllTokens}
 use Rattle.sheet_reader.proofs.SealedCuts.{first_of, split_at, open_first}
 use Rattle.sheet_reader.proofs.TextMoves.{widen}

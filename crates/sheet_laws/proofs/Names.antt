@@ -15,12 +15,15 @@ use Rattle.sheet_reader.proofs.Behind.{ResultOf}
 abbrev pub ArgumentOf : {A B : Type 0} → (A → B) → Type 0
 ArgumentOf {A = A} f = A
 
+-- brackets
 abbrev pub Bracket : Type 0
 Bracket = ArgumentOf is_same
 
+-- what component values stop at
 abbrev pub Stop : Type 0
 Stop = ArgumentOf stops_at
 
+-- where parts stand
 abbrev pub Level : Type 0
 Level = ResultOf level_of
 
@@ -40,7 +43,9 @@ block_level = level_of (Some 0)
 abbrev pub Follows : List Token → Type 0
 Follows ts = ts ≡ [] → ⊥
 
--- ---- what is open behind a `{`
+-- ---- brackets that are open
+
+-- behind a `{`
 abbrev pub opened : List Bracket → List Bracket
 opened bs = open_after bs OpenCurly
 
@@ -82,4 +87,5 @@ at_block = (rule_stop {level = top_level} (qualified_part (piece_of Ident ∷ []
 
 -- at a `}`
 abbrev pub block_end : Stop
-block_end = stop_of at_block (block_values (in_block (piece_of OpenCurly) (piece_of CloseCurly) [] refl (no_values {rest = piece_of CloseCurly ∷ []}) refl)).0
+block_end = stop_of at_block
+    (block_values (in_block (piece_of OpenCurly) (piece_of CloseCurly) [] refl (no_values {rest = piece_of CloseCurly ∷ []}) refl)).0

@@ -1,6 +1,7 @@
--- What a reading becomes where the selector list of a style rule, or the prelude of a media rule, is replaced. Of the new text alone
--- it is told what it says.
-use Rattle.std.specs.Prelude.{ℕ, zero, suc, ◌+◌, ◌-◌, ◌==◌, Bool, not, List, [], ◌∷◌, map, length, slice_get, slice_index, Option, Some, None}
+-- What a reading becomes where the selector list of a style rule, or the prelude of a media rule, is replaced. No text is read: of what
+-- is put in it is known how long it is, and what it says by itself.
+use Rattle.std.specs.Prelude.{ℕ, zero, suc, ◌+◌, ◌-◌, ◌==◌, Bool, not, List, [], ◌∷◌, map, length, slice_get, slice_index, Option, Some}
+use Rattle.std.specs.Prelude.{None}
 use Rattle.css_tokens.specs.declared.token.Range.{Range}
 use Rattle.css_tokens.specs.Pieces.{pieces}
 use Rattle.selectors.specs.Forms.{SelectorForm}
