@@ -262,11 +262,12 @@ closed_rule_place text prelude inside brace close within =
 
 -- ---- that they ascend
 
-stand_order : (from to : ℕ) (ts : List Token) → StandBetween from to ts → from ≤ to
+pub stand_order : (from to : ℕ) (ts : List Token) → StandBetween from to ts → from ≤ to
 stand_order from to [] all = omega (arith, all)
 stand_order from to (t ∷ ts) all = let more = stand_order t.end to ts all.2 in omega (arith, all.0, all.1, more)
 
-stand_last : (from to : ℕ) (front : List Token) (last : Token) → StandBetween from to (front ++ last ∷ []) → (from < to) × (last.end ≡ to)
+pub stand_last : (from to : ℕ) (front : List Token) (last : Token) → StandBetween from to (front ++ last ∷ [])
+    → (from < to) × (last.end ≡ to)
 stand_last from to [] last all = (omega (arith, all.0, all.1, all.2), all.2)
 stand_last from to (t ∷ front) last all = let more = stand_last t.end to front last all.2 in (omega (arith, all.0, all.1, more.0), more.1)
 

@@ -13,7 +13,7 @@ use Rattle.sheet_reader.specs.Forms.{range, RuleForm}
 use Rattle.sheet_reader.specs.Parts.{EndingForm, text_end, semicolon, block, PartForm, passed, at_rule, qualified, ending_pieces}
 use Rattle.sheet_reader.specs.Parts.{part_pieces, parts}
 use Rattle.sheet_reader.specs.Declarations.{declarations}
-use Rattle.sheet_reader.specs.Layout.{level_of, MediaForm, media_form, media_in, Laid, laid, laid_out, AreLaid, none_laid, part_laid}
+use Rattle.sheet_reader.specs.Layout.{level_of, MediaForm, media_in, Laid, laid_out, AreLaid, none_laid, part_laid}
 use Rattle.sheet_reader.specs.Layout.{media_laid}
 use Rattle.sheet_reader.specs.Grammar.{AreParts}
 use Rattle.sheet_reader.proofs.LayoutForms.{laid_spelled}
@@ -172,14 +172,14 @@ by_either f g (inl a) = f a
 by_either f g (inr b) = g b
 
 -- pieces that stand in a text, with others before and behind them
-record StandsIn (text : List ℕ) (ts : List Token) : Type 0 where
-  front : List Token
-  back : List Token
-  from : ℕ
-  is : pieces text ≡ front ++ (ts ++ back)
-  stands : StandBetween from (length text) (ts ++ back)
+pub record StandsIn (text : List ℕ) (ts : List Token) : Type 0 where
+  pub front : List Token
+  pub back : List Token
+  pub from : ℕ
+  pub is : pieces text ≡ front ++ (ts ++ back)
+  pub stands : StandBetween from (length text) (ts ++ back)
 
-left_stands : (text : List ℕ) (xs ys : List Token) → StandsIn text (xs ++ ys) → StandsIn text xs
+pub left_stands : (text : List ℕ) (xs ys : List Token) → StandsIn text (xs ++ ys) → StandsIn text xs
 left_stands text xs ys s = record {
   front = s.front;
   back = ys ++ s.back;
@@ -188,7 +188,7 @@ left_stands text xs ys s = record {
   stands = subst (StandBetween s.from (length text)) (append_assoc xs ys s.back) s.stands;
 }
 
-right_stands : (text : List ℕ) (xs ys : List Token) → StandsIn text (xs ++ ys) → StandsIn text ys
+pub right_stands : (text : List ℕ) (xs ys : List Token) → StandsIn text (xs ++ ys) → StandsIn text ys
 right_stands text xs ys s =
     let split = append_assoc xs ys s.back in
     let c = stand_cut s.from (length text) xs (ys ++ s.back) (subst (StandBetween s.from (length text)) split s.stands) in
@@ -200,7 +200,7 @@ right_stands text xs ys s =
       stands = c.right;
     }
 
-inside_stands : (text : List ℕ) (p : PartForm) (m : MediaForm) → MediaIs p m → StandsIn text (part_pieces p) → StandsIn text m.inside
+pub inside_stands : (text : List ℕ) (p : PartForm) (m : MediaForm) → MediaIs p m → StandsIn text (part_pieces p) → StandsIn text m.inside
 inside_stands text p m form s =
     let whole = subst (λ (x : PartForm). StandsIn text (part_pieces x)) form.is s in
     let behind_keyword = right_stands text (m.keyword ∷ []) (m.prelude ++ form.first ∷ (m.inside ++ option_to_list form.close)) whole in
