@@ -1,70 +1,17 @@
 -- Ids in shelves: passed over, found, taken out and put in.
-use Rattle.std.proofs.Common.{◌≡◌, ℕ, zero, suc, ◌+◌, ◌-◌, ◌<◌, ◌≤◌, ◌==◌, Bool, true, false, cond, ◌||◌, nat_eq, Option, Some, List, []}
-use Rattle.std.proofs.Common.{◌∷◌, ◌++◌, length, take, drop, get_or, slice_get, refl, sym, ap, subst, ◌∙◌, arith, inl, inr}
+use Rattle.std.proofs.Common.{◌≡◌, ℕ, suc, ◌+◌, ◌-◌, ◌<◌, ◌≤◌, ◌==◌, Bool, true, false, cond, ◌||◌, nat_eq, Option, Some, List, []}
+use Rattle.std.proofs.Common.{◌∷◌, ◌++◌, length, take, drop, get_or, slice_get, refl, sym, ap, subst, ◌∙◌, arith}
 use Rattle.std.proofs.Common.{append_assoc, length-append, take-append-drop}
 use Rattle.std.proofs.lemmas.List.{drop_more, drop_all, take-append-le, drop-append-le}
-use Rattle.std.proofs.lemmas.Bool.{eq-eqb, eqb-true, ne_eqb, cases_eq}
+use Rattle.std.proofs.lemmas.Bool.{eq-eqb, eqb-true}
 use Rattle.std.proofs.lemmas.Grind.{flat_map-append}
-use Rattle.std.specs.List.{insert, remove}
-use Rattle.front_mirror.specs.declared.orders.Shelf.{Shelf}
 use Rattle.number_map.specs.Places.{number_place}
+use Rattle.number_map.proofs.ShelfLemmas.{get-within, place-at, place-front, place-behind}
+use Rattle.front_mirror.specs.declared.orders.Shelf.{Shelf}
 use Rattle.front_mirror.specs.Orders.{ids_in}
 use Rattle.front_mirror.specs.Tables.{PutsAt}
 use Rattle.front_mirror.specs.Walks.{spliced}
 use Rattle.client_views.specs.Views.{is_in}
-
--- ---- lists of ids behind one another
-
-module _ {A : Type 0} where
-  pub get-front : (xs ys : List A) (i : ℕ) (x : A) → slice_get xs i ≡ Some x → slice_get (xs ++ ys) i ≡ Some x
-  get-front [] ys i x e = absurd cc
-  get-front (y ∷ xs) ys zero x e = e
-  get-front (y ∷ xs) ys (suc i) x e = get-front xs ys i x e
-
-  pub get-behind : (xs ys : List A) (i : ℕ) → slice_get (xs ++ ys) (length xs + i) ≡ slice_get ys i
-  get-behind [] ys i = let e : 0 + i ≡ i = omega arith in ap (slice_get ys) e
-  get-behind (y ∷ xs) ys i =
-      let e : suc (length xs) + i ≡ suc (length xs + i) = omega arith in
-      ap (slice_get (y ∷ (xs ++ ys))) e ∙ get-behind xs ys i
-
-module _ (x : ℕ) where
-  pub place-at : (ks : List ℕ) → number_place x ks < length ks → slice_get ks (number_place x ks) ≡ Some x
-  place-at [] low = absurd (omega arith)
-  place-at (k ∷ ks) low = elim (cases_eq k x) [
-    | inl same ↦ rw (eq-eqb k x same) (ap (λ (y : ℕ). Some y) same)
-    | inr other ↦
-        let low2 : suc (number_place x ks) < suc (length ks) =
-        subst (λ (b : Bool). cond {A = ℕ} b 0 (suc (number_place x ks)) < suc (length ks)) (ne_eqb k x other) low
-        in
-        rw (ne_eqb k x other) (place-at ks (omega (arith, low2)))
-  ]
-
-  pub place-front : (a b : List ℕ) → number_place x a < length a → number_place x (a ++ b) ≡ number_place x a
-  place-front [] b low = absurd (omega arith)
-  place-front (k ∷ a) b low = elim (cases_eq k x) [
-    | inl same ↦ rw (eq-eqb k x same) refl
-    | inr other ↦
-        let low2 : suc (number_place x a) < suc (length a) =
-        subst (λ (v : Bool). cond {A = ℕ} v 0 (suc (number_place x a)) < suc (length a)) (ne_eqb k x other) low
-        in
-        rw (ne_eqb k x other) (ap suc (place-front a b (omega (arith, low2))))
-  ]
-
-  pub place-behind : (a b : List ℕ) → length a ≤ number_place x a → number_place x (a ++ b) ≡ length a + number_place x b
-  place-behind [] b past = let e : 0 + number_place x b ≡ number_place x b = omega arith in sym e
-  place-behind (k ∷ a) b past = elim (cases_eq k x) [
-    | inl same ↦
-        let none : suc (length a) ≤ 0 =
-        subst (λ (v : Bool). suc (length a) ≤ cond {A = ℕ} v 0 (suc (number_place x a))) (eq-eqb k x same) past
-        in
-        absurd (omega (arith, none))
-    | inr other ↦
-        let past2 : suc (length a) ≤ suc (number_place x a) =
-        subst (λ (v : Bool). suc (length a) ≤ cond {A = ℕ} v 0 (suc (number_place x a))) (ne_eqb k x other) past
-        in
-        let h = place-behind a b (omega (arith, past2)) in
-        rw (ne_eqb k x other) (omega (arith, h))
-  ]
 
 -- ---- shelves in parts
 
@@ -111,14 +58,13 @@ module _ (ss : List Shelf) (i : ℕ) (s : Shelf) (within : i < length ss) (is : 
       → slice_get (ids_in ss) (before + place) ≡ Some id
   found-in id before place b p low =
       let low2 : number_place id s.ids < length s.ids = subst (λ k. k < length s.ids) p low in
-      let here : slice_get (s.ids ++ ids_in (drop (i + 1) ss)) (number_place id s.ids) ≡ Some id =
-      get-front s.ids (ids_in (drop (i + 1) ss)) (number_place id s.ids) id (place-at id s.ids low2)
-      in
-      let where_ : before + place ≡ length (ids_in (take i ss)) + number_place id s.ids = omega (arith, b, p) in
+      let front = ids_in (take i ss) in
+      let around : ids_in ss ≡ front ++ (s.ids ++ ids_in (drop (i + 1) ss)) =
+      sym (parts i ss) ∙ ap (λ (l : List ℕ). front ++ l) next-rest in
+      let where_ : before + place ≡ length front + number_place id s.ids = omega (arith, b, p) in
       ap (slice_get (ids_in ss)) where_
-      ∙ ap (λ (l : List ℕ). slice_get l (length (ids_in (take i ss)) + number_place id s.ids)) (sym (parts i ss))
-      ∙ get-behind (ids_in (take i ss)) (ids_in (drop i ss)) (number_place id s.ids)
-      ∙ ap (λ (l : List ℕ). slice_get l (number_place id s.ids)) next-rest ∙ here
+      ∙ ap (λ (l : List ℕ). slice_get l (length front + number_place id s.ids)) around
+      ∙ get-within front s.ids (ids_in (drop (i + 1) ss)) (number_place id s.ids) id (place-at id s.ids low2)
 
   pub first-in : (id before place all : ℕ) → before + number_place id (ids_in (drop i ss)) ≡ all → place ≡ number_place id s.ids
       → place < length s.ids → before + place ≡ all
@@ -134,32 +80,9 @@ module _ (ss : List Shelf) (i : ℕ) (s : Shelf) (within : i < length ss) (is : 
       let f = ap (number_place id) next-rest ∙ place-behind id s.ids (ids_in (drop (i + 1) ss)) past2 in
       omega (arith, e, sized, is_sum, f)
 
--- ---- shelves taken out and put in
+-- ---- lists spliced within
 
 module _ {A : Type 0} where
-  pub take-removed : (i : ℕ) (xs : List A) → i ≤ length xs → take i (remove xs i) ≡ take i xs
-  take-removed zero xs low = refl
-  take-removed (suc i) [] low = refl
-  take-removed (suc i) (x ∷ xs) low = ap (λ (l : List A). x ∷ l) (take-removed i xs (omega (arith, low)))
-
-  pub drop-removed : (i : ℕ) (xs : List A) → drop i (remove xs i) ≡ drop (i + 1) xs
-  drop-removed zero [] = refl
-  drop-removed zero (x ∷ xs) = refl
-  drop-removed (suc i) [] = let e : suc i + 1 ≡ suc (suc i) = omega arith in sym (ap (λ k. drop {A = A} k []) e)
-  drop-removed (suc i) (x ∷ xs) =
-      let e : suc i + 1 ≡ suc (i + 1) = omega arith in
-      drop-removed i xs ∙ ap (λ k. drop k (x ∷ xs)) (sym e)
-
-  pub take-inserted : (i : ℕ) (xs : List A) (x : A) → i ≤ length xs → take i (insert xs i x) ≡ take i xs
-  take-inserted zero xs x low = refl
-  take-inserted (suc i) [] x low = absurd (omega (arith, low))
-  take-inserted (suc i) (y ∷ xs) x low = ap (λ (l : List A). y ∷ l) (take-inserted i xs x (omega (arith, low)))
-
-  pub drop-inserted : (i : ℕ) (xs : List A) (x : A) → i ≤ length xs → drop i (insert xs i x) ≡ x ∷ drop i xs
-  drop-inserted zero xs x low = refl
-  drop-inserted (suc i) [] x low = absurd (omega (arith, low))
-  drop-inserted (suc i) (y ∷ xs) x low = drop-inserted i xs x (omega (arith, low))
-
   take-past : (a b : List A) (k : ℕ) → take (length a + k) (a ++ b) ≡ a ++ take k b
   take-past [] b k = let e : 0 + k ≡ k = omega arith in ap (λ i. take i b) e
   take-past (x ∷ a) b k =
