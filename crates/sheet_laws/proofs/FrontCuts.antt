@@ -1,6 +1,6 @@
 -- The text up to a place of its sheet: it ends in a whole part, and a text that begins with no white space is cut behind it as it is
 -- cut alone.
-use Rattle.std.proofs.Common.{◌≡◌, ◌⊎◌, inl, inr, ℕ, ◌+◌, ◌-◌, ◌<◌, ◌≤◌, true, false, List, [], ◌∷◌, ◌++◌, map, length}
+use Rattle.std.proofs.Common.{◌≡◌, ◌⊎◌, inl, inr, ℕ, ◌+◌, ◌-◌, ◌<◌, ◌≤◌, true, false, List, [], ◌∷◌, ◌++◌, length}
 use Rattle.std.proofs.Common.{take, drop, Contains, Some, None, refl, sym, ap, subst, ◌∙◌, append_assoc, append-nil, length-append, arith}
 use Rattle.std.specs.Prelude.{slice_index}
 use Rattle.std.proofs.lemmas.List.{take-append-drop, length-take-le}
@@ -26,9 +26,9 @@ use Rattle.sheet_reader.proofs.MarkTexts.{Marked, mark_part, semi_piece, semi_fi
 use Rattle.sheet_reader.proofs.PartMoves.{AreFlat, flat_of, flat_parts, cons_follows, values_rest}
 use Rattle.sheet_reader.proofs.PassedTexts.{PassedForm, a_comment, white, an_opening, a_closing, over, piece_form, comment_closed}
 use Rattle.sheet_reader.proofs.PassedTexts.{comment_piece, white_piece, opening_piece, closing_piece}
-use Rattle.sheet_reader.proofs.Raised.{raised, flat}
+use Rattle.sheet_reader.proofs.Raised.{flat}
 use Rattle.sheet_reader.proofs.SealedCuts.{first_of, close_first, close_piece, one_more}
-use Rattle.sheet_reader.proofs.TextMoves.{pieces_from, same_part}
+use Rattle.sheet_reader.proofs.TextMoves.{same_part}
 use Rattle.sheet_laws.specs.Places.{IsWholeEnding, whole_semicolon, whole_block, is_comment_kind, EndsComment, IsWholePart, whole_passed}
 use Rattle.sheet_laws.specs.Places.{whole_comment, whole_at_rule, whole_qualified, IsBetweenParts}
 use Rattle.sheet_laws.proofs.PlaceCuts.{places_between, stand_last}
@@ -366,12 +366,3 @@ pub front_parts : (text : List ℕ) (place : ℕ) (f : FrontAt text place) → f
 front_parts text place f =
     parts_only (level_of None) f.ps (flat f.ps) (flat_parts (level_of None) f.ps f.are)
     ∙ ap (parts (level_of None)) (sym (front_pieces text place f))
-
--- what begins with no white space, or stood there before, is cut behind it as it is cut alone
-pub front_moves : (text : List ℕ) (place : ℕ) (f : FrontAt text place) (other : List ℕ)
-    → (begins is_white f.after ≡ false → begins is_white other ≡ false)
-    → pieces (f.front ++ other) ≡ pieces f.front ++ map (raised (λ x. place + x)) (pieces other)
-front_moves text place f other apart =
-    pieces_at other f.front (flat f.ps) (f.whole other apart)
-    ∙ (λ i. sym (front_pieces text place f) i ++ pieces_after (f.size i) 0 other)
-    ∙ ap (λ (ts : List Token). pieces f.front ++ ts) (pieces_from place other)

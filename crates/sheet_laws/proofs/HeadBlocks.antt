@@ -1,41 +1,24 @@
 -- A block in which what stands before the `{` of one part is exchanged for other pieces: it ends where it did.
-use Rattle.std.proofs.Common.{◌≡◌, ℕ, suc, ◌+◌, ◌≤◌, Bool, true, false, ◌&&◌, List, [], ◌∷◌, ◌++◌, map, length, Option}
+use Rattle.std.proofs.Common.{◌≡◌, ℕ, suc, ◌+◌, ◌≤◌, List, [], ◌∷◌, ◌++◌, map, length, Option}
 use Rattle.std.proofs.Common.{refl, sym, ap, subst, ◌∙◌, append_assoc, length-append, arith}
 use Rattle.std.specs.Prelude.{option_map, option_to_list}
 use Rattle.css_tokens.specs.declared.token.Token.{Token}
 use Rattle.css_tokens.specs.declared.token.TokenKind.{TokenKind}
 use Rattle.css_tokens.specs.declared.token.TokenKind.TheVariants as tokens
-use Rattle.sheet_reader.specs.Brackets.{opened_by, closed_by, open_after, is_none_open, stops_at, until_in, until}
-use Rattle.sheet_reader.specs.Parts.{EndingForm, text_end, semicolon, block, PartForm, ending_pieces, part_pieces, is_passed}
+use Rattle.sheet_reader.specs.Brackets.{open_after, stops_at, until_in, until}
+use Rattle.sheet_reader.specs.Parts.{EndingForm, text_end, semicolon, block, PartForm, ending_pieces, part_pieces}
 use Rattle.sheet_reader.specs.Grammar.{IsEnding, at_text_end, at_semicolon, in_block, in_open_block, IsPart, passed_part, at_rule_part}
 use Rattle.sheet_reader.specs.Grammar.{qualified_part, IsRule, AreNested}
 use Rattle.sheet_reader.proofs.Raised.{raised}
-use Rattle.sheet_reader.proofs.BracketLemmas.{stop_here, go_on}
 use Rattle.sheet_reader.proofs.ExchangeForms.{reaches}
-use Rattle.sheet_reader.proofs.OpenForms.{opens, opens_append, passes, under_by, values_shut}
+use Rattle.sheet_reader.proofs.MadePreludes.{curly_on}
+use Rattle.sheet_reader.proofs.Names.{Follows, Bracket, Stop, Level, opened, at_block, block_or_semicolon, block_end}
+use Rattle.sheet_reader.proofs.OpenForms.{opens, opens_append, passes, under, values_shut, passed_none, front_shut}
 use Rattle.sheet_reader.proofs.PartMoves.{until_raised, map_append, map_length}
 use Rattle.sheet_reader.proofs.Spots.{nested_stays, values_at}
 use Rattle.sheet_reader.proofs.ValueForms.{until_is}
-use Rattle.sheet_laws.proofs.Names.{Follows, Bracket, Stop, Level, opened, at_block, block_or_semicolon, block_end}
 
 -- ---- what is open behind pieces
-
--- a `{` stays open under pieces among which its block does not end
-pub under : (ts ys : List Token) (cs bs : List Bracket) → length ts ≤ until_in block_end cs (ts ++ ys)
-    → opens (cs ++ opened bs) ts ≡ opens cs ts ++ opened bs
-unfolding opens
-under [] ys cs bs fits = refl
-under (t ∷ ts) ys cs bs fits = by (λ ds. under ts ys ds bs) (is_none_open cs && stops_at block_end t.kind) refl
-  where
-    by : ((ds : List Bracket) → length ts ≤ until_in block_end ds (ts ++ ys)
-        → opens (ds ++ opened bs) ts ≡ opens ds ts ++ opened bs)
-        → (x : Bool) → (is_none_open cs && stops_at block_end t.kind) ≡ x
-        → opens (open_after (cs ++ opened bs) t.kind) ts ≡ opens (open_after cs t.kind) ts ++ opened bs
-    by further true e = let here = stop_here block_end cs t (ts ++ ys) e in absurd (omega (arith, here, fits))
-    by further false e =
-        let on = go_on block_end cs t (ts ++ ys) e in
-        ap (λ (ds : List Bracket). opens ds ts) (under_by cs bs t.kind (opened_by t.kind) (closed_by t.kind) e refl)
-        ∙ further (open_after cs t.kind) (omega (arith, on, fits))
 
 ending_quiet : (front : List Token) (ending : EndingForm) (rest : List Token) → Follows rest → opens [] front ≡ [] → IsEnding ending rest
     → opens [] (front ++ ending_pieces ending) ≡ []
@@ -69,21 +52,12 @@ prelude_quiet : (stop : Stop) (prelude : List Token) (ending : EndingForm) (rest
     → opens [] prelude ≡ []
 prelude_quiet stop prelude ending rest some r =
     let f = first_there ending rest some in
-    values_shut stop prelude f.0 f.1
-    (ap (λ (xs : List Token). until stop (prelude ++ xs)) (sym f.2)
-    ∙ until_is stop prelude (ending_pieces ending ++ rest) r.values r.stopped)
-
-passed_quiet : (level : Level) (kind : TokenKind) → is_passed level kind ≡ true → open_after [] kind ≡ []
-passed_quiet level tokens.Function e = absurd (cc)
-passed_quiet level tokens.OpenRound e = absurd (cc)
-passed_quiet level tokens.OpenSquare e = absurd (cc)
-passed_quiet level tokens.OpenCurly e = absurd (cc)
-passed_quiet level _ e = refl
+    front_shut stop prelude ending rest r f.0 f.1 f.2
 
 -- behind a part with something behind it no bracket is open
 pub part_quiet : (level : Level) (p : PartForm) (rest : List Token) → Follows rest → IsPart level p rest → opens [] (part_pieces p) ≡ []
 unfolding opens
-part_quiet level _ rest some (passed_part t e) = passed_quiet level t.kind e
+part_quiet level _ rest some (passed_part t e) = passed_none level t.kind e
 part_quiet level _ rest some (at_rule_part keyword prelude ending e r) =
     ending_quiet (keyword ∷ prelude) ending rest some
     (ap (λ (k : TokenKind). opens (open_after [] k) prelude) e ∙ prelude_quiet block_or_semicolon prelude ending rest some r) r.ends
@@ -139,16 +113,6 @@ size_is : (xs head : List Token) (brace : Token) (zs : List Token)
     → length (xs ++ (head ++ brace ∷ zs)) ≡ length xs + (length head + suc (length zs))
 size_is xs head brace zs = omega (arith, length-append xs (head ++ brace ∷ zs), length-append head (brace ∷ zs))
 
-brace_on : (bs : List Bracket) (brace : Token) (ys : List Token) → brace.kind ≡ tokens.OpenCurly
-    → until_in block_end bs (brace ∷ ys) ≡ suc (until_in block_end (opened bs) ys)
-brace_on bs brace ys curly =
-    go_on block_end bs brace ys (by (is_none_open bs) (stops_at block_end brace.kind) (ap (stops_at block_end) curly))
-    ∙ ap (λ (k : TokenKind). suc (until_in block_end (open_after bs k) ys)) curly
-  where
-    by : (a b : Bool) → b ≡ false → (a && b) ≡ false
-    by true b e = e
-    by false b e = refl
-
 until_again : (xs head new : List Token) (brace brace2 : Token) (zs tail : List Token) (f : ℕ → ℕ) → brace.kind ≡ tokens.OpenCurly
     → brace2.kind ≡ tokens.OpenCurly → opens (opens [] xs) head ≡ opens [] xs → AreNested new
     → until block_end ((xs ++ (head ++ brace ∷ zs)) ++ tail) ≡ length (xs ++ (head ++ brace ∷ zs))
@@ -161,11 +125,11 @@ until_again xs head new brace brace2 zs tail f curly curly2 keeps nested total =
     let one = passes block_end xs (head ++ brace ∷ (zs ++ tail)) [] (omega (arith, old)) in
     let two = passes block_end head (brace ∷ (zs ++ tail)) bs (omega (arith, old, one)) in
     let same = ap (λ (cs : List Bracket). until_in block_end cs (brace ∷ (zs ++ tail))) keeps in
-    let open_old = brace_on bs brace (zs ++ tail) curly in
+    let open_old = curly_on bs brace (zs ++ tail) curly in
     let fits = reaches block_end xs (head ++ brace ∷ (zs ++ tail)) (new ++ brace2 ∷ behind) [] (omega (arith, old)) in
     let three = passes block_end xs (new ++ brace2 ∷ behind) [] fits in
     let four = nested_stays new nested bs (brace2 ∷ behind) in
-    let open_new = brace_on bs brace2 behind curly2 in
+    let open_new = curly_on bs brace2 behind curly2 in
     let moved = until_raised f block_end (opened bs) (zs ++ tail) in
     let where_is = ap (until block_end)
     (spread xs new brace2 (map (raised f) zs) (map (raised f) tail)

@@ -26,7 +26,7 @@ use Rattle.sheet_reader.proofs.PreludeWords.{trail_words}
 use Rattle.sheet_reader.proofs.PutPieces.{whole_split}
 use Rattle.sheet_reader.proofs.Raised.{raised}
 use Rattle.sheet_reader.proofs.ReadMoves.{AllTokens}
-use Rattle.sheet_reader.proofs.SealedCuts.{SealedPieces, sealed_pieces, sealed_own, white_is, AllWhite, open_piece, split_at, whole_kept}
+use Rattle.sheet_reader.proofs.SealedCuts.{sealed_pieces, sealed_either, white_is, AllWhite, open_piece, whole_kept}
 use Rattle.sheet_reader.proofs.SpaceUnits.{ends_return, Facts}
 use Rattle.sheet_reader.proofs.SpotEnds.{strip}
 use Rattle.sheet_reader.proofs.Spots.{Spot}
@@ -34,7 +34,7 @@ use Rattle.sheet_reader.proofs.TextMoves.{pieces_from, same_part, whole_tokens, 
 use Rattle.sheet_reader.proofs.WordMoves.{SamePart}
 use Rattle.sheet_laws.specs.Heads.{ends_in_return}
 use Rattle.sheet_laws.proofs.FrontCuts.{passed_piece}
-use Rattle.sheet_laws.proofs.Names.{Level, block_level}
+use Rattle.sheet_reader.proofs.Names.{Level, block_level}
 
 -- ---- what stands before
 
@@ -125,14 +125,9 @@ put_cut put sealed no_return =
       whole = whole;
       closed = sym (white_last [] s.us s.white (white_is s.white.kind s.is_white))
           ∙ closed_is (nesting (s.us ++ s.white ∷ [])) s.nested;
-      either = by s s.either;
+      either = sealed_either put s;
       inside = widen 0 (0 + length s.front) 0 (length put) s.us (omega arith) (omega (arith, size)) all;
     }
-  where
-    by : (s : SealedPieces put) → (s.own ≡ s.us) ⊎ ((w : Token) × (s.own ≡ s.us ++ w ∷ []) × (w.kind ≡ tokens.WhiteSpace))
-        → (pieces put ≡ s.us) ⊎ ((w : Token) × (pieces put ≡ s.us ++ w ∷ []) × (w.kind ≡ tokens.WhiteSpace))
-    by s (inl e) = inl (sealed_own put s ∙ e)
-    by s (inr w) = inr (w.0, sealed_own put s ∙ w.1, w.2)
 
 -- its words
 pub put_words : (put : List ℕ) (p : PutCut put) → words_of put ≡ words_after put false p.us
@@ -195,13 +190,6 @@ pub pieces_there : (f : ℕ → ℕ) (e e2 : ℕ) (rest : List ℕ) → ((x : �
     → pieces_after e2 0 rest ≡ map (raised f) (pieces_after e 0 rest)
 pieces_there f e e2 rest at =
     pieces_from e2 rest ∙ sym (raised_twice f (λ x. e + x) (λ x. e2 + x) at (pieces rest)) ∙ sym (ap (map (raised f)) (pieces_from e rest))
-
-pub pieces_in : (place : ℕ) (text : List ℕ) → AllTokens place (place + length text) (pieces_after place 0 text)
-pieces_in place text =
-    let ts = pieces_after place 0 text in
-    let s = split_at ts [] place text (sym (append-nil ts)) in
-    widen place (place + length s.front) place (place + length text) ts (omega arith)
-    (omega (arith, ap length s.is, length-append s.front s.after)) (whole_tokens s.after place s.front ts s.whole)
 
 -- the same front
 pub front_in_both : (front a b : List ℕ) (c : Cut) → length front ≤ c.start

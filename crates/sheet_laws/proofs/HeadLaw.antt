@@ -31,6 +31,7 @@ use Rattle.sheet_reader.proofs.Gaps.{AllPassed, passed_top, facts_gap}
 use Rattle.sheet_reader.proofs.GrammarForms.{parts_only, parts_spelled}
 use Rattle.sheet_reader.proofs.LaidMoves.{laid_in, laid_again, flat_raised, flat_again, stays, any_moved}
 use Rattle.sheet_reader.proofs.LayoutForms.{laid_spelled, laid_only}
+use Rattle.sheet_reader.proofs.MediaTexts.{pieces_in}
 use Rattle.sheet_reader.proofs.OpenForms.{opens, values_shut}
 use Rattle.sheet_reader.proofs.PartMoves.{AreFlat, flat_of, flat_parts, to_list_raised, map_append}
 use Rattle.sheet_reader.proofs.PutPieces.{inner_solid, solid_begin, no_range}
@@ -45,11 +46,11 @@ use Rattle.sheet_reader.proofs.WordMoves.{SamePart}
 use Rattle.sheet_laws.specs.Heads.{starts_solid, ends_in_return, range_cut, changed_at, reheaded, moved_head, head_moved_by}
 use Rattle.sheet_laws.proofs.HeadPaths as paths
 use Rattle.sheet_laws.proofs.HeadPaths.{plain_before, media_before, Way, past, into, Exchanged, SpotAt, way_flat, spot_at, exchange}
-use Rattle.sheet_laws.proofs.HeadCuts.{front_again, brace_at, put_pieces, pieces_there, pieces_in, put_in_both, with_head, behind_brace}
+use Rattle.sheet_laws.proofs.HeadCuts.{front_again, brace_at, put_pieces, pieces_there, put_in_both, with_head, behind_brace}
 use Rattle.sheet_laws.proofs.HeadCuts.{head_cut, moves, ends_move, front_stands, end_stands}
 use Rattle.sheet_laws.proofs.HeadTexts.{HeadText, head_text}
 use Rattle.sheet_laws.proofs.HeadPuts.{SolidPut, solid_put, new_head, head_nested, head_ends, head_read}
-use Rattle.sheet_laws.proofs.Names.{Level, top_level, block_level, at_block}
+use Rattle.sheet_reader.proofs.Names.{Level, top_level, block_level, at_block}
 
 -- ---- the rule on its way
 

@@ -33,7 +33,7 @@ use Rattle.sheet_reader.proofs.UsableForms.{media_is, rules_append, no_rule}
 use Rattle.sheet_reader.proofs.ValueForms.{until_is}
 use Rattle.sheet_reader.proofs.WordMoves.{SamePart}
 use Rattle.sheet_laws.proofs.HeadBlocks.{part_quiet, Depth, no_block, depth_keeps, deeper, spread, block_again}
-use Rattle.sheet_laws.proofs.Names.{Follows, Bracket, Level, block_level, block_or_semicolon, block_end}
+use Rattle.sheet_reader.proofs.Names.{Follows, Bracket, Level, block_level, block_or_semicolon, block_end}
 
 -- A part that stands before: one that is no media rule, or a media rule with what is laid out from its block. Before it stand k media
 -- rules, and behind it j.

@@ -36,7 +36,7 @@ use Rattle.sheet_reader.proofs.SealedCuts.{AllWhite}
 use Rattle.sheet_reader.proofs.WordMoves.{SamePart, AllIn, list_same, range_same}
 use Rattle.sheet_laws.specs.Heads.{starts_solid, ends_in_return}
 use Rattle.sheet_laws.proofs.HeadCuts.{PutCut, put_cut, put_words}
-use Rattle.sheet_laws.proofs.Names.{Bracket, block_level, at_block}
+use Rattle.sheet_reader.proofs.Names.{Bracket, block_level, at_block}
 
 -- the search for a block passes its pieces but for white space at its end
 us_pass : (put : List ℕ) (ss : List SelectorForm) → selectors_of put ≡ Some ss → is_sealed put ≡ true → (p : PutCut put) → (ys : List Token)

@@ -14,7 +14,7 @@ use Rattle.sheet_reader.proofs.Gaps.{AllPassed, Gap, gap_of}
 use Rattle.sheet_reader.proofs.PreludeWords.{trail_words}
 use Rattle.sheet_reader.proofs.PutPieces.{starts_there, ends_there, solid_begin, TrailSolid, split_trail, words_end, words_start, no_range}
 use Rattle.sheet_reader.proofs.SealedCuts.{split_at, open_first}
-use Rattle.sheet_laws.proofs.Names.{block_level}
+use Rattle.sheet_reader.proofs.Names.{block_level}
 
 -- the first of these pieces, which is neither white space nor a comment, begins the text
 record FirstThere (after : List ℕ) (place : ℕ) (own : List ℕ) (t : Token) : Type 0 where

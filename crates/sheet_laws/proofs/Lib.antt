@@ -6,7 +6,6 @@ pub mod SaidLists
 pub mod BodyCuts
 pub mod PlaceCuts
 pub mod SheetCuts
-pub mod Names
 pub mod HeadBlocks
 pub mod HeadPaths
 pub mod HeadCuts
@@ -14,7 +13,6 @@ pub mod HeadTexts
 pub mod HeadPuts
 pub mod HeadLaw
 pub mod KeyCuts
-pub mod MediaTexts
 pub mod MediaPuts
 pub mod MediaLaw
 pub mod FrontCuts

@@ -38,7 +38,8 @@ use Rattle.sheet_reader.proofs.GrammarForms.{parts_only, parts_spelled}
 use Rattle.sheet_reader.proofs.KeyNames.{SaysMedia, KeyName}
 use Rattle.sheet_reader.proofs.LaidMoves.{laid_in, laid_in_append, laid_again, parts_again, flat_raised, flat_again, stays, any_moved}
 use Rattle.sheet_reader.proofs.LayoutForms.{laid_spelled, laid_only}
-use Rattle.sheet_reader.proofs.NewMedia.{spaces_for}
+use Rattle.sheet_reader.proofs.NewKeys.{spaces_for, NewKey, new_key, key_text, spaces_white, find_key}
+use Rattle.sheet_reader.proofs.MediaTexts.{MediaText, media_text, pieces_in}
 use Rattle.sheet_reader.proofs.OpenForms.{opens, values_shut}
 use Rattle.sheet_reader.proofs.PartMoves.{AreFlat, flat_of, flat_parts, to_list_raised, map_append, map_length}
 use Rattle.sheet_reader.proofs.Raised.{raised, raised_part, raised_laid, flat}
@@ -54,14 +55,13 @@ use Rattle.sheet_laws.specs.Heads.{ends_in_return, range_cut, changed_at, reprel
 use Rattle.sheet_laws.proofs.HeadPaths as paths
 use Rattle.sheet_laws.proofs.HeadPaths.{closing_same, plain_before, media_before, Way, past, into, Exchanged, SpotAt, way_flat, spot_at}
 use Rattle.sheet_laws.proofs.HeadPaths.{exchange}
-use Rattle.sheet_laws.proofs.HeadCuts.{front_again, brace_at, pieces_there, pieces_in, put_in_both, with_head, behind_brace}
+use Rattle.sheet_laws.proofs.HeadCuts.{front_again, brace_at, pieces_there, put_in_both, with_head, behind_brace}
 use Rattle.sheet_laws.proofs.HeadCuts.{head_cut, moves, ends_move, front_stands, end_stands}
 use Rattle.sheet_laws.proofs.HeadLaw.{changed_append, rebraced, replaced_at}
 use Rattle.sheet_laws.specs.Keywords.{last_end, keyword_end, new_keyword_end}
-use Rattle.sheet_laws.proofs.KeyCuts.{NewKey, new_key, key_text, spaces_white, find_key, find_none, end_found}
-use Rattle.sheet_laws.proofs.MediaTexts.{MediaText, media_text}
+use Rattle.sheet_laws.proofs.KeyCuts.{find_none, end_found}
 use Rattle.sheet_laws.proofs.MediaPuts.{NewPrelude, with_words, without_words}
-use Rattle.sheet_laws.proofs.Names.{Level, top_level, block_level, block_or_semicolon}
+use Rattle.sheet_reader.proofs.Names.{Level, top_level, block_level, block_or_semicolon}
 
 -- ---- the media rule on its way
 
@@ -381,7 +381,7 @@ key_at : (text put : List ℕ) (m : MediaRule) (q : MediaPart) (xs zs : List Tok
     → (h : MediaText text m.prelude xs q.keyword q.brace zs) → KeyAt text put m h.front h.key h.lead (h.gap ++ 123 ∷ h.rest)
 key_at text put m q xs zs old_pieces known h = record {
   own = made;
-  end = omega (arith, last, h.key_end, made.size);
+  end = omega (arith, last, h.key_end, made.size loose);
 }
   where
     v : List ℕ
@@ -429,7 +429,7 @@ key_at text put m q xs zs old_pieces known h = record {
     made : NewKey h.key h.lead (spaces_at text m.prelude.start) (put ++ v)
     made = new_key h.key h.lead (h.prelude ++ v) (spaces_at text m.prelude.start) (put ++ v) q.keyword.kind (ap is_at_keyword known.at)
         h.found (omega (arith, length-append h.prelude v, length-append h.gap (123 ∷ h.rest))) h.open_lead
-        (spaces_white text (find (ends_keyword m.prelude.start) (pieces text))) tight loose says
+        (spaces_white text (find (ends_keyword m.prelude.start) (pieces text))) tight says
 
     last : keyword_end text m.prelude.start ≡ q.keyword.end
     last =

@@ -1,34 +1,28 @@
 -- A sealed text with no `{` or `;` outside brackets, behind the keyword of a media rule: the pieces that it is as a prelude.
-use Rattle.std.proofs.Common.{◌≡◌, ◌⊎◌, inl, inr, ℕ, suc, ◌+◌, ◌-◌, ◌≤◌, Bool, true, false, List, [], ◌∷◌, ◌++◌, map, length, Option, Some}
+use Rattle.std.proofs.Common.{◌≡◌, ◌⊎◌, inl, inr, ℕ, suc, ◌+◌, ◌-◌, Bool, true, false, List, [], ◌∷◌, ◌++◌, map, length, Option, Some}
 use Rattle.std.proofs.Common.{None, refl, sym, ap, subst, ◌∙◌, append_assoc, length-append, arith}
 use Rattle.std.specs.Prelude.{option_map, slice_get}
-use Rattle.std.proofs.lemmas.List.{append-nil}
-use Rattle.std.proofs.lemmas.Bool.{eqb-true}
 use Rattle.css_tokens.specs.declared.token.Range.{Range}
 use Rattle.css_tokens.specs.declared.token.Token.{Token}
-use Rattle.css_tokens.specs.declared.token.TokenKind.{TokenKind}
 use Rattle.css_tokens.specs.declared.token.TokenKind.TheVariants as tokens
 use Rattle.css_tokens.specs.Codes.{begins, is_white}
-use Rattle.css_tokens.specs.Pieces.{pieces, pieces_after}
+use Rattle.css_tokens.specs.Pieces.{pieces_after}
 use Rattle.css_tokens.specs.Seams.{IsWholeBefore}
 use Rattle.selectors.specs.declared.words.Word.{Word}
 use Rattle.selectors.specs.Words.{word_of, words_after, words_of}
 use Rattle.selectors.specs.Reading.{range_by, range_of}
 use Rattle.selectors.specs.Moves.{placed_range}
-use Rattle.sheet_reader.specs.Brackets.{opened_by, closed_by, is_none_open, stops_at, open_after, open_by, until_in, until, nesting}
+use Rattle.sheet_reader.specs.Brackets.{stops_at, until, nesting}
 use Rattle.sheet_reader.specs.Brackets.{nesting_of}
 use Rattle.sheet_reader.specs.Forms.{range}
 use Rattle.sheet_reader.specs.Grammar.{AreNested}
 use Rattle.sheet_reader.specs.Layout.{prelude_range}
 use Rattle.sheet_reader.specs.Parts.{is_passed}
 use Rattle.sheet_reader.specs.Sealing.{is_sealed, is_sealed_prelude}
-use Rattle.sheet_reader.proofs.BracketLemmas.{go_on, stop_here}
-use Rattle.sheet_reader.proofs.ExchangeForms.{reaches}
-use Rattle.sheet_reader.proofs.FreeWords.{closed_opens}
-use Rattle.sheet_reader.proofs.Gaps.{AllPassed, Gap, LeadIs, gap_append, gap_whites, gap_of, skips, passed_top, facts_gap}
+use Rattle.sheet_reader.proofs.BracketLemmas.{stop_here}
+use Rattle.sheet_reader.proofs.Gaps.{AllPassed, Gap, LeadIs, gap_append, gap_whites, gap_of, skips, facts_gap}
 use Rattle.sheet_reader.proofs.NestingForms.{closed_nested}
-use Rattle.sheet_reader.proofs.MediaPreludes.{and_no}
-use Rattle.sheet_reader.proofs.OpenForms.{passes}
+use Rattle.sheet_reader.proofs.MediaPreludes.{passed_on, us_on}
 use Rattle.sheet_reader.proofs.PartMoves.{map_length}
 use Rattle.sheet_reader.proofs.PreludeWords.{lead_words, trail_words, first_word, range_some, passed_nested, nested_append, passed_nesting}
 use Rattle.sheet_reader.proofs.PreludeWords.{until_front}
@@ -40,49 +34,7 @@ use Rattle.sheet_reader.proofs.SpaceUnits.{Facts, both}
 use Rattle.sheet_reader.proofs.WordMoves.{SamePart, range_same}
 use Rattle.sheet_laws.specs.Heads.{ends_in_return}
 use Rattle.sheet_laws.proofs.HeadCuts.{PutCut, put_cut, put_words, put_pieces, gap_pieces, brace_at}
-use Rattle.sheet_laws.proofs.Names.{Bracket, Level, top_level, block_level, block_or_semicolon}
-
-plain_kind : (k : TokenKind) → is_passed top_level k ≡ true
-    → (opened_by k ≡ None) × (closed_by k ≡ None) × (stops_at block_or_semicolon k ≡ false)
-plain_kind tokens.Comment e = (refl, refl, refl)
-plain_kind tokens.WhiteSpace e = (refl, refl, refl)
-plain_kind tokens.Cdo e = (refl, refl, refl)
-plain_kind tokens.Cdc e = (refl, refl, refl)
-plain_kind _ e = absurd (cc)
-
--- the search passes pieces that are passed over
-passed_on : (level : Level) (lead : List Token) → AllPassed level lead → (bs : List Bracket) (rest : List Token)
-    → until_in block_or_semicolon bs (lead ++ rest) ≡ length lead + until_in block_or_semicolon bs rest
-passed_on level [] all bs rest = omega arith
-passed_on level (t ∷ lead) all bs rest =
-    let p = plain_kind t.kind (passed_top level t.kind all.0) in
-    let on = go_on block_or_semicolon bs t (lead ++ rest) (and_no (is_none_open bs) (stops_at block_or_semicolon t.kind) p.2) in
-    let same : open_after bs t.kind ≡ bs = λ i. open_by bs (p.0 i) (p.1 i) in
-    let next = ap (λ (x : List Bracket). until_in block_or_semicolon x (lead ++ rest)) same in
-    let more = passed_on level lead all.1 bs rest in
-    omega (arith, on, next, more)
-
--- it passes the pieces of the text but for white space at its end
-us_on : (put : List ℕ) → is_sealed_prelude put ≡ true → (p : PutCut put) → (ys : List Token)
-    → until block_or_semicolon (p.us ++ ys) ≡ length p.us + until block_or_semicolon ys
-us_on put sealed p ys =
-    passes block_or_semicolon p.us ys [] (by p.either)
-    ∙ ap (λ (bs : List Bracket). length p.us + until_in block_or_semicolon bs ys) (closed_opens [] p.us p.closed)
-  where
-    all : until block_or_semicolon (pieces put) ≡ length (pieces put)
-    all = eqb-true _ _ (both (is_sealed put) _ sealed).1
-
-    by : (pieces put ≡ p.us) ⊎ ((w : Token) × (pieces put ≡ p.us ++ w ∷ []) × (w.kind ≡ tokens.WhiteSpace))
-        → length p.us ≤ until block_or_semicolon (p.us ++ ys)
-    by (inl e) =
-        let cut : until block_or_semicolon (p.us ++ []) ≡ length p.us =
-        ap (until block_or_semicolon) (append-nil p.us)
-        ∙ subst (λ (ts : List Token). until block_or_semicolon ts ≡ length ts) e all in
-        reaches block_or_semicolon p.us [] ys [] (omega (arith, cut))
-    by (inr w) =
-        let cut : until block_or_semicolon (p.us ++ w.0 ∷ []) ≡ length (p.us ++ w.0 ∷ []) =
-        subst (λ (ts : List Token). until block_or_semicolon ts ≡ length ts) w.1 all in
-        reaches block_or_semicolon p.us (w.0 ∷ []) ys [] (omega (arith, cut, length-append p.us (w.0 ∷ [])))
+use Rattle.sheet_reader.proofs.Names.{block_level, block_or_semicolon}
 
 -- the range of words does not look at the white space before the first
 range_flag : (text : List ℕ) (a b : Bool) (t : Token) (ws : List Word)
@@ -158,7 +110,7 @@ word_put put v head sealed no_return spans facts = by (split_lead p.us)
           closed = sym (passed_nesting block_level l.lead l.passed [] ts) ∙ sym (ap nesting l.is) ∙ p.closed;
           pass = λ ys.
               let on = passed_on block_level l.lead l.passed [] (ts ++ ys) in
-              let all = us_on put sealed p ys in
+              let all = us_on put p.us sealed p.closed p.either ys in
               let cut : until block_or_semicolon (p.us ++ ys) ≡ until block_or_semicolon (l.lead ++ (ts ++ ys)) =
               ap (λ (xs : List Token). until block_or_semicolon (xs ++ ys)) l.is
               ∙ ap (until block_or_semicolon) (append_assoc l.lead ts ys) in

@@ -11,6 +11,7 @@ use Rattle.css_tokens.proofs.SeamPieces.{pieces_at, whole_before}
 use Rattle.selectors.specs.Moves.{placed_selector}
 use Rattle.sheet_reader.specs.declared.parts.Level.TheVariants.{Top}
 use Rattle.sheet_reader.specs.Forms.{RuleForm}
+use Rattle.sheet_reader.specs.Grammar.{AreShut}
 use Rattle.sheet_reader.specs.Parts.{PartForm, parts}
 use Rattle.sheet_reader.specs.Layout.{media_in, Laid, laid_out, AreLaid}
 use Rattle.sheet_reader.specs.Joins.{is_shut_text, behind_rule, behind_media, joined}
@@ -105,17 +106,17 @@ pub all_there : (after text : List ℕ) → IsWholeBefore after 0 text (pieces t
 all_there after text whole =
     widen 0 (0 + length text) 0 (length text) (pieces text) (omega arith) (omega arith) (whole_tokens after 0 text (pieces text) whole)
 
-in_front : (text other : List ℕ) → is_shut_text text ≡ true → InFront text other
-in_front text other shut =
+in_front : (text other : List ℕ) → IsWholeBefore other 0 text (pieces text) → AreShut (parts Top (pieces text)) → InFront text other
+in_front text other whole shut =
     let n = length text in
     let ps = parts Top (pieces text) in
     let ls = laid_out text None 0 (pieces text) in
     let both = flat_of Top ps (pieces text) (parts_spelled Top (pieces text)) in
-    let all : AllTokens 0 n (flat ps) = subst (AllTokens 0 n) both.0 (all_there other text (shut_whole text shut other)) in
+    let all : AllTokens 0 n (flat ps) = subst (AllTokens 0 n) both.0 (all_there other text whole) in
     let same = front_same text other in
     let are = laid_spelled text None 0 (pieces text) in
     let laid_all = laid_in 0 n text None 0 ps ls are all in
-    let moved = laid_shut text (text ++ other) (λ x. x) None 0 ps ls are Top both.1 (all_shut Top ps shut both.1) in
+    let moved = laid_shut text (text ++ other) (λ x. x) None 0 ps ls are Top both.1 shut in
     let parts_stay = parts_kept (λ x. x) 0 n (λ x a b. refl) ps all in
     let laid_stay = laid_kept (λ x. x) 0 n (λ x a b. refl) ls laid_all in
     record {
@@ -130,6 +131,15 @@ in_front text other shut =
           ∙ same_list (λ x. x) (λ x. refl) (places_in text ps);
     }
 
+-- alone a text has whole pieces
+pub whole_alone : (text : List ℕ) → IsWholeBefore [] 0 text (pieces text)
+whole_alone text =
+    let s = split_at (pieces text) [] 0 text (sym (append-nil (pieces text))) in
+    let none : s.after ≡ [] = no_pieces s.after (0 + length s.front) (sym s.left) in
+    let is : s.front ≡ text = sym (append-nil s.front) ∙ sym (ap (λ (x : List ℕ). s.front ++ x) none) ∙ sym s.is in
+    subst (λ (x : List ℕ). IsWholeBefore [] 0 x (pieces text)) is
+    (subst (λ (x : List ℕ). IsWholeBefore x 0 s.front (pieces text)) none s.whole)
+
 -- what a text says behind another, and behind k media rules
 record Behind (text other : List ℕ) (k : ℕ) : Type 0 where
   qs : List PartForm
@@ -141,14 +151,14 @@ record Behind (text other : List ℕ) (k : ℕ) : Type 0 where
   media : media_in (text ++ other) ms ≡ map (behind_media (length text) k) (media_in other (laid_out other None 0 (pieces other)))
   places : places_in (text ++ other) qs ≡ map (λ x. length text + x) (places_in other (parts Top (pieces other)))
 
-behind : (text other : List ℕ) (k : ℕ) → IsWholeBefore [] 0 other (pieces other) → Behind text other k
-behind text other k whole =
+behind : (text other : List ℕ) (k : ℕ) → Behind text other k
+behind text other k =
     let n = length other in
     let f = λ (x : ℕ). length text + x in
     let ps = parts Top (pieces other) in
     let ls = laid_out other None 0 (pieces other) in
     let both = flat_of Top ps (pieces other) (parts_spelled Top (pieces other)) in
-    let all : AllTokens 0 n (flat ps) = subst (AllTokens 0 n) both.0 (all_there [] other whole) in
+    let all : AllTokens 0 n (flat ps) = subst (AllTokens 0 n) both.0 (all_there [] other (whole_alone other)) in
     let same = behind_same text other in
     let are = laid_spelled other None 0 (pieces other) in
     let laid_all = laid_in 0 n other None 0 ps ls are all in
@@ -173,40 +183,39 @@ behind text other k whole =
       places = places_same other (text ++ other) f 0 n same ps all;
     }
 
--- alone a text has whole pieces
-pub whole_alone : (text : List ℕ) → IsWholeBefore [] 0 text (pieces text)
-whole_alone text =
-    let s = split_at (pieces text) [] 0 text (sym (append-nil (pieces text))) in
-    let none : s.after ≡ [] = no_pieces s.after (0 + length s.front) (sym s.left) in
-    let is : s.front ≡ text = sym (append-nil s.front) ∙ sym (ap (λ (x : List ℕ). s.front ++ x) none) ∙ sym s.is in
-    subst (λ (x : List ℕ). IsWholeBefore [] 0 x (pieces text)) is
-    (subst (λ (x : List ℕ). IsWholeBefore x 0 s.front (pieces text)) none s.whole)
+-- a text that is whole before another, of parts that are parts before others too
+pub joined_whole : (text other : List ℕ) → IsWholeBefore other 0 text (pieces text) → AreShut (parts Top (pieces text))
+    → ((qs : List PartForm) → AreFlat Top qs → AreFlat Top (parts Top (pieces text) ++ qs))
+    → sheet_of (text ++ other) ≡ joined (length text) (sheet_of text) (sheet_of other)
+joined_whole text other whole shut join =
+    let both_texts = text ++ other in
+    let n = length text in
+    let ps = parts Top (pieces text) in
+    let ls = laid_out text None 0 (pieces text) in
+    let k = length (media_in text ls) in
+    let a = in_front text other whole shut in
+    let b = behind text other k in
+    let both = flat_of Top ps (pieces text) (parts_spelled Top (pieces text)) in
+    let tokens : pieces both_texts ≡ flat (ps ++ b.qs) =
+    pieces_at other text (pieces text) whole
+    ∙ ap (λ (ts : List Token). pieces text ++ ts) (pieces_from n other ∙ sym b.flat_is)
+    ∙ ap (λ (ts : List Token). ts ++ flat b.qs) both.0 ∙ sym (flat_append ps b.qs) in
+    let new_parts : ps ++ b.qs ≡ parts Top (pieces both_texts) =
+    parts_only Top (ps ++ b.qs) (flat (ps ++ b.qs)) (flat_parts Top (ps ++ b.qs) (join b.qs b.all))
+    ∙ ap (parts Top) (sym tokens) in
+    let count : 0 + length (media_in both_texts ls) ≡ k = omega (arith, ap length a.media) in
+    let new_laid : ls ++ b.ms ≡ laid_out both_texts None 0 (pieces both_texts) =
+    laid_only both_texts None 0 (pieces both_texts) (ls ++ b.ms)
+    (subst (λ (qs : List PartForm). AreLaid both_texts None 0 qs (ls ++ b.ms)) new_parts
+    (laid_join both_texts None 0 k ps b.qs ls b.ms a.laid_there count b.laid_there)) in
+    let rules = sym (ap (rules_in both_texts) new_laid) ∙ rules_append both_texts ls b.ms ∙ (λ i. a.rules i ++ b.rules i) in
+    let media = sym (ap (media_in both_texts) new_laid) ∙ media_append both_texts ls b.ms ∙ (λ i. a.media i ++ b.media i) in
+    let places = sym (ap (places_in both_texts) new_parts) ∙ places_append both_texts ps b.qs ∙ (λ i. a.places i ++ b.places i) in
+    λ i. record { rules = rules i; places = 0 ∷ places i; media = media i }
 
 pub joined_holds : (text other : List ℕ) → is_shut_text text ≡ true
     → sheet_of (text ++ other) ≡ joined (length text) (sheet_of text) (sheet_of other)
 joined_holds text other shut =
-    let whole_text = text ++ other in
-    let n = length text in
-    let f = λ (x : ℕ). n + x in
     let ps = parts Top (pieces text) in
-    let ls = laid_out text None 0 (pieces text) in
-    let k = length (media_in text ls) in
-    let a = in_front text other shut in
-    let b = behind text other k (whole_alone other) in
     let both = flat_of Top ps (pieces text) (parts_spelled Top (pieces text)) in
-    let tokens : pieces whole_text ≡ flat (ps ++ b.qs) =
-    pieces_at other text (pieces text) (shut_whole text shut other)
-    ∙ ap (λ (ts : List Token). pieces text ++ ts) (pieces_from n other ∙ sym b.flat_is)
-    ∙ ap (λ (ts : List Token). ts ++ flat b.qs) both.0 ∙ sym (flat_append ps b.qs) in
-    let new_parts : ps ++ b.qs ≡ parts Top (pieces whole_text) =
-    parts_only Top (ps ++ b.qs) (flat (ps ++ b.qs)) (flat_parts Top (ps ++ b.qs) (flat_join Top ps b.qs shut both.1 b.all))
-    ∙ ap (parts Top) (sym tokens) in
-    let count : 0 + length (media_in whole_text ls) ≡ k = omega (arith, ap length a.media) in
-    let new_laid : ls ++ b.ms ≡ laid_out whole_text None 0 (pieces whole_text) =
-    laid_only whole_text None 0 (pieces whole_text) (ls ++ b.ms)
-    (subst (λ (qs : List PartForm). AreLaid whole_text None 0 qs (ls ++ b.ms)) new_parts
-    (laid_join whole_text None 0 k ps b.qs ls b.ms a.laid_there count b.laid_there)) in
-    let rules = sym (ap (rules_in whole_text) new_laid) ∙ rules_append whole_text ls b.ms ∙ (λ i. a.rules i ++ b.rules i) in
-    let media = sym (ap (media_in whole_text) new_laid) ∙ media_append whole_text ls b.ms ∙ (λ i. a.media i ++ b.media i) in
-    let places = sym (ap (places_in whole_text) new_parts) ∙ places_append whole_text ps b.qs ∙ (λ i. a.places i ++ b.places i) in
-    λ i. record { rules = rules i; places = 0 ∷ places i; media = media i }
+    joined_whole text other (shut_whole text shut other) (all_shut Top ps shut both.1) (λ qs all. flat_join Top ps qs shut both.1 all)

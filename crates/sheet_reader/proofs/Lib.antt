@@ -18,6 +18,7 @@ pub mod NestingForms
 pub mod UsableForms
 pub mod LoneForms
 pub mod Behind
+pub mod Names
 pub mod Raised
 pub mod SpaceUnits
 pub mod SpaceRows
@@ -62,7 +63,9 @@ pub mod MadePreludes
 pub mod SpotStarts
 pub mod MediaSpots
 pub mod KeyNames
+pub mod MediaTexts
 pub mod OldMedia
+pub mod NewKeys
 pub mod NewMedia
 pub mod LineEnds
 pub mod SealedSeams

@@ -25,11 +25,12 @@ use Rattle.selectors.specs.Ranges.{AreTiles}
 use Rattle.selectors.specs.Reading.{range_of, selector_list_of, selectors_of}
 use Rattle.selectors.proofs.RangeForms.{tiles_whole, tiles_cut}
 use Rattle.sheet_reader.specs.declared.brackets.Bracket.{Bracket}
+use Rattle.sheet_reader.specs.declared.brackets.Bracket.TheVariants.{Curly}
 use Rattle.sheet_reader.specs.declared.brackets.Nesting.TheVariants.{Closed}
 use Rattle.sheet_reader.specs.declared.brackets.Stop.TheVariants as stops
 use Rattle.sheet_reader.specs.declared.parts.Level.{Level}
 use Rattle.sheet_reader.specs.declared.parts.Level.TheVariants.{Top, Inner}
-use Rattle.sheet_reader.specs.Brackets.{is_none_open, stops_at, until_in, until, nesting}
+use Rattle.sheet_reader.specs.Brackets.{is_none_open, open_after, stops_at, until_in, until, nesting}
 use Rattle.sheet_reader.specs.Forms.{range, RuleForm}
 use Rattle.sheet_reader.specs.Moves.{replaced}
 use Rattle.sheet_reader.specs.Preludes.{BeginsIn, HasPreludeIn}
@@ -180,12 +181,12 @@ new_ends f ts trail brace curly passed ends rest =
     let here = stop_here stops.Block [] brace rest (ap (stops_at stops.Block) curly) in
     omega (arith, whole, front, own, on, here, length-append (map (raised f) ts) trail, map_length (raised f) ts)
 
+-- the search passes a `{`
 pub curly_on : (bs : List Bracket) (brace : Token) (rest : List Token) → brace.kind ≡ tokens.OpenCurly
-    → 1 ≤ until_in stops.BlockEnd bs (brace ∷ rest)
+    → until_in stops.BlockEnd bs (brace ∷ rest) ≡ suc (until_in stops.BlockEnd (Curly ∷ bs) rest)
 curly_on bs brace rest curly =
-    let on =
-    go_on stops.BlockEnd bs brace rest (by (is_none_open bs) (stops_at stops.BlockEnd brace.kind) (ap (stops_at stops.BlockEnd) curly)) in
-    omega (arith, on)
+    go_on stops.BlockEnd bs brace rest (by (is_none_open bs) (stops_at stops.BlockEnd brace.kind) (ap (stops_at stops.BlockEnd) curly))
+    ∙ ap (λ (k : TokenKind). suc (until_in stops.BlockEnd (open_after bs k) rest)) curly
   where
     by : (a b : Bool) → b ≡ false → (a && b) ≡ false
     by true b e = e

@@ -6,7 +6,7 @@ use Rattle.std.proofs.lemmas.Bool.{eqb-true}
 use Rattle.css_tokens.specs.declared.token.Token.{Token}
 use Rattle.css_tokens.specs.declared.token.TokenKind.{TokenKind}
 use Rattle.css_tokens.specs.declared.token.TokenKind.TheVariants as tokens
-use Rattle.css_tokens.specs.Pieces.{pieces_after}
+use Rattle.css_tokens.specs.Pieces.{pieces, pieces_after}
 use Rattle.css_tokens.specs.Seams.{IsWholeBefore}
 use Rattle.selectors.specs.Words.{words_after}
 use Rattle.selectors.specs.Reading.{range_of}
@@ -40,7 +40,7 @@ use Rattle.sheet_reader.proofs.PreludeWords.{passed_nested, nested_append, passe
 use Rattle.sheet_reader.proofs.PutPieces.{WholeParts, whole_split, solid_begin, LeadSolid, split_lead}
 use Rattle.sheet_reader.proofs.Raised.{raised}
 use Rattle.sheet_reader.proofs.ReadMoves.{AllTokens, nesting_raised}
-use Rattle.sheet_reader.proofs.SealedCuts.{SealedPieces, sealed_pieces, sealed_own, white_is, AllWhite}
+use Rattle.sheet_reader.proofs.SealedCuts.{SealedPieces, sealed_pieces, sealed_either, white_is, AllWhite}
 use Rattle.sheet_reader.proofs.SealedSeams.{CutBefore, cut_before}
 use Rattle.sheet_reader.proofs.SpaceUnits.{both}
 
@@ -58,7 +58,8 @@ plain_kind tokens.Cdo e = (refl, refl, refl)
 plain_kind tokens.Cdc e = (refl, refl, refl)
 plain_kind _ e = absurd (cc)
 
-passed_on : (level : Level) (lead : List Token) → AllPassed level lead → (bs : List Bracket) (rest : List Token)
+-- the search passes pieces that are passed over
+pub passed_on : (level : Level) (lead : List Token) → AllPassed level lead → (bs : List Bracket) (rest : List Token)
     → until_in stops.BlockOrSemicolon bs (lead ++ rest) ≡ length lead + until_in stops.BlockOrSemicolon bs rest
 passed_on level [] all bs rest = omega arith
 passed_on level (t ∷ lead) all bs rest =
@@ -89,27 +90,27 @@ brace_here : (brace : Token) (rest : List Token) → brace.kind ≡ tokens.OpenC
 brace_here brace rest curly = stop_here stops.BlockOrSemicolon [] brace rest (ap (stops_at stops.BlockOrSemicolon) curly)
 
 -- the search passes the pieces of the text put in, but for white space at its end
-us_on : (put : List ℕ) → is_sealed_prelude put ≡ true → (s : SealedPieces put) → nesting s.us ≡ Closed → (ys : List Token)
-    → until stops.BlockOrSemicolon (s.us ++ ys) ≡ length s.us + until stops.BlockOrSemicolon ys
-us_on put sealed s closed ys =
-    passes stops.BlockOrSemicolon s.us ys [] (by s.either)
-    ∙ ap (λ (bs : List Bracket). length s.us + until_in stops.BlockOrSemicolon bs ys) (closed_opens [] s.us closed)
+pub us_on : (put : List ℕ) (us : List Token) → is_sealed_prelude put ≡ true → nesting us ≡ Closed
+    → (pieces put ≡ us) ⊎ ((w : Token) × (pieces put ≡ us ++ w ∷ []) × (w.kind ≡ tokens.WhiteSpace)) → (ys : List Token)
+    → until stops.BlockOrSemicolon (us ++ ys) ≡ length us + until stops.BlockOrSemicolon ys
+us_on put us sealed closed either ys =
+    passes stops.BlockOrSemicolon us ys [] (by either)
+    ∙ ap (λ (bs : List Bracket). length us + until_in stops.BlockOrSemicolon bs ys) (closed_opens [] us closed)
   where
-    all : until stops.BlockOrSemicolon s.own ≡ length s.own
-    all = subst (λ (ts : List Token). until stops.BlockOrSemicolon ts ≡ length ts) (sealed_own put s)
-        (eqb-true _ _ (both (is_sealed put) _ sealed).1)
+    all : until stops.BlockOrSemicolon (pieces put) ≡ length (pieces put)
+    all = eqb-true _ _ (both (is_sealed put) _ sealed).1
 
-    by : (s.own ≡ s.us) ⊎ ((w : Token) × (s.own ≡ s.us ++ w ∷ []) × (w.kind ≡ tokens.WhiteSpace))
-        → length s.us ≤ until stops.BlockOrSemicolon (s.us ++ ys)
+    by : (pieces put ≡ us) ⊎ ((w : Token) × (pieces put ≡ us ++ w ∷ []) × (w.kind ≡ tokens.WhiteSpace))
+        → length us ≤ until stops.BlockOrSemicolon (us ++ ys)
     by (inl e) =
-        let cut : until stops.BlockOrSemicolon (s.us ++ []) ≡ length s.us =
-        ap (until stops.BlockOrSemicolon) (append-nil s.us)
+        let cut : until stops.BlockOrSemicolon (us ++ []) ≡ length us =
+        ap (until stops.BlockOrSemicolon) (append-nil us)
         ∙ subst (λ (ts : List Token). until stops.BlockOrSemicolon ts ≡ length ts) e all in
-        reaches stops.BlockOrSemicolon s.us [] ys [] (omega (arith, cut))
+        reaches stops.BlockOrSemicolon us [] ys [] (omega (arith, cut))
     by (inr w) =
-        let cut : until stops.BlockOrSemicolon (s.us ++ w.0 ∷ []) ≡ length (s.us ++ w.0 ∷ []) =
+        let cut : until stops.BlockOrSemicolon (us ++ w.0 ∷ []) ≡ length (us ++ w.0 ∷ []) =
         subst (λ (ts : List Token). until stops.BlockOrSemicolon ts ≡ length ts) w.1 all in
-        reaches stops.BlockOrSemicolon s.us (w.0 ∷ []) ys [] (omega (arith, cut, length-append s.us (w.0 ∷ [])))
+        reaches stops.BlockOrSemicolon us (w.0 ∷ []) ys [] (omega (arith, cut, length-append us (w.0 ∷ [])))
 
 -- where it has words or marks
 put_prelude : (put gap rest lead front trail : List ℕ) (us : List Token) → put ≡ front ++ trail → AllWhite trail → Gap Inner gap
@@ -273,7 +274,7 @@ new_prelude put gap rest lead sealed blank open_lead place =
     ends : (ys : List Token) → until stops.BlockOrSemicolon (us ++ ys) ≡ length us + until stops.BlockOrSemicolon ys
     ends ys =
         let same = until_front stops.BlockOrSemicolon c.moved [] s.us ys in
-        let on = us_on put sealed s all_closed ys in
+        let on = us_on put s.us sealed all_closed (sealed_either put s) ys in
         omega (arith, same, on, map_length (raised c.moved) s.us)
 
     by : AllPassed Inner us ⊎ LeadSolid us → NewPrelude place (length lead + length put) (lead ++ (c.text ++ (c.behind ++ 123 ∷ rest)))

@@ -84,23 +84,22 @@ under_by (first ∷ bs) outer kind None (Some b) goes f = by (is_same b first)
     by true = refl
     by false = refl
 
-under_step : (bs : List Bracket) (t : Token) (ts ys : List Token) (x : Bool) → (is_none_open bs && stops_at stops.BlockEnd t.kind) ≡ x
-    → ((cs : List Bracket) → length ts ≤ until_in stops.BlockEnd cs (ts ++ ys) → opens (cs ++ Curly ∷ []) ts ≡ opens cs ts ++ Curly ∷ [])
-    → suc (length ts) ≤ until_in stops.BlockEnd bs (t ∷ (ts ++ ys))
-    → opens (open_after (bs ++ Curly ∷ []) t.kind) ts ≡ opens (open_after bs t.kind) ts ++ Curly ∷ []
-under_step bs t ts ys true e more fits = let here = stop_here stops.BlockEnd bs t (ts ++ ys) e in absurd (omega (arith, here, fits))
-under_step bs t ts ys false e more fits =
-    let on = go_on stops.BlockEnd bs t (ts ++ ys) e in
-    ap (λ (cs : List Bracket). opens cs ts) (under_by bs [] t.kind (opened_by t.kind) (closed_by t.kind) e refl)
-    ∙ more (open_after bs t.kind) (omega (arith, on, fits))
-
 -- a `{` stays open under pieces among which its block does not end
-under : (ts ys : List Token) (bs : List Bracket) → length ts ≤ until_in stops.BlockEnd bs (ts ++ ys)
-    → opens (bs ++ Curly ∷ []) ts ≡ opens bs ts ++ Curly ∷ []
+pub under : (ts ys : List Token) (cs bs : List Bracket) → length ts ≤ until_in stops.BlockEnd cs (ts ++ ys)
+    → opens (cs ++ Curly ∷ bs) ts ≡ opens cs ts ++ Curly ∷ bs
 unfolding opens
-under [] ys bs fits = refl
-under (t ∷ ts) ys bs fits =
-    under_step bs t ts ys (is_none_open bs && stops_at stops.BlockEnd t.kind) refl (λ cs. under ts ys cs) fits
+under [] ys cs bs fits = refl
+under (t ∷ ts) ys cs bs fits = by (λ ds. under ts ys ds bs) (is_none_open cs && stops_at stops.BlockEnd t.kind) refl
+  where
+    by : ((ds : List Bracket) → length ts ≤ until_in stops.BlockEnd ds (ts ++ ys)
+        → opens (ds ++ Curly ∷ bs) ts ≡ opens ds ts ++ Curly ∷ bs)
+        → (x : Bool) → (is_none_open cs && stops_at stops.BlockEnd t.kind) ≡ x
+        → opens (open_after (cs ++ Curly ∷ bs) t.kind) ts ≡ opens (open_after cs t.kind) ts ++ Curly ∷ bs
+    by further true e = let here = stop_here stops.BlockEnd cs t (ts ++ ys) e in absurd (omega (arith, here, fits))
+    by further false e =
+        let on = go_on stops.BlockEnd cs t (ts ++ ys) e in
+        ap (λ (ds : List Bracket). opens ds ts) (under_by cs bs t.kind (opened_by t.kind) (closed_by t.kind) e refl)
+        ∙ further (open_after cs t.kind) (omega (arith, on, fits))
 
 pub some_open : (bs outer : List Bracket) → is_none_open (bs ++ Curly ∷ outer) ≡ false
 some_open [] outer = refl
@@ -114,7 +113,7 @@ opened_under front within ys first none is fits =
     opens_append front (first ∷ within) []
     ∙ ap (λ (bs : List Bracket). opens (open_after bs first.kind) within) none
     ∙ ap (λ (kind : TokenKind). opens (open_after [] kind) within) is
-    ∙ under within ys [] fits
+    ∙ under within ys [] [] fits
 
 ShutBehind : List Token → EndingForm → List Token → Type 0
 ShutBehind front ending rest = IsShutEnding ending × ((rest ≡ []) ⊎ (opens [] (front ++ ending_pieces ending) ≡ []))
@@ -155,14 +154,16 @@ ending_shut front _ rest close more none (in_open_block first within is values o
     let no : true ≡ false = sym yes ∙ some_open (opens [] within) [] in
     absurd (cc)
 
-passed_none : (level : Level) (kind : TokenKind) → is_passed level kind ≡ true → open_after [] kind ≡ []
+-- a piece that is passed over opens no bracket
+pub passed_none : (level : Level) (kind : TokenKind) → is_passed level kind ≡ true → open_after [] kind ≡ []
 passed_none level tokens.Function e = absurd (cc)
 passed_none level tokens.OpenRound e = absurd (cc)
 passed_none level tokens.OpenSquare e = absurd (cc)
 passed_none level tokens.OpenCurly e = absurd (cc)
 passed_none level _ e = refl
 
-front_shut : (stop : Stop) (prelude : List Token) (ending : EndingForm) (rest : List Token) → IsRule stop prelude ending rest
+-- behind a prelude with something behind it no bracket is open
+pub front_shut : (stop : Stop) (prelude : List Token) (ending : EndingForm) (rest : List Token) → IsRule stop prelude ending rest
     → (y : Token) (ys : List Token) → ending_pieces ending ++ rest ≡ y ∷ ys → opens [] prelude ≡ []
 front_shut stop prelude ending rest rule y ys is =
     values_shut stop prelude y ys

@@ -410,6 +410,16 @@ pub sealed_own : (t : List ℕ) (s : SealedPieces t) → pieces t ≡ s.own
 unfolding pieces_after
 sealed_own t s = sym (ap pieces (append-nil t)) ∙ pieces_at [] t s.own (s.whole [] at_end) ∙ append-nil s.own
 
+-- they are those before white space behind it, and white space at its end
+pub sealed_either : (t : List ℕ) (s : SealedPieces t)
+    → (pieces t ≡ s.us) ⊎ ((w : Token) × (pieces t ≡ s.us ++ w ∷ []) × (w.kind ≡ WhiteSpace))
+sealed_either t s = by s.either
+  where
+    by : (s.own ≡ s.us) ⊎ ((w : Token) × (s.own ≡ s.us ++ w ∷ []) × (w.kind ≡ WhiteSpace))
+        → (pieces t ≡ s.us) ⊎ ((w : Token) × (pieces t ≡ s.us ++ w ∷ []) × (w.kind ≡ WhiteSpace))
+    by (inl e) = inl (sealed_own t s ∙ e)
+    by (inr w) = inr (w.0, sealed_own t s ∙ w.1, w.2)
+
 -- a sealed text is whole before whatever may stand behind it, by its own pieces
 pub sealed_whole : (t : List ℕ) → is_sealed t ≡ true → (v : List ℕ) → IsBehind v → IsWholeBefore v 0 t (pieces t)
 sealed_whole t e v b = let s = sealed_pieces t e in subst (IsWholeBefore v 0 t) (sym (sealed_own t s)) (s.whole v b)

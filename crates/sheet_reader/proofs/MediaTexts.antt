@@ -1,7 +1,7 @@
 -- The prelude of a media rule in the text of its sheet, and its pieces.
 use Rattle.std.proofs.Common.{◌≡◌, ◌⊎◌, inl, inr, ℕ, ◌+◌, ◌<◌, Bool, true, false, List, [], ◌∷◌, ◌++◌, length, take, drop, Some}
 use Rattle.std.proofs.Common.{refl, sym, ap, subst, ◌∙◌, append_assoc, length-append, arith}
-use Rattle.std.proofs.lemmas.List.{take-append-drop, length-take-le}
+use Rattle.std.proofs.lemmas.List.{append-nil, take-append-drop, length-take-le}
 use Rattle.css_tokens.specs.declared.token.Range.{Range}
 use Rattle.css_tokens.specs.declared.token.Token.{Token}
 use Rattle.css_tokens.specs.declared.token.TokenKind.TheVariants as tokens
@@ -10,6 +10,7 @@ use Rattle.css_tokens.specs.Rows.{piece, first_piece}
 use Rattle.css_tokens.specs.Seams.{IsWholeBefore}
 use Rattle.selectors.specs.Words.{word_of, words_after}
 use Rattle.selectors.specs.Reading.{range_of}
+use Rattle.sheet_reader.specs.declared.parts.Level.TheVariants.{Inner}
 use Rattle.sheet_reader.specs.Forms.{range}
 use Rattle.sheet_reader.specs.Layout.{prelude_range}
 use Rattle.sheet_reader.specs.Parts.{is_passed}
@@ -19,9 +20,15 @@ use Rattle.sheet_reader.proofs.PutPieces.{starts_there, ends_there, LeadSolid, s
 use Rattle.sheet_reader.proofs.PutPieces.{words_end_by}
 use Rattle.sheet_reader.proofs.ReadMoves.{AllTokens}
 use Rattle.sheet_reader.proofs.SealedCuts.{first_of, split_at, open_first}
-use Rattle.sheet_reader.proofs.TextMoves.{widen}
-use Rattle.sheet_laws.proofs.HeadCuts.{pieces_in}
-use Rattle.sheet_laws.proofs.Names.{block_level}
+use Rattle.sheet_reader.proofs.TextMoves.{whole_tokens, widen}
+
+-- the pieces of a text stand in it
+pub pieces_in : (place : ℕ) (text : List ℕ) → AllTokens place (place + length text) (pieces_after place 0 text)
+pieces_in place text =
+    let ts = pieces_after place 0 text in
+    let s = split_at ts [] place text (sym (append-nil ts)) in
+    widen place (place + length s.front) place (place + length text) ts (omega arith)
+    (omega (arith, ap length s.is, length-append s.front s.after)) (whole_tokens s.after place s.front ts s.whole)
 
 -- what stands behind the keyword, up to the `{`
 record BehindKey (place : ℕ) (r : Range) (after : List ℕ) (prelude_pieces : List Token) (brace : Token) (zs : List Token) : Type 0 where
@@ -32,20 +39,20 @@ record BehindKey (place : ℕ) (r : Range) (after : List ℕ) (prelude_pieces : 
   is : after ≡ lead ++ (prelude ++ (gap ++ 123 ∷ rest))
   start : r.start ≡ place + length lead
   end : r.end ≡ place + length lead + length prelude
-  open_lead : Gap block_level lead
-  blank : Gap block_level gap
+  open_lead : Gap Inner lead
+  blank : Gap Inner gap
   brace_end : brace.end ≡ place + length lead + length prelude + length gap + 1
   left : zs ≡ pieces_after (place + length lead + length prelude + length gap + 1) 0 rest
   -- the pieces that are passed over, and those that stand behind
   blanks : List Token
   others : List Token
   cut : prelude_pieces ++ brace ∷ zs ≡ blanks ++ others
-  passed : AllPassed block_level blanks
+  passed : AllPassed Inner blanks
   behind : AllTokens (place + length lead) (place + length after) others
 
 -- where the prelude has no words
 no_words_behind : (text : List ℕ) (place : ℕ) (keyword : Token) (prelude : List Token) (brace : Token) (zs : List Token) (after : List ℕ)
-    → keyword.end ≡ place → AllPassed block_level prelude → brace.kind ≡ tokens.OpenCurly
+    → keyword.end ≡ place → AllPassed Inner prelude → brace.kind ≡ tokens.OpenCurly
     → prelude ++ brace ∷ zs ≡ pieces_after place 0 after
     → BehindKey place (prelude_range keyword (range_of (words_after text false prelude))) after prelude brace zs
 no_words_behind text place keyword prelude brace zs after at all kind left =
@@ -64,7 +71,7 @@ no_words_behind text place keyword prelude brace zs after at all kind left =
       start = ap (λ (r : Range). r.start) none ∙ at ∙ size;
       end = ap (λ (r : Range). r.end) none ∙ at ∙ omega arith;
       open_lead = no_gap;
-      blank = gap_of block_level s.after (omega (arith, ap length m.is)) place s.front prelude s.whole all;
+      blank = gap_of Inner s.after (omega (arith, ap length m.is)) place s.front prelude s.whole all;
       brace_end = m.end ∙ seam;
       left = sym m.more ∙ ap (λ (n : ℕ). pieces_after n 0 m.behind) seam;
       blanks = prelude;
@@ -110,7 +117,7 @@ words_behind text place keyword prelude brace zs after l t kind left =
           ∙ first_is (place + length s.front) p.front p.after t.main t.last t.trail t.is p.whole;
       end = ap (λ (r : Range). r.end) place_is ∙ last_is
           ∙ ends_there p.after (place + length s.front) p.front t.main t.last p.whole;
-      open_lead = gap_of block_level s.after (omega (
+      open_lead = gap_of Inner s.after (omega (
         arith,
         ap length p.is,
         ap length g.is,
@@ -118,7 +125,7 @@ words_behind text place keyword prelude brace zs after l t kind left =
         length-append p.front p.after,
         length-append g.front g.after,
       )) place s.front l.lead s.whole l.passed;
-      blank = gap_of block_level g.after (omega (arith, ap length m.is)) (place + length s.front + length p.front) g.front t.trail g.whole
+      blank = gap_of Inner g.after (omega (arith, ap length m.is)) (place + length s.front + length p.front) g.front t.trail g.whole
           t.passed;
       brace_end = m.end;
       left = sym m.more;
@@ -148,12 +155,12 @@ behind_key text place keyword prelude brace zs after at kind left = by (split_le
     both true e g = cc
     both false e g = cc
 
-    solid : (l : LeadSolid prelude) → AllPassed block_level (l.first ∷ l.rest) ⊎ TrailSolid (l.first ∷ l.rest)
+    solid : (l : LeadSolid prelude) → AllPassed Inner (l.first ∷ l.rest) ⊎ TrailSolid (l.first ∷ l.rest)
         → BehindKey place (prelude_range keyword (range_of (words_after text false prelude))) after prelude brace zs
-    solid l (inl all) = absurd (both (is_passed block_level l.first.kind) all.0 l.solid)
+    solid l (inl all) = absurd (both (is_passed Inner l.first.kind) all.0 l.solid)
     solid l (inr t) = words_behind text place keyword prelude brace zs after l t kind left
 
-    by : AllPassed block_level prelude ⊎ LeadSolid prelude
+    by : AllPassed Inner prelude ⊎ LeadSolid prelude
         → BehindKey place (prelude_range keyword (range_of (words_after text false prelude))) after prelude brace zs
     by (inl all) = no_words_behind text place keyword prelude brace zs after at all kind left
     by (inr l) = solid l (split_trail (l.first ∷ l.rest))
@@ -169,8 +176,8 @@ pub record MediaText (text : List ℕ) (r : Range) (xs : List Token) (keyword br
   pub is : text ≡ front ++ (key ++ (lead ++ (prelude ++ (gap ++ 123 ∷ rest))))
   pub start : r.start ≡ length front + length key + length lead
   pub end : r.end ≡ length front + length key + length lead + length prelude
-  pub open_lead : Gap block_level lead
-  pub blank : Gap block_level gap
+  pub open_lead : Gap Inner lead
+  pub blank : Gap Inner gap
   pub whole : IsWholeBefore (key ++ (lead ++ (prelude ++ (gap ++ 123 ∷ rest)))) 0 front xs
   pub key_start : keyword.start ≡ length front
   pub key_end : keyword.end ≡ length front + length key
@@ -181,7 +188,7 @@ pub record MediaText (text : List ℕ) (r : Range) (xs : List Token) (keyword br
   pub blanks : List Token
   pub others : List Token
   pub cut : pieces text ≡ xs ++ keyword ∷ (blanks ++ others)
-  pub passed : AllPassed block_level blanks
+  pub passed : AllPassed Inner blanks
   pub hi : ℕ
   pub behind : AllTokens (length front + length key + length lead) hi others
 
