@@ -1,8 +1,7 @@
 -- The way to a part in a sheet, through the media rules around it; and the sheet in which other pieces stand before that part's `{`.
-use Rattle.std.proofs.Common.{◌≡◌, ℕ, suc, ◌+◌, ◌≤◌, Bool, true, cond, List, [], ◌∷◌, ◌++◌, map, length, Option, Some, None, refl, sym, ap}
+use Rattle.std.proofs.Common.{◌≡◌, ℕ, suc, ◌+◌, Bool, true, cond, List, [], ◌∷◌, ◌++◌, map, length, Option, Some, None, refl, sym, ap}
 use Rattle.std.proofs.Common.{subst, ◌∙◌, append_assoc, length-append, arith}
 use Rattle.std.specs.Prelude.{option_map, option_to_list}
-use Rattle.std.proofs.lemmas.List.{append-nil}
 use Rattle.css_tokens.specs.declared.token.Token.{Token}
 use Rattle.css_tokens.specs.declared.token.TokenKind.TheVariants as tokens
 use Rattle.selectors.specs.Moves.{Cut, moved_place}
@@ -17,19 +16,20 @@ use Rattle.sheet_reader.specs.Grammar.{outside, IsEnding, IsPart, at_rule_part, 
 use Rattle.sheet_reader.specs.Moves.{placed_media, placed_rule}
 use Rattle.sheet_reader.proofs.ExchangeForms.{reaches}
 use Rattle.sheet_reader.proofs.FrameForms.{media_append, media_cons}
-use Rattle.sheet_reader.proofs.LaidMoves.{laid_in, laid_again, flat_raised, flat_again, stays, token_kept, tokens_kept, part_kept}
-use Rattle.sheet_reader.proofs.LaidMoves.{parts_kept, laid_kept, any_moved}
+use Rattle.sheet_reader.proofs.KeptFronts.{keep, front_rules, front_media, front_places, form_kept, media_kept, laid_stays}
+use Rattle.sheet_reader.proofs.LaidMoves.{laid_in, laid_again, flat_raised, flat_again, token_kept, tokens_kept}
+use Rattle.sheet_reader.proofs.LaidMoves.{any_moved}
 use Rattle.sheet_reader.proofs.MovedParts.{places_cons}
 use Rattle.sheet_reader.proofs.OpenForms.{opens, opens_append, values_shut}
 use Rattle.sheet_reader.proofs.PartMoves.{AreFlat, flat_of, flat_parts, cons_follows, append_follows, values_rest, part_rest}
 use Rattle.sheet_reader.proofs.PartMoves.{to_list_raised, map_append, map_length}
 use Rattle.sheet_reader.proofs.Raised.{raised, raised_part, raised_laid, raised_media, flat}
-use Rattle.sheet_reader.proofs.ReadMoves.{AllTokens, tokens_split, LaidIn, form_in, form_same, names_same, rules_same, media_same}
+use Rattle.sheet_reader.proofs.ReadMoves.{AllTokens, tokens_split, LaidIn, form_in, names_same, rules_same, media_same}
 use Rattle.sheet_reader.proofs.ReadMoves.{media_rule_same, places_same}
 use Rattle.sheet_reader.proofs.SpotPaths.{OpensMedia, opens_media, names_media_is}
 use Rattle.sheet_reader.proofs.Spots as spots
 use Rattle.sheet_reader.proofs.Spots.{Spot, at_spot, cut_is}
-use Rattle.sheet_reader.proofs.UsableForms.{media_is, rules_append, no_rule}
+use Rattle.sheet_reader.proofs.UsableForms.{rules_append, no_rule}
 use Rattle.sheet_reader.proofs.ValueForms.{until_is}
 use Rattle.sheet_reader.proofs.WordMoves.{SamePart}
 use Rattle.sheet_laws.proofs.HeadBlocks.{part_quiet, Depth, no_block, depth_keeps, deeper, spread, block_again}
@@ -219,55 +219,6 @@ module _ (text other : List ℕ) (c : Cut) (lo hi : ℕ) (same : SamePart text o
     → AreFlat (level_of around) ps → AllTokens lo hi zs
     → Exchanged text other (moved_place c) new brace2 own own2 inside inside2 around k ps ls [] [] [] zs)
   where
-    keep : (x : ℕ) → 0 ≤ x → x ≤ c.start → moved_place c x ≡ x
-    keep x a b = stays c x b
-
-    front_rules : (front : List Laid) → LaidIn 0 c.start front
-        → rules_in other front ≡ map (placed_rule (moved_place c)) (rules_in text front)
-    front_rules front all =
-        sym (ap (rules_in other) (laid_kept (moved_place c) 0 c.start keep front all))
-        ∙ rules_same text other (moved_place c) 0 c.start same front all (any_moved text other (moved_place c) ended front)
-
-    front_media : (front : List Laid) → LaidIn 0 c.start front → media_in other front
-        ≡ map (placed_media (moved_place c)) (media_in text front)
-    front_media front all =
-        sym (ap (media_in other) (laid_kept (moved_place c) 0 c.start keep front all))
-        ∙ media_same text other (moved_place c) 0 c.start same front all
-
-    front_places : (p : PartForm) → AllTokens 0 c.start (part_pieces p)
-        → places_in other (p ∷ []) ≡ map (moved_place c) (places_in text (p ∷ []))
-    front_places p all =
-        let both = subst (AllTokens 0 c.start) (sym (append-nil (part_pieces p))) all in
-        sym (ap (places_in other) (parts_kept (moved_place c) 0 c.start keep (p ∷ []) both))
-        ∙ places_same text other (moved_place c) 0 c.start same (p ∷ []) both
-
-    form_kept : (p : PartForm) → AllTokens 0 c.start (part_pieces p) → media_form other p
-        ≡ option_map (raised_media (moved_place c)) (media_form text p)
-    form_kept p all =
-        sym (ap (media_form other) (part_kept (moved_place c) 0 c.start keep p all))
-        ∙ form_same text other (moved_place c) 0 c.start same p all
-
-    media_kept : (p : PartForm) (m : MediaForm) → media_form text p ≡ Some m → AllTokens 0 c.start (part_pieces p)
-        → raised_media (moved_place c) m ≡ m
-    media_kept p m e all =
-        let i = media_is text p m e in
-        let tokens : AllTokens 0 c.start (part_pieces (at_rule m.keyword m.prelude (block i.first m.inside i.close))) =
-        subst (λ (x : PartForm). AllTokens 0 c.start (part_pieces x)) i.is all in
-        let both = form_in text 0 c.start p m e all in
-        let a = token_kept (moved_place c) 0 c.start keep m.keyword (tokens.0, tt) in
-        let b = tokens_kept (moved_place c) 0 c.start keep m.prelude both.0 in
-        let d = tokens_kept (moved_place c) 0 c.start keep m.inside both.1 in
-        λ k. record { keyword = a k; prelude = b k; inside = d k }
-
-    -- the laying out of what stays
-    laid_stays : (around : Option ℕ) (k : ℕ) (ps : List PartForm) (ls : List Laid) → AreLaid text around k ps ls
-        → AllTokens 0 c.start (flat ps) → AreLaid other around k ps ls
-    laid_stays around k ps ls are all =
-        subst (AreLaid other around k ps) (laid_kept (moved_place c) 0 c.start keep ls (laid_in 0 c.start text around k ps ls are all))
-        (subst (λ (qs : List PartForm). AreLaid other around k qs (map (raised_laid (moved_place c)) ls))
-        (parts_kept (moved_place c) 0 c.start keep ps all)
-        (laid_again text other (moved_place c) 0 c.start same around k ps ls are all))
-
     -- a part that stands before stays
     record BeforeToo (around : Option ℕ) (k j : ℕ) (p : PartForm) (within : List Laid) : Type 0 where
       within_in : LaidIn 0 c.start within
@@ -278,7 +229,8 @@ module _ (text other : List ℕ) (c : Cut) (lo hi : ℕ) (same : SamePart text o
         → AllTokens 0 c.start (part_pieces p) → BeforeToo around k j p within
     before_too around k _ _ _ (plain_before p is_none) all = record {
       within_in = tt;
-      are = λ qs out are. part_laid p qs out (form_kept p all ∙ ap (option_map (raised_media (moved_place c))) is_none) are;
+      are = λ qs out are. part_laid p qs out
+          (form_kept text other c same p all ∙ ap (option_map (raised_media (moved_place c))) is_none) are;
     }
     before_too around k _ _ _ (media_before p m inner within is own_parts inner_are) all =
         let inner_flat = flat_of block_level inner m.inside own_parts in
@@ -286,13 +238,16 @@ module _ (text other : List ℕ) (c : Cut) (lo hi : ℕ) (same : SamePart text o
         (form_in text 0 c.start p m is all).1 in
         let within_all = laid_in 0 c.start text (Some k) (suc k) inner within inner_are inner_tokens in
         let number : length (media_in text within) ≡ length (media_in other within) =
-        sym (ap (λ (ms : List MediaRule). length ms) (front_media within within_all) ∙ map_length _ (media_in text within)) in
+        sym (ap (λ (ms : List MediaRule). length ms) (front_media text other c same within within_all)
+        ∙ map_length _ (media_in text within)) in
         let form : media_form other p ≡ Some m =
-        form_kept p all ∙ ap (option_map (raised_media (moved_place c))) is ∙ ap Some (media_kept p m is all) in
+        form_kept text other c same p all ∙ ap (option_map (raised_media (moved_place c))) is
+        ∙ ap Some (media_kept text other c same p m is all) in
         record {
           within_in = within_all;
           are = λ qs out are.
-              media_laid p m inner qs within out form own_parts (laid_stays (Some k) (suc k) inner within inner_are inner_tokens)
+              media_laid p m inner qs within out form own_parts
+              (laid_stays text other c same (Some k) (suc k) inner within inner_are inner_tokens)
               (subst (λ (i : ℕ). AreLaid other around (suc k + i) qs out) number are);
         }
 
@@ -304,9 +259,9 @@ module _ (text other : List ℕ) (c : Cut) (lo hi : ℕ) (same : SamePart text o
         (rules_in text (laid around p ∷ within) ++ rs) (media_in text (laid around p ∷ within) ++ ms) (part_pieces p ++ xs) zs
     behind_front around k j p ps within ls rs ms xs zs n all too part =
         let front = laid around p ∷ within in
-        let a = front_rules front (all, too.within_in) in
-        let b = front_media front (all, too.within_in) in
-        let d = front_places p all in
+        let a = front_rules text other c same front (all, too.within_in) (any_moved text other (moved_place c) ended front) in
+        let b = front_media text other c same front (all, too.within_in) in
+        let d = front_places text other c same p all in
         record {
           parts = p ∷ n.parts;
           out = laid around p ∷ (within ++ n.out);
@@ -354,8 +309,8 @@ module _ (text other : List ℕ) (c : Cut) (lo hi : ℕ) (same : SamePart text o
         let p = at_rule m.keyword m.prelude (block first m.inside last) in
         let p2 = at_rule m.keyword m.prelude (block first (flat n.parts) last2) in
         let flat_ps2 = flat_raised (moved_place c) ps in
-        let keyword_kept = token_kept (moved_place c) 0 c.start keep m.keyword (lead.0, tt) in
-        let prelude_kept = tokens_kept (moved_place c) 0 c.start keep m.prelude lead.1 in
+        let keyword_kept = token_kept (moved_place c) 0 c.start (keep c) m.keyword (lead.0, tt) in
+        let prelude_kept = tokens_kept (moved_place c) 0 c.start (keep c) m.prelude lead.1 in
         let named : names_media other m.keyword m.keyword.kind ≡ true =
         sym (ap (λ (t : Token). names_media other t m.keyword.kind) keyword_kept)
         ∙ names_same text other (moved_place c) 0 c.start same m.keyword m.keyword.kind lead.0

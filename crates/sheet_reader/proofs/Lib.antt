@@ -34,6 +34,7 @@ pub mod MoveAround
 pub mod BlockMoves
 pub mod LaidMoves
 pub mod RulePaths
+pub mod KeptFronts
 pub mod MovedParts
 pub mod MovedLaw
 pub mod ClearBodies

@@ -1,5 +1,5 @@
 -- The parts of a sheet where the body of one rule is replaced, through the media rules around it.
-use Rattle.std.proofs.Common.{◌≡◌, ◌⊎◌, inl, inr, ℕ, suc, ◌+◌, ◌-◌, ◌≤◌, Bool, true, false, cond, List, [], ◌∷◌, ◌++◌, map, length}
+use Rattle.std.proofs.Common.{◌≡◌, ◌⊎◌, inl, inr, ℕ, suc, ◌+◌, ◌-◌, Bool, true, false, cond, List, [], ◌∷◌, ◌++◌, map, length}
 use Rattle.std.proofs.Common.{Option, Some, None, refl, sym, ap, subst, ◌∙◌, append_assoc}
 use Rattle.std.specs.Prelude.{option_map, option_to_list}
 use Rattle.std.proofs.lemmas.List.{append-nil}
@@ -19,16 +19,16 @@ use Rattle.sheet_reader.specs.Grammar.{outside, IsEnding, IsPart, at_rule_part, 
 use Rattle.sheet_reader.proofs.Raised.{raised, raised_part, raised_laid, raised_media, flat}
 use Rattle.sheet_reader.specs.Moves.{placed_media, placed_rule, rebodied}
 use Rattle.sheet_reader.proofs.FrameForms.{media_append, media_cons}
-use Rattle.sheet_reader.proofs.UsableForms.{media_is, rules_append, no_rule}
+use Rattle.sheet_reader.proofs.UsableForms.{rules_append, no_rule}
 use Rattle.sheet_reader.proofs.PartMoves.{AreFlat, flat_of, flat_parts, cons_follows, values_rest, part_rest, new_rule, to_list_raised}
 use Rattle.sheet_reader.proofs.PartMoves.{map_append, map_length}
 use Rattle.sheet_reader.proofs.WordMoves.{SamePart}
-use Rattle.sheet_reader.proofs.ReadMoves.{AllTokens, tokens_split, LaidIn, LaidMoved, form_in, form_same, names_same, rules_same}
+use Rattle.sheet_reader.proofs.ReadMoves.{AllTokens, tokens_split, LaidIn, LaidMoved, form_in, names_same, rules_same}
 use Rattle.sheet_reader.proofs.ReadMoves.{media_same}
 use Rattle.sheet_reader.proofs.ReadMoves.{media_rule_same, places_same}
 use Rattle.sheet_reader.proofs.BlockMoves.{ends_again}
-use Rattle.sheet_reader.proofs.LaidMoves.{laid_in, laid_again, flat_raised, flat_again, stays, token_kept, tokens_kept, part_kept}
-use Rattle.sheet_reader.proofs.LaidMoves.{parts_kept, laid_kept}
+use Rattle.sheet_reader.proofs.KeptFronts.{keep, front_rules, front_media, front_places, form_kept, media_kept, laid_stays}
+use Rattle.sheet_reader.proofs.LaidMoves.{laid_in, laid_again, flat_raised, flat_again, token_kept, tokens_kept}
 use Rattle.sheet_reader.proofs.LaidMoves.{part_shut, shut_moved, media_shut, laid_shut, none_behind}
 use Rattle.sheet_reader.proofs.RulePaths.{RulePart, rule_part, Path, here, past_part, past_media, in_media, path_flat, path_over, RuleEnds}
 use Rattle.sheet_reader.proofs.RulePaths.{nested_flat}
@@ -108,28 +108,6 @@ module _ (text other : List ℕ) (c : Cut) (own : List Token) (declared : List P
     (place : option_to_list (closing_place (option_map (raised (far c)) q.close))
     ≡ map (moved_place c) (option_to_list (closing_place q.close)))
   where
-    keep : (x : ℕ) → 0 ≤ x → x ≤ c.start → moved_place c x ≡ x
-    keep x a b = stays c x b
-
-    front_rules : (front : List Laid) → LaidIn 0 c.start front → LaidMoved text other (moved_place c) front
-        → rules_in other front ≡ map (placed_rule (moved_place c)) (rules_in text front)
-    front_rules front all moved =
-        sym (ap (rules_in other) (laid_kept (moved_place c) 0 c.start keep front all))
-        ∙ rules_same text other (moved_place c) 0 c.start same front all moved
-
-    front_media : (front : List Laid) → LaidIn 0 c.start front → media_in other front
-        ≡ map (placed_media (moved_place c)) (media_in text front)
-    front_media front all =
-        sym (ap (media_in other) (laid_kept (moved_place c) 0 c.start keep front all))
-        ∙ media_same text other (moved_place c) 0 c.start same front all
-
-    front_places : (p : PartForm) → AllTokens 0 c.start (part_pieces p)
-        → places_in other (p ∷ []) ≡ map (moved_place c) (places_in text (p ∷ []))
-    front_places p all =
-        let both = subst (AllTokens 0 c.start) (sym (append-nil (part_pieces p))) all in
-        sym (ap (places_in other) (parts_kept (moved_place c) 0 c.start keep (p ∷ []) both))
-        ∙ places_same text other (moved_place c) 0 c.start same (p ∷ []) both
-
     -- what stands before stays
     past : (around : Option ℕ) (k j : ℕ) (p : PartForm) (ps : List PartForm) (within ls : List Laid) (rs : List RuleForm)
         (xs more : List Token)
@@ -144,9 +122,9 @@ module _ (text other : List ℕ) (c : Cut) (own : List Token) (declared : List P
     unfolding places_in
     past around k j p ps within ls rs xs more m all within_all moved front_rest are =
         let front = laid around p ∷ within in
-        let a = front_rules front (all, within_all) moved in
-        let b = front_media front (all, within_all) in
-        let d = front_places p all in
+        let a = front_rules text other c same front (all, within_all) moved in
+        let b = front_media text other c same front (all, within_all) in
+        let d = front_places text other c same p all in
         record {
           parts = p ∷ m.parts;
           out = laid around p ∷ (within ++ m.out);
@@ -167,34 +145,6 @@ module _ (text other : List ℕ) (c : Cut) (own : List Token) (declared : List P
               ∙ sym (map_append (moved_place c) (places_in text (p ∷ [])) (places_in text ps))
               ∙ ap (map (moved_place c)) (sym (places_cons text p ps));
         }
-
-    form_kept : (p : PartForm) → AllTokens 0 c.start (part_pieces p) → media_form other p
-        ≡ option_map (raised_media (moved_place c)) (media_form text p)
-    form_kept p all =
-        sym (ap (media_form other) (part_kept (moved_place c) 0 c.start keep p all))
-        ∙ form_same text other (moved_place c) 0 c.start same p all
-
-    media_kept : (p : PartForm) (m : MediaForm) → media_form text p ≡ Some m → AllTokens 0 c.start (part_pieces p)
-        → raised_media (moved_place c) m ≡ m
-    media_kept p m e all =
-        let i = media_is text p m e in
-        let tokens : AllTokens 0 c.start (part_pieces (at_rule m.keyword m.prelude (block i.first m.inside i.close))) =
-        subst (λ (x : PartForm). AllTokens 0 c.start (part_pieces x)) i.is all in
-        let both = form_in text 0 c.start p m e all in
-        let a = token_kept (moved_place c) 0 c.start keep m.keyword (tokens.0, tt) in
-        let b = tokens_kept (moved_place c) 0 c.start keep m.prelude both.0 in
-        let d = tokens_kept (moved_place c) 0 c.start keep m.inside both.1 in
-        λ k. record { keyword = a k; prelude = b k; inside = d k }
-
-    -- the laying out of what stays
-    laid_stays : (around : Option ℕ) (k : ℕ) (ps : List PartForm) (ls : List Laid) → AreLaid text around k ps ls
-        → AllTokens 0 c.start (flat ps)
-        → AreLaid other around k ps ls
-    laid_stays around k ps ls are all =
-        subst (AreLaid other around k ps) (laid_kept (moved_place c) 0 c.start keep ls (laid_in 0 c.start text around k ps ls are all))
-        (subst (λ (qs : List PartForm). AreLaid other around k qs (map (raised_laid (moved_place c)) ls))
-        (parts_kept (moved_place c) 0 c.start keep ps all)
-        (laid_again text other (moved_place c) 0 c.start same around k ps ls are all))
 
     -- the rule's own part, with the parts behind it
     at_rule_itself : (around : Option ℕ) (k : ℕ) (ps : List PartForm) (ls : List Laid) → AreLaid text around k ps ls
@@ -258,8 +208,8 @@ module _ (text other : List ℕ) (c : Cut) (own : List Token) (declared : List P
         let p2 = at_rule m.keyword m.prelude (block first (flat n.parts) last2) in
         let close2 = option_to_list (option_map (raised (far c)) q.close) in
         let flat_ps2 = flat_raised (moved_place c) ps in
-        let keyword_kept = token_kept (moved_place c) 0 c.start keep m.keyword (lead.0, tt) in
-        let prelude_kept = tokens_kept (moved_place c) 0 c.start keep m.prelude lead.1 in
+        let keyword_kept = token_kept (moved_place c) 0 c.start (keep c) m.keyword (lead.0, tt) in
+        let prelude_kept = tokens_kept (moved_place c) 0 c.start (keep c) m.prelude lead.1 in
         let named : names_media other m.keyword m.keyword.kind ≡ true =
         sym (ap (λ (t : Token). names_media other t m.keyword.kind) keyword_kept)
         ∙ names_same text other (moved_place c) 0 c.start same m.keyword m.keyword.kind lead.0
@@ -331,7 +281,7 @@ module _ (text other : List ℕ) (c : Cut) (own : List Token) (declared : List P
         let both = tokens_split 0 c.start (part_pieces p) xs lead in
         let n = moved_parts around k ps ls rs xs more path all.1 both.1 tail ended in
         let some : flat ps ≡ [] → ⊥ = λ e. append_some xs q.brace _ (sym (path_flat text r q around k ps ls rs xs more path) ∙ e) in
-        let form = form_kept p both.0 ∙ ap (option_map (raised_media (moved_place c))) none in
+        let form = form_kept text other c same p both.0 ∙ ap (option_map (raised_media (moved_place c))) none in
         past around k k p ps [] ls rs xs more n both.0 tt
         (shut_moved text other (moved_place c) p (part_shut (level_of around) p (flat ps) some all.0), tt)
         (part_rest (level_of around) p (flat ps) (flat n.parts) some all.0)
@@ -347,16 +297,18 @@ module _ (text other : List ℕ) (c : Cut) (own : List Token) (declared : List P
         (form_in text 0 c.start p m is both.0).1 in
         let within_in = laid_in 0 c.start text (Some k) (suc k) inner within inner_are inner_tokens in
         let count : length (media_in text within) ≡ length (media_in other within) =
-        sym (ap length (front_media within within_in) ∙ map_length _ (media_in text within)) in
+        sym (ap length (front_media text other c same within within_in) ∙ map_length _ (media_in text within)) in
         let form : media_form other p ≡ Some m =
-        form_kept p both.0 ∙ ap (option_map (raised_media (moved_place c))) is ∙ ap Some (media_kept p m is both.0) in
+        form_kept text other c same p both.0 ∙ ap (option_map (raised_media (moved_place c))) is
+        ∙ ap Some (media_kept text other c same p m is both.0) in
         past around k j p ps within ls rs xs more n both.0 within_in (
           shut_moved text other (moved_place c) p shut,
           laid_shut text other (moved_place c) (Some k) (suc k) inner within inner_are Inner inner_flat.1
               (media_shut (level_of around) text p m inner (flat ps) is own_parts all.0 shut),
         )
         (part_rest (level_of around) p (flat ps) (flat n.parts) some all.0)
-        (media_laid p m inner n.parts within n.out form own_parts (laid_stays (Some k) (suc k) inner within inner_are inner_tokens)
+        (media_laid p m inner n.parts within n.out form own_parts
+        (laid_stays text other c same (Some k) (suc k) inner within inner_are inner_tokens)
         (subst (λ (i : ℕ). AreLaid other around (suc k + i) n.parts n.out) count n.are_laid))
     moved_parts around k _ _ _ _ _ (in_media m first last inner ps within ls rs xs more is own_parts path are) all lead tail ended =
         let whole = in_media m first last inner ps within ls rs xs more is own_parts path are in
