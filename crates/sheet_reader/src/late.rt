@@ -1,6 +1,6 @@
 //! Style rules of which the last ones are moved later: edits of bodies in the order of the text move each rule once.
 
-ghost use Rattle.std.specs.Prelude.{◌≡◌, ◌⊎◌, ◌<◌, ◌≤◌, ◌+◌, All, length, map, IfSome, IfNone, IsSomeAnd, slice_get};
+ghost use Rattle.std.specs.Prelude.{◌≡◌, ◌⊎◌, ◌<◌, ◌≤◌, ◌+◌, All, length, map, take, IfSome, IfNone, IsSomeAnd, slice_get};
 ghost use Rattle.selectors.specs.Moves.{moved_place, placed_range, CanPlaceRange};
 ghost use Rattle.sheet_reader.specs.Forms.{rule_seen};
 ghost use Rattle.sheet_reader.specs.Late.{cut_at, late_rules, AreLate, CanRebody, HasOther};
@@ -111,6 +111,7 @@ fn number_among(rules: &[StyleRule], moved: usize, late: Gap, body: Range) -> Op
     requires inside { moved ≤ length rules.now }
     requires late { AreLate (cut_at late) moved (map rule_seen rules.now) }
     ensures some { IfSome result (λ k. IsSomeAnd (slice_get (late_rules (cut_at late) moved (map rule_seen rules.now)) k) (HasBody body)) }
+    ensures first { IfSome result (λ k. All (HasOther body) (take k (late_rules (cut_at late) moved (map rule_seen rules.now)))) }
     ensures none { IfNone result (All (HasOther body) (late_rules (cut_at late) moved (map rule_seen rules.now))) }
 {
     for i in 0..rules.len() {

@@ -1,7 +1,7 @@
 //! Readings of which a part, between two ends of parts at top level, is read anew.
 
 ghost use Rattle.std.specs.Prelude.{◌≡◌, ◌<◌, ◌≤◌, ◌+◌, ◌-◌, ◌++◌, [], All, length, map, take, drop, slice_get, vec_capacity, IfOk, IfSome};
-ghost use Rattle.std.specs.Prelude.{nat_le, ◌==◌, ◌&&◌, true, Some};
+ghost use Rattle.std.specs.Prelude.{nat_le, ◌==◌, ◌&&◌, true, false, Some};
 ghost use Rattle.std.specs.List.{prefix_len};
 ghost use Rattle.node_tree.specs.Numbers.{number_limit};
 ghost use Rattle.selectors.specs.Moves.{cut, moved_place, CanPlace};
@@ -229,6 +229,7 @@ fn raised_places(
 fn is_shut(text: &[u8], place: usize) -> bool
     ensures some { result ≡ true → 0 < place }
     ensures shut { result ≡ true → slice_get text.now (place - 1) ≡ Some 125 }
+    ensures other { result ≡ false → 0 < place → slice_get text.now (place - 1) ≡ Some 125 → ⊥ }
 {
     if place == 0 {
         return false;
@@ -241,7 +242,8 @@ fn is_shut(text: &[u8], place: usize) -> bool
 
 /// The place with this number, where a `}` stands before it.
 fn seam_at(text: &[u8], places: &[usize], i: usize) -> Option<usize>
-    ensures { IfSome result (IsShutPlace text.now places.now) }
+    ensures shut { IfSome result (IsShutPlace text.now places.now) }
+    ensures own { IfSome result (λ place. slice_get places.now i ≡ Some place) }
 {
     let place = places.get(i)?;
     if is_shut(text, *place) {

@@ -128,7 +128,8 @@ fn plan_part(
 
 /// How the reading of a text becomes that of another one, in which `put` stands in the place of a part. Where a rule has its body
 /// there and `put` is sealed, only `put` is read. Else, where `put` stands between two ends of rules with blocks at top level, media
-/// rules among them, only what stands between them is read; and otherwise the whole of the new text.
+/// rules among them, only what stands between them is read; and otherwise the whole of the new text. How much of it is
+/// read is in no clause.
 pub fn plan_reread(
     alloc: Global,
     old: &Sheet,

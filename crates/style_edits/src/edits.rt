@@ -162,6 +162,7 @@ pub(crate) fn keep(
     requires { IsEntry entry.now }
     ensures kept { OnOk result (list_any (λ old. old.id == entry.now.id) olds.new.items ≡ true) }
     ensures olds { Keeps entry.now olds.old.items olds.new.items }
+    ensures once { list_any (λ old. old.id == entry.now.id) olds.old.items ≡ true → olds.new.items ≡ olds.old.items }
 {
     if is_kept(olds.as_slice(), entry.id) {
         return Ok(());

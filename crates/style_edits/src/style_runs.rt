@@ -138,6 +138,7 @@ fn blank(alloc: Global, id: u64) -> Result<SheetEntry, AllocError>
     requires some { 0 < id }
     requires id { id < counted_limit }
     ensures id { IfOk result (λ e. e.id ≡ id) }
+    ensures text { IfOk result (λ e. e.text ≡ []) }
     ensures entry { IfOk result IsEntry }
 {
     let reading = read_sheet(alloc, "")?;

@@ -27,6 +27,9 @@ returns-then-is_same-clause-some c =
     (body_seen rule_seen (cut_at c.args.late) c.args.moved c.args.rules.now c.loop-i.i c.index-rules-i.result c.late_body.result
     (omega (arith, c.loop-i-test.true)) c.index-rules-i.is c.late_body.ensures.front c.late_body.ensures.rest)
 
+pub returns-then-is_same-clause-first : goal.returns-then-is_same-clause-first
+returns-then-is_same-clause-first c = c.loop-i.invariant
+
 pub loop-i-preserved : goal.loop-i-preserved
 loop-i-preserved c =
     other_more c.args.body c.late_body.result (late_rules (cut_at c.args.late) c.args.moved (map rule_seen c.args.rules.now)) c.loop-i.i
