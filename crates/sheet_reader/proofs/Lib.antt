@@ -67,3 +67,4 @@ pub mod LineEnds
 pub mod SealedSeams
 pub mod MediaStarts
 pub mod MediaPreludes
+pub mod FilingForms

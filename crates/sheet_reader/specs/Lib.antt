@@ -21,3 +21,4 @@ pub mod Joins
 pub mod SelectorLists
 pub mod Solids
 pub mod Preludes
+pub mod Filings

@@ -93,7 +93,7 @@ fn joined<T: Drop>(mut front: Vec<T>, mut new: Vec<T>, mut back: Vec<T>) -> Vec<
 
 /// The rules of a sheet with new ones in the place of a share of them, and those behind moved.
 fn repaired_rules(
-    old: StyleRules,
+    mut old: StyleRules,
     share: Share,
     new: Vec<StyleRule>,
     mut room: Vec<StyleRule>,
@@ -106,9 +106,11 @@ fn repaired_rules(
     requires behind { All (CanPlaceRule (cut gap.start gap.end gap.size)) (drop share.to old) }
     ensures { result ≡ shared (placed_rule (moved_place (cut gap.start gap.end gap.size))) share (map rule_seen new.items) old }
 {
+    let mut digests = old.take_digests();
+    digests.truncate(share.before);
     divided(old.into_vec(), share, &mut room, &mut rest);
     move_rules(&mut rest, gap);
-    StyleRules::new(joined(room, new, rest))
+    StyleRules::with_digests(joined(room, new, rest), digests)
 }
 
 /// The places of a sheet with new ones in the place of a share of them, and those behind moved.

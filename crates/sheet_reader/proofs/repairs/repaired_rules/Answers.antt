@@ -12,8 +12,11 @@ pub move_rules-requires : goal.move_rules-requires
 move_rules-requires c =
     let left : map rule_seen c.deref_mut.result.now ≡ drop c.args.share.to c.args.old =
     ap (map rule_seen) (c.deref_mut.ensures.value ∙ c.divided.ensures.back)
-    ∙ sym (map_drop rule_seen c.args.share.to c.into_vec.result.items) ∙ ap (drop c.args.share.to) c.into_vec.ensures in
+    ∙ sym (map_drop rule_seen c.args.share.to c.into_vec.result.items) ∙ ap (drop c.args.share.to) (c.into_vec.ensures ∙ c.take_digests.ensures.same) in
     subst (All (CanPlaceRule (cut c.args.gap.start c.args.gap.end c.args.gap.size))) (sym left) c.requires.behind
+
+pub with_digests-requires : goal.with_digests-requires
+with_digests-requires c = ?
 
 pub returns : goal.returns
 returns c =
@@ -21,13 +24,13 @@ returns c =
     let items = c.into_vec.result.items in
     let left : map rule_seen c.deref_mut.result.now ≡ drop c.args.share.to c.args.old =
     ap (map rule_seen) (c.deref_mut.ensures.value ∙ c.divided.ensures.back)
-    ∙ sym (map_drop rule_seen c.args.share.to items) ∙ ap (drop c.args.share.to) c.into_vec.ensures in
+    ∙ sym (map_drop rule_seen c.args.share.to items) ∙ ap (drop c.args.share.to) (c.into_vec.ensures ∙ c.take_digests.ensures.same) in
     let front : map rule_seen c.divided.new.front.items ≡ take c.args.share.before c.args.old =
     ap (map rule_seen) c.divided.ensures.front ∙ sym (map_take rule_seen c.args.share.before items)
-    ∙ ap (take c.args.share.before) c.into_vec.ensures in
+    ∙ ap (take c.args.share.before) (c.into_vec.ensures ∙ c.take_digests.ensures.same) in
     let kept : length c.move_rules.new.rules ≡ length c.deref_mut.result.now = c.move_rules.auto.rules in
     let back = lent c.divided.new.back.len c.move_rules.new.rules c.divided.new.back.items (kept ∙ c.deref_mut.ensures.len)
     (kept ∙ ap length c.deref_mut.ensures.value) in
     let moved = c.move_rules.ensures ∙ ap (map f) left in
-    c.new.ensures ∙ joined_seen c.joined.result.items c.divided.new.front.items c.args.new.items _ c.joined.ensures
+    c.with_digests.ensures ∙ joined_seen c.joined.result.items c.divided.new.front.items c.args.new.items _ c.joined.ensures
     ∙ (λ i. front i ++ (map rule_seen c.args.new.items ++ (ap (map rule_seen) back ∙ moved) i))
