@@ -1,6 +1,7 @@
 -- An element that a selector matches has what the selector is filed under, and so the number of that is one of its own.
-use Rattle.std.proofs.Common.{◌≡◌, ℕ, zero, suc, slice_get, ◌+◌, ◌*◌, ◌%◌, ◌==◌, Bool, true, false, cond, not, ◌&&◌, ◌||◌, List, [], ◌∷◌, ◌++◌, map, reverse, fold}
-use Rattle.std.proofs.Common.{Option, Some, None, option_map, option_to_list, codes, bytes_eq, filter, refl, sym, ap, ◌∙◌, subst, eq-eqb, eqb-true}
+use Rattle.std.proofs.Common.{◌≡◌, ℕ, zero, suc, ◌+◌, ◌*◌, ◌%◌, ◌==◌, Bool, true, false, cond, not, ◌&&◌, ◌||◌, List, [], ◌∷◌, ◌++◌}
+use Rattle.std.proofs.Common.{map, reverse, fold, filter, slice_get, Option, Some, None, option_map, option_to_list, codes, bytes_eq}
+use Rattle.std.proofs.Common.{refl, sym, ap, ◌∙◌, subst, eq-eqb, eqb-true}
 use Rattle.std.proofs.lemmas.Slice.Eq.{bytes_eq-Decides}
 use Rattle.std.specs.Char.{is_ascii_whitespace, to_ascii_lowercase}
 use Rattle.std.specs.List.{list_any, list_all, slice_split}
@@ -16,8 +17,9 @@ use Rattle.select_match.specs.Subjects.{pieces_in, element_id, class_pieces}
 use Rattle.sheet_reader.specs.declared.filings.NameKind.{NameKind}
 use Rattle.sheet_reader.specs.declared.filings.NameKind.TheVariants.{Tag, Id, Class}
 use Rattle.sheet_reader.specs.Forms.{RuleForm}
-use Rattle.sheet_reader.specs.Filings.{Filing, named, test_filing, simple_filing, last_filing, first_filing, filing, digest_base, digest_limit}
-use Rattle.sheet_reader.specs.Filings.{kind_digit, with_digit, name_digest, filing_digest, selector_digest, agreed, list_digest, rule_digest}
+use Rattle.sheet_reader.specs.Filings.{Filing, named, test_filing, simple_filing, last_filing, first_filing, filing}
+use Rattle.sheet_reader.specs.Filings.{digest_base, digest_limit, kind_digit, with_digit, name_digest, filing_digest, selector_digest}
+use Rattle.sheet_reader.specs.Filings.{agreed, list_digest, rule_digest}
 use Rattle.sheet_reader.specs.Around.{held_at}
 use Rattle.cascade_match.specs.declared.keys.Key.{Key}
 use Rattle.cascade_match.specs.declared.hits.Hit.{Hit}
@@ -171,7 +173,8 @@ is_told n z = list_any (λ d. d == n) (element_digests z)
 selector-told : (s : SelectorForm) (n : ℕ) (z : Zipper) → selector_digest s ≡ Some n → selector_matches s z ≡ true → is_told n z ≡ true
 selector-told s n z e h = by (filing s) (λ f at. selector-has s f z at h) e
   where
-    by : (o : Option Filing) → ((f : Filing) → o ≡ Some f → has_filing f z ≡ true) → option_map filing_digest o ≡ Some n → is_told n z ≡ true
+    by : (o : Option Filing) → ((f : Filing) → o ≡ Some f → has_filing f z ≡ true) → option_map filing_digest o ≡ Some n
+        → is_told n z ≡ true
     by None has at = absurd (cc)
     by (Some f) has at =
         let same : filing_digest f ≡ n = cc in
@@ -205,7 +208,8 @@ list-told (s ∷ ss) z h = by (list_digest (s ∷ ss)) refl
         either (selector_matches s z) (list_matches ss z) (selector-told s n z rest.0) rest.1 h
 
 -- no selector of a rule matches that has none of the element's numbers
-pub rule-unmatched : (r : RuleForm) (z : Zipper) → may_match (rule_digest r) (element_digests z) ≡ false → list_matches r.selectors z ≡ false
+pub rule-unmatched : (r : RuleForm) (z : Zipper) → may_match (rule_digest r) (element_digests z) ≡ false
+    → list_matches r.selectors z ≡ false
 rule-unmatched r z e = by (list_matches r.selectors z) (list-told r.selectors z)
   where
     by : (b : Bool) → (b ≡ true → may_match (rule_digest r) (element_digests z) ≡ true) → b ≡ false

@@ -1,6 +1,6 @@
 -- The numbers of what selectors and rules are filed under: one after the other, and where rules are moved.
-use Rattle.std.proofs.Common.{◌≡◌, ℕ, zero, suc, ◌+◌, ◌<◌, ◌≤◌, List, [], ◌∷◌, ◌++◌, map, take, drop, length, get_or, fold, Option, Some, None}
-use Rattle.std.proofs.Common.{refl, ap, sym, ◌∙◌, arith}
+use Rattle.std.proofs.Common.{◌≡◌, ℕ, zero, suc, ◌+◌, ◌<◌, ◌≤◌, List, [], ◌∷◌, ◌++◌, map, take, drop, length, get_or, fold, Option, Some}
+use Rattle.std.proofs.Common.{refl, ap, sym, ◌∙◌, subst}
 use Rattle.std.proofs.lemmas.List.{drop_more, drop_all}
 use Rattle.std.proofs.lemmas.Option.{slice_get_within, get_or_from_slice_get}
 use Rattle.std.specs.List.{slice_get}
@@ -9,7 +9,8 @@ use Rattle.selectors.specs.declared.selector.Simple.{Simple}
 use Rattle.selectors.specs.Forms.{SelectorForm, SimpleForm, simple_seen}
 use Rattle.selectors.specs.Moves.{Cut, moved_place, placed_selector}
 use Rattle.sheet_reader.specs.declared.sheet.Property.{Property}
-use Rattle.sheet_reader.specs.Forms.{RuleForm}
+use Rattle.sheet_reader.specs.declared.sheet.StyleRule.{StyleRule}
+use Rattle.sheet_reader.specs.Forms.{RuleForm, rule_seen}
 use Rattle.sheet_reader.specs.Moves.{placed_rule, moved_rules}
 use Rattle.sheet_reader.specs.Filings.{Filing, simple_filing, last_filing, filing_digest, selector_digest, agreed, list_digest, rule_digest}
 use Rattle.sheet_reader.specs.Filings.{AreDigests}
@@ -104,10 +105,20 @@ module _ {A : Type 0} where
       let tail : ds ≡ take (length ds) xs = cc in
       λ i. head i ∷ front-fewer n ds xs ys tail i
 
--- rules are kept up to a place
-pub digests-fewer : (n : ℕ) (digests : List (Option ℕ)) (rs rest : List RuleForm) → AreDigests digests rs
+digests-fewer : (n : ℕ) (digests : List (Option ℕ)) (rs rest : List RuleForm) → AreDigests digests rs
     → AreDigests (take n digests) (take n rs ++ rest)
 digests-fewer n digests rs rest are =
     front-fewer n digests (map rule_digest rs) (map rule_digest rest) are
     ∙ sym (ap (take (length (take n digests)))
     (map_append rule_digest (take n rs) rest ∙ ap (λ (l : List (Option ℕ)). l ++ map rule_digest rest) (sym (map_take rule_digest n rs))))
+
+-- rules are kept up to a place, and others stand behind them
+pub digests-joined : (n : ℕ) (digests kept : List (Option ℕ)) (rs : List RuleForm) (all front new back : List StyleRule)
+    → AreDigests digests rs → kept ≡ take n digests → all ≡ front ++ (new ++ back) → map rule_seen front ≡ take n rs
+    → AreDigests kept (map rule_seen all)
+digests-joined n digests kept rs all front new back are is made seen =
+    let rest = map rule_seen (new ++ back) in
+    let whole : take n rs ++ rest ≡ map rule_seen all =
+    sym (ap (map rule_seen) made ∙ map_append rule_seen front (new ++ back) ∙ ap (λ (l : List RuleForm). l ++ rest) seen) in
+    subst (λ (ds : List (Option ℕ)). AreDigests ds (map rule_seen all)) (sym is)
+    (subst (AreDigests (take n digests)) whole (digests-fewer n digests rs rest are))

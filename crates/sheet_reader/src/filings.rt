@@ -1,11 +1,11 @@
 //! Numbers of what style rules are filed under: most rules that cannot match an element are told by them, with no look at the rule.
 
 ghost use Rattle.std.specs.Prelude.{◌≡◌, map, option_map, reverse};
+ghost use Rattle.std.specs.Option.{option_or};
 ghost use Rattle.selectors.specs.Forms.{test_seen, simple_seen, compound_seen, selector_seen};
 ghost use Rattle.selectors.specs.Lists.{list_seen};
-ghost use Rattle.sheet_reader.specs.Filings.{test_filing, simple_filing, last_filing, first_filing, filing_digest, selector_digest, kind_digit};
-ghost use Rattle.sheet_reader.specs.Filings.{with_digit, name_digest, agreed, list_digest};
-ghost use Rattle.std.specs.Option.{option_or};
+ghost use Rattle.sheet_reader.specs.Filings.{test_filing, simple_filing, last_filing, first_filing, filing_digest, selector_digest};
+ghost use Rattle.sheet_reader.specs.Filings.{kind_digit, with_digit, name_digest, agreed, list_digest};
 
 use selectors::{Compound, Selector, SelectorList, Simple, Test};
 
@@ -117,13 +117,7 @@ fn agreed(first: Option<u32>, second: Option<u32>) -> Option<u32>
     ensures { result ≡ agreed first second }
 {
     match (first, second) {
-        (Some(number), Some(other)) => {
-            if number == other {
-                Some(number)
-            } else {
-                None
-            }
-        }
+        (Some(number), Some(other)) => { if number == other { Some(number) } else { None } }
         _ => None,
     }
 }
