@@ -1,6 +1,6 @@
 -- An element that a selector matches has what the selector is filed under, and so the number of that is one of its own.
 use Rattle.std.proofs.Common.{◌≡◌, ℕ, zero, suc, ◌+◌, ◌*◌, ◌%◌, ◌==◌, Bool, true, false, cond, not, ◌&&◌, ◌||◌, List, [], ◌∷◌, ◌++◌}
-use Rattle.std.proofs.Common.{map, reverse, fold, filter, slice_get, Option, Some, None, option_map, option_to_list, codes, bytes_eq}
+use Rattle.std.proofs.Common.{map, drop, reverse, fold, filter, slice_get, Option, Some, None, option_map, option_to_list, codes, bytes_eq}
 use Rattle.std.proofs.Common.{refl, sym, ap, ◌∙◌, subst, eq-eqb, eqb-true}
 use Rattle.std.proofs.lemmas.Slice.Eq.{bytes_eq-Decides}
 use Rattle.std.specs.Char.{is_ascii_whitespace, to_ascii_lowercase}
@@ -23,8 +23,9 @@ use Rattle.sheet_reader.specs.Filings.{agreed, list_digest, rule_digest}
 use Rattle.sheet_reader.specs.Around.{held_at}
 use Rattle.cascade_match.specs.declared.keys.Key.{Key}
 use Rattle.cascade_match.specs.declared.hits.Hit.{Hit}
-use Rattle.cascade_match.specs.Matched.{places_matching, greatest, Source, entry_by, keyed_rule, all_entered}
+use Rattle.cascade_match.specs.Matched.{places_matching, greatest, Source, entry_by, keyed_rule, entries_of_rules, all_entered}
 use Rattle.cascade_match.specs.ElementNames.{has_named, has_filing, element_digests, may_match}
+use Rattle.cascade_match.proofs.MatchLemmas.{drop-at, rules-step}
 use Rattle.cascade_match.proofs.StandingLemmas.{has_some, some_place}
 
 -- ---- tests of two and more
@@ -148,21 +149,26 @@ class-there (Some value) name h =
     let pieces = slice_split is_ascii_whitespace value in
     piece-there pieces name (any-of (λ w. bytes_eq w name) (λ piece. not (has_no_byte piece)) pieces h)
 
+abbrev ids_of : Zipper → List ℕ
+ids_of z = option_to_list (option_map (name_digest Id) (element_id z))
+
+abbrev classes_of : Zipper → List ℕ
+classes_of z = map (name_digest Class) (class_pieces z)
+
 name-there : (kind : NameKind) (name : List ℕ) (z : Zipper) → has_named kind name z ≡ true
     → list_any (λ d. d == name_digest kind name) (element_digests z) ≡ true
 name-there Tag name z h =
-    or_left (name_digest Tag (zipper_name z) == name_digest Tag name) _
+    let rest = list_any (λ d. d == name_digest Tag name) (ids_of z ++ classes_of z) in
+    or_left (name_digest Tag (zipper_name z) == name_digest Tag name) rest
     (eq-eqb (name_digest Tag (zipper_name z)) (name_digest Tag name) (same-digest Tag (zipper_name z) name h))
 name-there Id name z h =
-    let ids = option_to_list (option_map (name_digest Id) (element_id z)) in
-    let classes = map (name_digest Class) (class_pieces z) in
-    or_right (name_digest Tag (zipper_name z) == name_digest Id name) _
-    (any-left (λ d. d == name_digest Id name) ids classes (id-there (element_id z) name h))
+    let rest = list_any (λ d. d == name_digest Id name) (ids_of z ++ classes_of z) in
+    or_right (name_digest Tag (zipper_name z) == name_digest Id name) rest
+    (any-left (λ d. d == name_digest Id name) (ids_of z) (classes_of z) (id-there (element_id z) name h))
 name-there Class name z h =
-    let ids = option_to_list (option_map (name_digest Id) (element_id z)) in
-    let classes = map (name_digest Class) (class_pieces z) in
-    or_right (name_digest Tag (zipper_name z) == name_digest Class name) _
-    (any-right (λ d. d == name_digest Class name) ids classes
+    let rest = list_any (λ d. d == name_digest Class name) (ids_of z ++ classes_of z) in
+    or_right (name_digest Tag (zipper_name z) == name_digest Class name) rest
+    (any-right (λ d. d == name_digest Class name) (ids_of z) (classes_of z)
     (class-there (value_of (codes "class") (attributes_of z)) name h))
 
 -- ---- selectors, lists, rules
@@ -232,20 +238,19 @@ unmatched-entry from i r z e =
     ap (λ (ps : List ℕ). cond (held_at from.held r.media) (entry_by from i (greatest r.selectors z) ps) None) none
     ∙ no-entry (held_at from.held r.media)
 
-digest-is : (rs : List RuleForm) (i : ℕ) (r : RuleForm) (d : Option ℕ) → slice_get (map rule_digest rs) i ≡ Some d → slice_get rs i ≡ Some r
-    → d ≡ rule_digest r
-digest-is [] i r d e at = absurd (cc)
-digest-is (x ∷ rs) zero r d e at =
-    let same : x ≡ r = cc in
-    let told : rule_digest x ≡ d = cc in
-    sym told ∙ ap (λ (t : RuleForm). rule_digest t) same
-digest-is (x ∷ rs) (suc i) r d e at = digest-is rs i r d e at
+digest-rule : (rs : List RuleForm) (i : ℕ) (d : Option ℕ) → slice_get (map rule_digest rs) i ≡ Some d
+    → (r : RuleForm) × (slice_get rs i ≡ Some r) × (rule_digest r ≡ d)
+digest-rule [] i d e = absurd (cc)
+digest-rule (x ∷ rs) zero d e = let told : rule_digest x ≡ d = cc in (x, refl, told)
+digest-rule (x ∷ rs) (suc i) d e = digest-rule rs i d e
 
--- a rule at a place that none of the numbers is that of changes nothing
-pub untried : (from : Source) (i : ℕ) (rs : List RuleForm) (r : RuleForm) (z : Zipper) (d : Option ℕ) (names : List ℕ)
-    (entries : List (Key × Hit)) → slice_get (map rule_digest rs) i ≡ Some d → slice_get rs i ≡ Some r → names ≡ element_digests z
-    → may_match d names ≡ false → entries ≡ all_entered entries (option_to_list (keyed_rule from i r z))
-untried from i rs r z d names entries told at are e =
-    let none : may_match (rule_digest r) (element_digests z) ≡ false =
-    (λ j. may_match (sym (digest-is rs i r d told at) j) (sym are j)) ∙ e in
-    ap (λ (o : Option (Key × Hit)). all_entered entries (option_to_list o)) (sym (unmatched-entry from i r z none))
+-- a rule that has none of the element's numbers is passed over
+pub untried-step : (from : Source) (rs : List RuleForm) (z : Zipper) (i : ℕ) (d : Option ℕ) (names : List ℕ) (entries : List (Key × Hit))
+    → slice_get (map rule_digest rs) i ≡ Some d → names ≡ element_digests z → may_match d names ≡ false
+    → all_entered entries (entries_of_rules from (i + 1) (drop (i + 1) rs) z)
+    ≡ all_entered entries (entries_of_rules from i (drop i rs) z)
+untried-step from rs z i d names entries told are e =
+    let p = digest-rule rs i d told in
+    let none : may_match (rule_digest p.0) (element_digests z) ≡ false = (λ j. may_match (p.2 j) (sym are j)) ∙ e in
+    rules-step from rs z i p.0 entries entries (drop-at rs i p.0 p.1)
+    (ap (λ (o : Option (Key × Hit)). all_entered entries (option_to_list o)) (sym (unmatched-entry from i p.0 z none)))

@@ -73,17 +73,6 @@ rules-at xs rs i x seen inside is =
     (drop_more xs i x inside) ∙ ap (λ (y : StyleRule). rule_seen y ∷ map rule_seen (drop (i + 1) xs)) (sym is)
     ∙ ap (λ (l : List RuleForm). rule_seen x ∷ l) (sym (drop-map rule_seen (i + 1) xs) ∙ ap (λ (l : List RuleForm). drop (i + 1) l) seen)
 
-seen-there : (xs : List StyleRule) (i : ℕ) (x : StyleRule) → i < length xs → x ≡ get_or xs i x
-    → slice_get (map rule_seen xs) i ≡ Some (rule_seen x)
-seen-there [] i x inside is = absurd (omega (arith, inside))
-seen-there (y ∷ xs) zero x inside is = ap (λ (r : StyleRule). Some (rule_seen r)) (sym is)
-seen-there (y ∷ xs) (suc i) x inside is = seen-there xs i x (omega (arith, inside)) is
-
--- the same, looked up
-pub rule-there : (xs : List StyleRule) (rs : List RuleForm) (i : ℕ) (x : StyleRule) → map rule_seen xs ≡ rs → i < length xs
-    → x ≡ get_or xs i x → slice_get rs i ≡ Some (rule_seen x)
-rule-there xs rs i x seen inside is = ap (λ (l : List RuleForm). slice_get l i) (sym seen) ∙ seen-there xs i x inside is
-
 pub rules-step : (from : Source) (rs : List RuleForm) (z : Zipper) (i : ℕ) (r : RuleForm) (old new : List (Key × Hit))
     → drop i rs ≡ r ∷ drop (i + 1) rs → new ≡ all_entered old (option_to_list (keyed_rule from i r z))
     → all_entered new (entries_of_rules from (i + 1) (drop (i + 1) rs) z) ≡ all_entered old (entries_of_rules from i (drop i rs) z)

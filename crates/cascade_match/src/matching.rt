@@ -1,6 +1,6 @@
 //! The style rules that match an element, in the order in which they count.
 
-ghost use Rattle.std.specs.Prelude.{◌≡◌, ◌<◌, ◌++◌, ◌∷◌, [], cond, map, Some, slice_get, IfOk, OnOk, IsSome};
+ghost use Rattle.std.specs.Prelude.{◌≡◌, ◌<◌, ◌++◌, ◌∷◌, [], cond, map, IfOk, OnOk, IsSome};
 ghost use Rattle.std.specs.Prelude.{option_to_list};
 ghost use Rattle.page_tree.specs.Pages.{find_in};
 ghost use Rattle.page_tree.specs.Zippers.{zipper_at};
@@ -106,6 +106,7 @@ fn add_sheet(
     add_rules(alloc, judged, subject, found)
 }
 
+/// Looks at those rules alone that may match by their numbers.
 fn add_rules(
     alloc: Global,
     judged: Judged<'_>,
@@ -119,30 +120,12 @@ fn add_rules(
 {
     let rules = judged.sheet.reading.rules.as_slice();
     for i in 0..rules.len() {
-        try_rule(alloc, judged, i, &rules[i], subject, found)?;
+        if !may_match(judged.sheet.reading.rules.digest_at(i), judged.names) {
+            continue;
+        }
+        add_rule(alloc, judged, i, &rules[i], subject, found)?;
     }
     Ok(())
-}
-
-/// Looks at a rule only where the element has a name with the number of what the rule is filed under.
-fn try_rule(
-    alloc: Global,
-    judged: Judged<'_>,
-    i: usize,
-    rule: &StyleRule,
-    subject: &mut Subject<'_>,
-    found: &mut BTreeMap<Key, Hit>,
-) -> Result<(), AllocError>
-    requires names { judged.names.now ≡ element_digests subject.old }
-    requires there { slice_get judged.sheet.now.reading.rules i ≡ Some (rule_seen rule.now) }
-    ensures entries { OnOk result (found.new.entries
-        ≡ all_entered found.old.entries (option_to_list (keyed_rule (judged_seen judged.entry) i (rule_seen rule.now) subject.old))) }
-    ensures same { subject.new ≡ subject.old }
-{
-    if !may_match(judged.sheet.reading.rules.digest_at(i), judged.names) {
-        return Ok(());
-    }
-    add_rule(alloc, judged, i, rule, subject, found)
 }
 
 fn add_rule(
