@@ -1,7 +1,7 @@
 -- An element that a selector matches has what the selector is filed under, and so the number of that is one of its own.
-use Rattle.std.proofs.Common.{◌≡◌, ℕ, zero, suc, ◌+◌, ◌*◌, ◌%◌, ◌==◌, Bool, true, false, cond, not, ◌&&◌, ◌||◌, List, [], ◌∷◌, ◌++◌}
-use Rattle.std.proofs.Common.{map, drop, reverse, fold, filter, slice_get, Option, Some, None, option_map, option_to_list, codes, bytes_eq}
-use Rattle.std.proofs.Common.{refl, sym, ap, ◌∙◌, subst, eq-eqb, eqb-true}
+use Rattle.std.proofs.Common.{◌≡◌, ℕ, zero, suc, ◌+◌, ◌*◌, ◌%◌, ◌<◌, ◌==◌, Bool, true, false, cond, not, ◌&&◌, ◌||◌, List, [], ◌∷◌, ◌++◌}
+use Rattle.std.proofs.Common.{length, map, drop, reverse, fold, filter, slice_get, Option, Some, None, option_map, option_to_list, codes}
+use Rattle.std.proofs.Common.{IfSome, bytes_eq, refl, sym, ap, ◌∙◌, subst, eq-eqb, eqb-true, arith}
 use Rattle.std.proofs.lemmas.Slice.Eq.{bytes_eq-Decides}
 use Rattle.std.specs.Char.{is_ascii_whitespace, to_ascii_lowercase}
 use Rattle.std.specs.List.{list_any, list_all, slice_split}
@@ -238,19 +238,19 @@ unmatched-entry from i r z e =
     ap (λ (ps : List ℕ). cond (held_at from.held r.media) (entry_by from i (greatest r.selectors z) ps) None) none
     ∙ no-entry (held_at from.held r.media)
 
-digest-rule : (rs : List RuleForm) (i : ℕ) (d : Option ℕ) → slice_get (map rule_digest rs) i ≡ Some d
-    → (r : RuleForm) × (slice_get rs i ≡ Some r) × (rule_digest r ≡ d)
-digest-rule [] i d e = absurd (cc)
-digest-rule (x ∷ rs) zero d e = let told : rule_digest x ≡ d = cc in (x, refl, told)
-digest-rule (x ∷ rs) (suc i) d e = digest-rule rs i d e
+digest-rule : (rs : List RuleForm) (i : ℕ) (d : Option ℕ) → i < length rs → IfSome (slice_get rs i) (λ r. d ≡ rule_digest r)
+    → (r : RuleForm) × (slice_get rs i ≡ Some r) × (d ≡ rule_digest r)
+digest-rule [] i d inside told = absurd (omega (arith, inside))
+digest-rule (x ∷ rs) zero d inside told = (x, refl, told)
+digest-rule (x ∷ rs) (suc i) d inside told = digest-rule rs i d (omega (arith, inside)) told
 
 -- a rule that has none of the element's numbers is passed over
 pub untried-step : (from : Source) (rs : List RuleForm) (z : Zipper) (i : ℕ) (d : Option ℕ) (names : List ℕ) (entries : List (Key × Hit))
-    → slice_get (map rule_digest rs) i ≡ Some d → names ≡ element_digests z → may_match d names ≡ false
+    → i < length rs → IfSome (slice_get rs i) (λ r. d ≡ rule_digest r) → names ≡ element_digests z → may_match d names ≡ false
     → all_entered entries (entries_of_rules from (i + 1) (drop (i + 1) rs) z)
     ≡ all_entered entries (entries_of_rules from i (drop i rs) z)
-untried-step from rs z i d names entries told are e =
-    let p = digest-rule rs i d told in
-    let none : may_match (rule_digest p.0) (element_digests z) ≡ false = (λ j. may_match (p.2 j) (sym are j)) ∙ e in
+untried-step from rs z i d names entries inside told are e =
+    let p = digest-rule rs i d inside told in
+    let none : may_match (rule_digest p.0) (element_digests z) ≡ false = (λ j. may_match (sym p.2 j) (sym are j)) ∙ e in
     rules-step from rs z i p.0 entries entries (drop-at rs i p.0 p.1)
     (ap (λ (o : Option (Key × Hit)). all_entered entries (option_to_list o)) (sym (unmatched-entry from i p.0 z none)))
