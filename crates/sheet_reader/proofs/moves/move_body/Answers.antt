@@ -13,8 +13,13 @@ use Rattle.sheet_reader.proofs.moves.move_body.Goals as goal
 pub move_around-requires-clause-there : goal.move_around-requires-clause-there
 move_around-requires-clause-there c =
     let same = ap (λ (ys : List StyleRule). length ys) c.deref_mut.ensures.value in
-    omega (arith, same, c.requires.there, length-map c.into_vec-rules.result.items rule_seen,
-    ap length (c.into_vec-rules.ensures ∙ c.take_digests-digests.ensures.same))
+    omega (
+      arith,
+      same,
+      c.requires.there,
+      length-map c.into_vec-rules.result.items rule_seen,
+      ap length (c.into_vec-rules.ensures ∙ c.take_digests-digests.ensures.same),
+    )
 
 pub move_around-requires-clause-before : goal.move_around-requires-clause-before
 move_around-requires-clause-before c =
