@@ -4,3 +4,4 @@ pub mod OrderLemmas
 pub mod HeldForms
 pub mod StandingLemmas
 pub mod WinnerLemmas
+pub mod FilingLemmas

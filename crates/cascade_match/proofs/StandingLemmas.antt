@@ -78,11 +78,13 @@ places-of i (suc k) p (x ∷ ss) z s is at e = by (selector_matches x z) (places
 
 -- ---- one rule
 
-abbrev has_some : List ℕ → Bool
+-- there is one
+abbrev pub has_some : List ℕ → Bool
 has_some [] = false
 has_some (p ∷ ps) = true
 
-some_place : (i : ℕ) (ss : List SelectorForm) (z : Zipper) → list_matches ss z ≡ has_some (places_from i ss z)
+-- some selector matches where there is a place of one
+pub some_place : (i : ℕ) (ss : List SelectorForm) (z : Zipper) → list_matches ss z ≡ has_some (places_from i ss z)
 some_place i [] z = refl
 some_place i (s ∷ ss) z = by (selector_matches s z) (some_place (i + 1) ss z)
   where

@@ -6,3 +6,4 @@ pub mod Winning
 pub mod Tops
 pub mod Standing
 pub mod WinnerPlaces
+pub mod ElementNames

@@ -1,13 +1,16 @@
 //! Laws of the definitions.
 
-ghost use Rattle.std.specs.Prelude.{◌≡◌, ◌↔◌, ℕ, true, List, map, length, Some, slice_get, flat_map};
+ghost use Rattle.std.specs.Prelude.{◌≡◌, ◌↔◌, ℕ, true, false, List, map, length, Some, slice_get, flat_map};
 ghost use Rattle.std.specs.List.Sorted.{IsStrictlySortedBy};
 ghost use Rattle.page_tree.specs.Zippers.{Zipper};
 ghost use Rattle.sheet_reader.specs.declared.book.SheetEntry.{SheetEntry};
 ghost use Rattle.media_rules.specs.declared.medium.Medium.{Medium};
 ghost use Rattle.page_tree.specs.Members.{IsIn};
 ghost use Rattle.selectors.specs.Forms.{SelectorForm};
-ghost use Rattle.select_match.specs.Matches.{selector_matches};
+ghost use Rattle.sheet_reader.specs.Forms.{RuleForm};
+ghost use Rattle.sheet_reader.specs.Filings.{Filing, filing, rule_digest};
+ghost use Rattle.select_match.specs.Matches.{selector_matches, list_matches};
+ghost use Rattle.cascade_match.specs.ElementNames.{has_filing, element_digests, may_match};
 ghost use Rattle.cascade_match.specs.declared.keys.Key.{Key};
 ghost use Rattle.cascade_match.specs.declared.hits.Hit.{Hit};
 ghost use Rattle.cascade_match.specs.Precedence.{key_cmp};
@@ -37,6 +40,14 @@ pub fn places_law()
         → IsIn i (places_matching ss z) }
     ensures only { (ss : List SelectorForm) (z : Zipper) (i : ℕ) → IsIn i (places_matching ss z)
         → (s : SelectorForm) × (slice_get ss i ≡ Some s) × (selector_matches s z ≡ true) }
+{}
+
+/// An element that a selector matches has what the selector is filed under; and where a rule has no number that is one of the
+/// element's, no selector of it matches.
+pub fn filing_law()
+    ensures has { (s : SelectorForm) (f : Filing) (z : Zipper) → filing s ≡ Some f → selector_matches s z ≡ true → has_filing f z ≡ true }
+    ensures only { (r : RuleForm) (z : Zipper) → may_match (rule_digest r) (element_digests z) ≡ false
+        → list_matches r.selectors z ≡ false }
 {}
 
 /// A declaration wins exactly where it is the greatest of all declarations of its name in all blocks, by rank, then by block,

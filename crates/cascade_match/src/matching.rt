@@ -8,10 +8,12 @@ ghost use Rattle.selectors.specs.Lists.{list_seen};
 ghost use Rattle.sheet_reader.specs.Forms.{rule_seen};
 ghost use Rattle.sheet_reader.specs.Sheets.{sheet_of};
 ghost use Rattle.sheet_reader.specs.Books.{IsEntry};
+ghost use Rattle.cascade_match.specs.ElementNames.{element_digests};
 ghost use Rattle.cascade_match.specs.Precedence.{greater};
 ghost use Rattle.cascade_match.specs.Judged.{judged_seen};
 ghost use Rattle.cascade_match.specs.Matched.{places_matching, greatest, source_of, keyed_rule, entries_of_rules, all_entered, matched_of};
 
+use crate::element_names::{element_digests, may_match};
 use crate::hits::Hit;
 use crate::keys::{Key, greater, key_of};
 use crate::media_held::{held_at, media_held};
@@ -51,19 +53,22 @@ pub fn matched_on(
     ensures value { IfOk result (λ v. v.items ≡ matched_of medium.now book.now subject.old) }
     ensures same { subject.new ≡ subject.old }
 {
+    let digests = element_digests(alloc, subject.node())?;
+    let names = digests.as_slice();
     let mut found = BTreeMap::new(alloc);
     for i in 0..book.len() {
-        add_sheet(alloc, book.at(i), i, medium, subject, &mut found)?;
+        add_sheet(alloc, book.at(i), i, medium, names, subject, &mut found)?;
     }
     hits_of(alloc, found)
 }
 
-/// A sheet, its place in the book, and which of its media rules hold.
+/// A sheet, its place in the book, which of its media rules hold, and the numbers of the names of the element.
 #[derive(Clone, Copy)]
 struct Judged<'a> {
     sheet: &'a SheetEntry,
     place: usize,
     held: &'a [bool],
+    names: &'a [u32],
 }
 
 fn hits_of(alloc: Global, found: BTreeMap<Key, Hit>) -> Result<Vec<Hit>, AllocError>
@@ -81,10 +86,12 @@ fn add_sheet(
     entry: &SheetEntry,
     place: usize,
     medium: &Medium,
+    names: &[u32],
     subject: &mut Subject<'_>,
     found: &mut BTreeMap<Key, Hit>,
 ) -> Result<(), AllocError>
-    requires { IsEntry entry.now }
+    requires entry { IsEntry entry.now }
+    requires names { names.now ≡ element_digests subject.old }
     ensures entries { OnOk result (found.new.entries ≡ all_entered found.old.entries
         (entries_of_rules (source_of medium.now place entry.now) 0 (sheet_of entry.now.text).rules subject.old)) }
     ensures same { subject.new ≡ subject.old }
@@ -94,22 +101,28 @@ fn add_sheet(
         sheet: entry,
         place,
         held: held.as_slice(),
+        names,
     };
     add_rules(alloc, judged, subject, found)
 }
 
+/// Looks at those rules alone that may match by their numbers.
 fn add_rules(
     alloc: Global,
     judged: Judged<'_>,
     subject: &mut Subject<'_>,
     found: &mut BTreeMap<Key, Hit>,
 ) -> Result<(), AllocError>
+    requires { judged.names.now ≡ element_digests subject.old }
     ensures entries { OnOk result (found.new.entries
         ≡ all_entered found.old.entries (entries_of_rules (judged_seen judged.entry) 0 judged.entry.sheet.now.reading.rules subject.old)) }
     ensures same { subject.new ≡ subject.old }
 {
     let rules = judged.sheet.reading.rules.as_slice();
     for i in 0..rules.len() {
+        if !may_match(judged.sheet.reading.rules.digest_at(i), judged.names) {
+            continue;
+        }
         add_rule(alloc, judged, i, &rules[i], subject, found)?;
     }
     Ok(())

@@ -75,3 +75,4 @@ pub mod MediaPreludes
 mod LateForms
 mod BodyOrder
 mod OpenedForms
+pub mod FilingForms

@@ -23,3 +23,4 @@ pub mod Solids
 pub mod Preludes
 pub mod Late
 pub mod Opened
+pub mod Filings

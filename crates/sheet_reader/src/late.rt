@@ -19,6 +19,8 @@ use std::marker::Model;
 #[derive(Drop)]
 pub(crate) struct LateRules {
     rules: Vec<StyleRule>,
+    /// The numbers of what the first of them are filed under.
+    digests: Vec<Option<u32>>,
     /// So many stand where they say; the others are to be moved by the gap.
     moved: usize,
     late: Gap,
@@ -26,6 +28,7 @@ pub(crate) struct LateRules {
 
 impl Model for LateRules {
     ghost use Rattle.std.specs.Prelude.{ℕ, List, ◌≤◌, length, map};
+    ghost use Rattle.sheet_reader.specs.Filings.{AreDigests};
     ghost use Rattle.sheet_reader.specs.Forms.{RuleForm, rule_seen};
     ghost use Rattle.sheet_reader.specs.Late.{cut_at, late_rules, AreLate};
 
@@ -34,7 +37,8 @@ impl Model for LateRules {
     ghost view = { λ l. late_rules (cut_at l.late) l.moved (map rule_seen l.rules.items) };
 
     ghost invariant = { λ l. (l.moved ≤ length l.rules.items)
-        × AreLate (cut_at l.late) l.moved (map rule_seen l.rules.items) };
+        × AreLate (cut_at l.late) l.moved (map rule_seen l.rules.items)
+        × AreDigests l.digests.items (late_rules (cut_at l.late) l.moved (map rule_seen l.rules.items)) };
 }
 
 /// Moves the rules from number `moved` up to `to`.
@@ -124,13 +128,15 @@ fn number_among(rules: &[StyleRule], moved: usize, late: Gap, body: Range) -> Op
 
 impl LateRules {
     /// The rules, in their order, all moved.
-    pub(crate) fn new(rules: StyleRules) -> LateRules
+    pub(crate) fn new(mut rules: StyleRules) -> LateRules
         ensures { result ≡ rules }
     {
+        let digests = rules.take_digests();
         let rules = rules.into_vec();
         let moved = rules.len();
         LateRules {
             rules,
+            digests,
             moved,
             late: Gap {
                 start: 0,
@@ -146,12 +152,13 @@ impl LateRules {
     {
         let LateRules {
             mut rules,
+            digests,
             moved,
             late,
         } = self;
         let len = rules.len();
         settle(&mut rules, moved, len, late);
-        StyleRules::new(rules)
+        StyleRules::with_digests(rules, digests)
     }
 
     /// The number of the rule that has its body there, from 0.

@@ -24,6 +24,7 @@ mod book;
 mod brackets;
 mod declarations;
 mod ends;
+mod filings;
 mod frames;
 mod late;
 mod laws;
@@ -44,6 +45,7 @@ mod sheet;
 
 pub use book::{SheetBook, SheetEntry};
 pub use declarations::read_style;
+pub use filings::{NameKind, name_digest};
 pub use laws::{
     around_law, grammar_law, joined_law, moved_law, nesting_law, position_law, usable_law,
 };

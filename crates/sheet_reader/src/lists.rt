@@ -1,15 +1,18 @@
 //! The lists of a sheet. Each is made from a `Vec` and gives it back without taking memory.
 
-ghost use Rattle.std.specs.Prelude.{◌≡◌, ◌<◌, ◌+◌, ◌++◌, ◌∷◌, [], All, length, map, OnOk};
+ghost use Rattle.std.specs.Prelude.{◌≡◌, ◌<◌, ◌+◌, ◌++◌, ◌∷◌, [], All, length, map, slice_get, IfSome, OnOk};
 ghost use Rattle.node_tree.specs.Numbers.{number_limit};
 ghost use Rattle.selectors.specs.Moves.{cut, moved_place, CanPlace};
+ghost use Rattle.sheet_reader.specs.Filings.{rule_digest, AreDigests};
 ghost use Rattle.sheet_reader.specs.Forms.{rule_seen};
 ghost use Rattle.sheet_reader.specs.Moves.{placed_property, placed_media, CanPlaceProperty, CanPlaceMedia, IsPropertyWithin};
 
+use crate::filings::list_digest;
 use crate::moves::{Gap, move_media, move_places, move_properties, raise_properties};
 use crate::sheet::{MediaRule, Property, StyleRule};
 use std::alloc::AllocError;
 use std::marker::Model;
+use std::mem::replace;
 
 /// The declarations of a body, in the order of the text.
 #[derive(Drop)]
@@ -75,19 +78,24 @@ impl Properties {
     }
 }
 
-/// The style rules of a sheet, in the order of the text.
+/// The style rules of a sheet, in the order of the text. Contracts see these alone: for the first of them, mostly for all, the
+/// numbers of what they are filed under are kept too.
 #[derive(Drop)]
 pub struct StyleRules {
     rules: Vec<StyleRule>,
+    digests: Vec<Option<u32>>,
 }
 
 impl Model for StyleRules {
     ghost use Rattle.std.specs.Prelude.{List, map};
     ghost use Rattle.sheet_reader.specs.Forms.{RuleForm, rule_seen};
+    ghost use Rattle.sheet_reader.specs.Filings.{AreDigests};
 
     ghost Value = { List RuleForm };
 
     ghost view = { λ l. map rule_seen l.rules.items };
+
+    ghost invariant = { λ l. AreDigests l.digests.items (map rule_seen l.rules.items) };
 }
 
 impl StyleRules {
@@ -95,13 +103,36 @@ impl StyleRules {
     pub fn new(rules: Vec<StyleRule>) -> StyleRules
         ensures { result ≡ map rule_seen rules.items }
     {
-        StyleRules { rules }
+        let digests = Vec::new(*rules.allocator());
+        StyleRules { rules, digests }
+    }
+
+    /// Rules of which numbers are known.
+    pub(crate) fn with_digests(rules: Vec<StyleRule>, digests: Vec<Option<u32>>) -> StyleRules
+        requires { AreDigests digests.items (map rule_seen rules.items) }
+        ensures { result ≡ map rule_seen rules.items }
+    {
+        StyleRules { rules, digests }
+    }
+
+    /// The numbers that are kept, which are kept no longer. Takes no memory.
+    pub(crate) fn take_digests(&mut self) -> Vec<Option<u32>>
+        ensures digests { AreDigests result.items self.old }
+        ensures same { self.new ≡ self.old }
+    {
+        let none = Vec::new(*self.digests.allocator());
+        replace(&mut self.digests, none)
     }
 
     pub(crate) fn push(&mut self, rule: StyleRule) -> Result<(), AllocError>
         ensures { OnOk result (self.new ≡ self.old ++ rule_seen rule ∷ []) }
     {
+        let digest = list_digest(&rule.selectors);
+        let are_kept = self.digests.len() == self.rules.len();
         self.rules.push(rule)?;
+        if are_kept {
+            self.digests.push(digest)?;
+        }
         Ok(())
     }
 
@@ -124,6 +155,18 @@ impl StyleRules {
         ensures { result ≡ length self.now }
     {
         self.rules.len()
+    }
+
+    /// The number of what all selectors of the rule at place `i`, from 0, are filed under, if they have one in common. It is looked
+    /// up, but where a rule was put in or its selectors were changed, for the rules from there on.
+    pub fn digest_at(&self, i: usize) -> Option<u32>
+        requires { i < length self.now }
+        ensures { IfSome (slice_get self.now i) (λ r. result ≡ rule_digest r) }
+    {
+        match self.digests.get(i) {
+            Some(digest) => *digest,
+            None => list_digest(&self.rules[i].selectors),
+        }
     }
 }
 

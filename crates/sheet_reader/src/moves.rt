@@ -131,10 +131,11 @@ pub fn move_body(old: Sheet, rule: usize, properties: Vec<Property>, size: usize
     ensures moved { result ≡ moved_sheet old rule properties.items size }
 {
     let Sheet {
-        rules,
+        mut rules,
         places,
         mut media,
     } = old;
+    let digests = rules.take_digests();
     let mut rules = rules.into_vec();
     let mut places = places.into_vec();
     let body = rules[rule].body;
@@ -147,7 +148,7 @@ pub fn move_body(old: Sheet, rule: usize, properties: Vec<Property>, size: usize
     move_places(&mut places, gap);
     media.move_behind(gap);
     Sheet {
-        rules: StyleRules::new(rules),
+        rules: StyleRules::with_digests(rules, digests),
         places: Places::new(places),
         media,
     }

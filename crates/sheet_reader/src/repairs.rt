@@ -96,7 +96,7 @@ fn joined<T: Drop>(mut front: Vec<T>, mut new: Vec<T>, mut back: Vec<T>) -> Vec<
 
 /// The rules of a sheet with new ones in the place of a share of them, and those behind moved.
 fn repaired_rules(
-    old: StyleRules,
+    mut old: StyleRules,
     share: Share,
     new: Vec<StyleRule>,
     mut room: Vec<StyleRule>,
@@ -111,9 +111,11 @@ fn repaired_rules(
         ≡ shared (renumbered_rule (moved_place (cut shift.gap.start shift.gap.end shift.gap.size)) (moved_number shift.share shift.count))
         share (map rule_seen new.items) old }
 {
+    let mut digests = old.take_digests();
+    digests.truncate(share.before);
     divided(old.into_vec(), share, &mut room, &mut rest);
     renumber_rules(&mut rest, shift);
-    StyleRules::new(joined(room, new, rest))
+    StyleRules::with_digests(joined(room, new, rest), digests)
 }
 
 /// The media rules of a sheet with new ones in the place of a share of them, and those behind moved.

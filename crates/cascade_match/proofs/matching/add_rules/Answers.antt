@@ -1,12 +1,34 @@
 -- The rule at a place.
-use Rattle.std.proofs.Common.{ap, ◌∙◌}
+use Rattle.std.proofs.Common.{◌≡◌, ℕ, ◌<◌, List, length, map, ap, sym, ◌∙◌, arith}
+use Rattle.std.proofs.lemmas.List.{length-map}
 use Rattle.std.specs.Option.{option_to_list}
 use Rattle.page_tree.specs.Zippers.{Zipper}
-use Rattle.sheet_reader.specs.Forms.{rule_seen}
+use Rattle.sheet_reader.specs.declared.sheet.StyleRule.{StyleRule}
+use Rattle.sheet_reader.specs.Forms.{RuleForm, rule_seen}
 use Rattle.cascade_match.specs.Judged.{judged_seen}
 use Rattle.cascade_match.specs.Matched.{keyed_rule, all_entered}
+use Rattle.cascade_match.proofs.FilingLemmas.{untried-step}
 use Rattle.cascade_match.proofs.MatchLemmas.{rules-at, rules-step}
 use Rattle.cascade_match.proofs.matching.add_rules.Goals as goal
+
+-- the place is one of the list that contracts see
+within : (xs : List StyleRule) (rs : List RuleForm) (i : ℕ) → map rule_seen xs ≡ rs → i < length xs → i < length rs
+within xs rs i seen inside =
+    omega (arith, inside, length-map xs rule_seen, ap (λ (l : List RuleForm). length l) seen)
+
+pub digest_at-requires : goal.digest_at-requires
+digest_at-requires c =
+    within c.as_slice-rules.result.now c.args.judged.sheet.now.reading.rules c.loop-i.i c.as_slice-rules.ensures c.loop-i-test.true
+
+pub loop-i-preserved-then-not-may_match : goal.loop-i-preserved-then-not-may_match
+loop-i-preserved-then-not-may_match c = record {
+  rest = untried-step (judged_seen c.args.judged) c.args.judged.sheet.now.reading.rules c.args.subject.now c.loop-i.i c.digest_at.result
+      c.args.judged.names.now c.loop-i.found.entries
+      (within c.as_slice-rules.result.now c.args.judged.sheet.now.reading.rules c.loop-i.i c.as_slice-rules.ensures c.loop-i-test.true)
+      c.digest_at.ensures c.requires (sym c.may_match.ensures ∙ c.if-not-may_match.true)
+      ∙ c.loop-i.invariant.rest;
+  same = c.loop-i.invariant.same;
+}
 
 pub loop-i-preserved : goal.loop-i-preserved
 loop-i-preserved c =

@@ -1,9 +1,11 @@
 use Rattle.std.proofs.Common.{◌≡◌, ◌+◌, ◌≤◌, List, length, map, sym, ap, ◌∙◌, subst, arith}
 use Rattle.std.proofs.lemmas.List.{length-map}
 use Rattle.sheet_reader.specs.declared.sheet.StyleRule.{StyleRule}
+use Rattle.sheet_reader.specs.Filings.{AreDigests}
 use Rattle.sheet_reader.specs.Forms.{rule_seen, RuleForm}
 use Rattle.sheet_reader.specs.Late.{cut_at, late_rules, AreLate, CanRebody}
 use Rattle.sheet_reader.specs.Moves.{moved_rules}
+use Rattle.sheet_reader.proofs.FilingForms.{digests-moved}
 use Rattle.sheet_reader.proofs.LateForms.{late_length}
 use Rattle.sheet_reader.proofs.MoveAround.{lent}
 use Rattle.sheet_reader.proofs.late.LateRules.rebody.Goals as goal
@@ -56,9 +58,19 @@ invariant_of-self c =
       length-map c.self.inside.rules.items rule_seen,
       late_length (cut_at c.self.inside.late) c.self.inside.moved (map rule_seen c.self.inside.rules.items),
     ) in
-    subst (λ (rs : List StyleRule). (c.args.own + 1 ≤ length rs)
-    × AreLate (cut_at c.rebody_late-self-inside.result) (c.args.own + 1) (map rule_seen rs)) (sym back)
-    (inside, c.rebody_late-self-inside.ensures.late)
+    let digests = c.self.inside.digests.items in
+    let late = cut_at c.rebody_late-self-inside.result in
+    let old = late_rules (cut_at c.self.inside.late) c.self.inside.moved (map rule_seen c.self.inside.rules.items) in
+    let made : late_rules late (c.args.own + 1) (map rule_seen new) ≡ moved_rules (cut_at c.args.gap) c.args.properties c.args.own old =
+    c.rebody_late-self-inside.ensures.rules
+    ∙ ap (λ (rs : List StyleRule). moved_rules (cut_at c.args.gap) c.args.properties c.args.own
+    (late_rules (cut_at c.self.inside.late) c.self.inside.moved (map rule_seen rs))) c.deref_mut.ensures.value in
+    let are : AreDigests digests (late_rules late (c.args.own + 1) (map rule_seen new)) =
+    subst (AreDigests digests) (sym made)
+    (digests-moved (cut_at c.args.gap) c.args.properties c.args.own digests old c.self.invariant.2) in
+    subst (λ (rs : List StyleRule). (c.args.own + 1 ≤ length rs) × AreLate late (c.args.own + 1) (map rule_seen rs)
+    × AreDigests digests (late_rules late (c.args.own + 1) (map rule_seen rs))) (sym back)
+    (inside, c.rebody_late-self-inside.ensures.late, are)
 
 pub returns : goal.returns
 returns c =
