@@ -58,6 +58,21 @@ fn scan_tokens(alloc: Global, reader: &mut Reader<'_>) -> Result<LoadFrame, Scan
     Ok(LoadFrame { id, page })
 }
 
+// The page that the frame loads, where it has its usual form and no fault. The table of the reader is cleared where a function is
+// entered that has one.
+fn scan_long(alloc: Global, frame: &[u8]) -> Result<LoadFrame, ScanErr>
+    ensures asks { IfOk result (λ f. AsksLoad frame.now f.id (loaded_page f.page)) }
+    ensures can { IfOk result (λ f. CanLoadPage (loaded_page f.page)) }
+{
+    let Ok(text) = str::from_utf8(frame) else {
+        return Err(ScanErr::OtherForm);
+    };
+    let mut scratch = Scratch::new(alloc);
+    let mut reader = Reader::new(text, &mut scratch)?;
+    let load = scan_tokens(alloc, &mut reader)?;
+    Ok(load)
+}
+
 /// The page that the frame loads, where it is long and has its usual form and no fault. Any other frame, which may ask for a load all the
 /// same, is answered by an error.
 pub(crate) fn scan_load(alloc: Global, frame: &[u8]) -> Result<LoadFrame, ScanErr>
@@ -67,11 +82,6 @@ pub(crate) fn scan_load(alloc: Global, frame: &[u8]) -> Result<LoadFrame, ScanEr
     if frame.len() < SHORT {
         return Err(ScanErr::OtherForm);
     }
-    let Ok(text) = str::from_utf8(frame) else {
-        return Err(ScanErr::OtherForm);
-    };
-    let mut scratch = Scratch::new(alloc);
-    let mut reader = Reader::new(text, &mut scratch)?;
-    let load = scan_tokens(alloc, &mut reader)?;
+    let load = scan_long(alloc, frame)?;
     Ok(load)
 }

@@ -2,7 +2,7 @@ use Rattle.std.proofs.Common.{subst}
 use Rattle.page_forms.specs.Pages.{loaded_page}
 use Rattle.back_end.specs.LoadFrames.{SpellsLoad}
 use Rattle.back_end.proofs.LoadSpelt.{frame_asks, frame_can}
-use Rattle.back_end.proofs.load_scan.scan_load.Goals as goal
+use Rattle.back_end.proofs.load_scan.scan_long.Goals as goal
 
 pub returns-clause-asks : goal.returns-clause-asks
 returns-clause-asks c =
