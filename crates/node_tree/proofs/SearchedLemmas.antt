@@ -77,12 +77,12 @@ module _ (name : List ℕ) (all : List Pair) (i : ℕ) (q : Pair) (at : slice_ge
 -- ---- the search by halves
 
 further_shifted : (i : ℕ) (r : Result ℕ ℕ) → further (shifted i r) ≡ shifted (suc i) r
-further_shifted i (Ok j) = refl
-further_shifted i (Err j) = refl
+further_shifted i (Ok j) = let e : suc (i + j) ≡ suc i + j = omega arith in ap (λ k. Ok k) e
+further_shifted i (Err j) = let e : suc (i + j) ≡ suc i + j = omega arith in ap (λ k. Err k) e
 
 further_once : (r : Result ℕ ℕ) → further r ≡ shifted (0 + 1) r
-further_once (Ok j) = refl
-further_once (Err j) = refl
+further_once (Ok j) = let e : suc j ≡ 0 + 1 + j = omega arith in ap (λ k. Ok k) e
+further_once (Err j) = let e : suc j ≡ 0 + 1 + j = omega arith in ap (λ k. Err k) e
 
 -- the names of a list that ascends are behind one that is before the first
 later_behind : (a : List ℕ) (qs : List Pair) (i : ℕ) (q : Pair) → is_below a qs ≡ true → is_ascending qs ≡ true
@@ -111,8 +111,9 @@ search_behind name (x ∷ qs) zero q h e is =
 search_behind name (x ∷ qs) (suc i) q h e is =
     let rest = right (is_below x.0 qs) (is_ascending qs) h in
     let first = passes_first name x q (later_behind x.0 qs i q (left (is_below x.0 qs) (is_ascending qs) h) rest e) is in
-    ap (λ o. match_ordering o (Err 0) (Ok 0) (further (search_name name qs))) first
-    ∙ ap further (search_behind name qs i q rest e is) ∙ further_shifted (i + 1) (search_name name (drop (i + 1) qs))
+    let next : suc i + 1 ≡ suc (i + 1) = omega arith in
+    rw next (ap (λ o. match_ordering o (Err 0) (Ok 0) (further (search_name name qs))) first
+    ∙ ap further (search_behind name qs i q rest e is) ∙ further_shifted (i + 1) (search_name name (drop (i + 1) qs)))
 
 pub get-within : {A : Type 0} (xs : List A) (i : ℕ) (x : A) → slice_get xs i ≡ Some x → i < length xs
 get-within [] i x e = absurd (cc)
