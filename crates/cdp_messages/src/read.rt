@@ -18,7 +18,7 @@ use std::alloc::{AllocError, Global};
 use std::str;
 
 // The most bytes of a text that is read byte by byte: behind them the table that finds the tokens of a long one is worth its making.
-const SHORT: usize = 1024;
+const SHORT: usize = 1_024;
 
 // Our own two methods are known where `own` says so.
 fn known_method(name: &str, own: bool) -> Option<Method>

@@ -99,7 +99,6 @@ whole o = option_and_then of_json (option_and_then (λ p. if_last p.0 p.1) o)
 pub whole_read : (o : Option (json.Json × List Token)) (d : Data) → converted of_json o ≡ Some (d, []) → whole o ≡ Some d
 whole_read o d e = let j = converted_some of_json o d [] e in ap whole j.1 ∙ j.2
 
-
 -- ---- values that open nothing
 
 pub text_read : (depth : ℕ) (ts rest : List Token) (s : List ℕ) → ts ≡ Token.string s ∷ rest

@@ -51,11 +51,7 @@ fn object_value(
 
 // An array.
 #[cycle(read)]
-fn array_value(
-    alloc: Global,
-    reader: &mut ShortReader<'_>,
-    depth: usize,
-) -> Result<Value, ShortErr>
+fn array_value(alloc: Global, reader: &mut ShortReader<'_>, depth: usize) -> Result<Value, ShortErr>
     ensures ok { IfOk result
         (λ v. converted of_json (value depth reader.old) ≡ Some (view v, reader.new)) }
     ensures shorter { OnOk result (length reader.new < length reader.old) }
@@ -97,7 +93,11 @@ fn whole_value(reader: &mut ShortReader<'_>) -> Result<Value, ShortErr>
 
 // The items of an array, with its closing bracket.
 #[cycle(read)]
-fn read_items(alloc: Global, reader: &mut ShortReader<'_>, depth: usize) -> Result<Vec<Value>, ShortErr>
+fn read_items(
+    alloc: Global,
+    reader: &mut ShortReader<'_>,
+    depth: usize,
+) -> Result<Vec<Value>, ShortErr>
     ensures ok { IfOk result
         (λ v. converted of_items (items (value depth) (length reader.old) reader.old)
         ≡ Some (items_view v.items, reader.new)) }
