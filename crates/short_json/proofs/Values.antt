@@ -13,7 +13,8 @@ no_end depth (begin_object ∷ ts) x e = refl
 no_end depth (end_object ∷ ts) x e = refl
 no_end depth (begin_array ∷ ts) x e = refl
 no_end depth (end_array ∷ ts) x e =
-    let no : ◌≡◌ {A = Option (Data × List Token)} None (Some x) = ap (converted of_json) (sym (value_is depth (end_array ∷ ts))) ∙ e in absurd cc
+    let no : ◌≡◌ {A = Option (Data × List Token)} None (Some x) = ap (converted of_json) (sym (value_is depth (end_array ∷ ts))) ∙ e in
+    absurd cc
 no_end depth (key s ∷ ts) x e = refl
 no_end depth (string s ∷ ts) x e = refl
 no_end depth (number s ∷ ts) x e = refl
