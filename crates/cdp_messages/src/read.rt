@@ -1,5 +1,5 @@
 // Reading frames on their way up.
-ghost use Rattle.std.specs.Prelude.{◌≡◌, option_map, IfOk, true, false};
+ghost use Rattle.std.specs.Prelude.{◌≡◌, Some, option_map, IfOk, IfSome, true, false};
 ghost use Rattle.serde_json.specs.Find.{as_object, get_member};
 ghost use Rattle.serde_json.specs.View.{view, members_view};
 ghost use Rattle.cdp_json.specs.Lookups.{then_ok};
@@ -13,7 +13,12 @@ use crate::method::Method;
 use crate::read_by::command_by;
 use cdp_json::{Field, int_field, text_field};
 use serde_json::{Map, Value};
+use short_json::read_short;
 use std::alloc::{AllocError, Global};
+use std::str;
+
+// The most bytes of a text that is read byte by byte: behind them the table that finds the tokens of a long one is worth its making.
+const SHORT: usize = 1_024;
 
 // Our own two methods are known where `own` says so.
 fn known_method(name: &str, own: bool) -> Option<Method>
@@ -119,10 +124,27 @@ fn asked_in(alloc: Global, value: &Value, own: bool) -> Result<Asked, ReadErr>
     }
 }
 
+// The value that short bytes in their usual form are. `None` says nothing of them.
+fn short_json_of(alloc: Global, bytes: &[u8]) -> Result<Option<Value>, AllocError>
+    ensures { IfOk result (λ found. IfSome found (λ v. json_of bytes.now ≡ Some (view v))) }
+{
+    if bytes.len() > SHORT {
+        return Ok(None);
+    }
+    let Ok(text) = str::from_utf8(bytes) else {
+        return Ok(None);
+    };
+    let found = read_short(alloc, text)?;
+    Ok(found)
+}
+
 /// The JSON value that the bytes are, where they are UTF-8 and JSON.
 pub fn json_of(alloc: Global, bytes: &[u8]) -> Result<Option<Value>, AllocError>
     ensures { IfOk result (λ found. option_map view found ≡ json_of bytes.now) }
 {
+    if let Some(value) = short_json_of(alloc, bytes)? {
+        return Ok(Some(value));
+    }
     match Value::from_slice(alloc, bytes) {
         Ok(value) => Ok(Some(value)),
         Err(error) => if error.is_memory() {

@@ -46,7 +46,7 @@ equal_name n = sym (is_eq-slice_cmp n n) ∙ ap is_eq (self (slice_cmp nat_cmp n
     self Equal e = refl
     self Greater e = absurd (cc)
 
-below_trans : (a b : List ℕ) (ps : List Pair) → is_before a b ≡ true → is_below b ps ≡ true → is_below a ps ≡ true
+pub below_trans : (a b : List ℕ) (ps : List Pair) → is_before a b ≡ true → is_below b ps ≡ true → is_below a ps ≡ true
 below_trans a b [] e f = refl
 below_trans a b (p ∷ ps) e f = before_trans a b p.0 e f
 

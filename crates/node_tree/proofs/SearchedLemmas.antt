@@ -2,12 +2,13 @@
 use Rattle.std.proofs.Common.{◌≡◌, ℕ, zero, suc, ◌+◌, ◌<◌, ◌≤◌, true, List, [], ◌∷◌, length, drop, slice_get, slice_set, Some, None, Result}
 use Rattle.std.proofs.Common.{Ok, Err, Ordering, Less, Equal, Greater, nat_cmp, refl, sym, ap, subst, ◌∙◌, arith}
 use Rattle.std.specs.List.{insert, remove}
-use Rattle.std.specs.Ordering.{match_ordering, is_lt}
+use Rattle.std.proofs.lemmas.Cmp.{nat_list_cmp_total}
+use Rattle.std.specs.Ordering.{match_ordering, is_lt, ordering_reverse}
 use Rattle.std.specs.Cmp.Lexicographic.{slice_cmp}
-use Rattle.node_tree.specs.Labels.{Pair, is_ascending, is_below, value_of}
+use Rattle.node_tree.specs.Labels.{Pair, is_ascending, is_below, is_before, value_of}
 use Rattle.node_tree.specs.LabelChanges.{placed, pairs_without}
 use Rattle.node_tree.specs.Searches.{shifted, further, search_name}
-use Rattle.node_tree.proofs.PairLemmas.{right, same_name, value-below}
+use Rattle.node_tree.proofs.PairLemmas.{left, right, lt_less, below_trans, same_name, value-below}
 
 pub drop-get : {A : Type 0} (ks : List A) (i : ℕ) (k : A) → slice_get ks i ≡ Some k → drop i ks ≡ k ∷ drop (suc i) ks
 drop-get [] i k e = absurd (cc)
@@ -72,6 +73,47 @@ module _ (name : List ℕ) (all : List Pair) (i : ℕ) (q : Pair) (at : slice_ge
   search_greater is = opened ∙ ap
       (λ o. shifted i (match_ordering o (Err 0) (Ok 0) (further (search_name name (drop (i + 1) all))))) is ∙ shifted_further i
       (search_name name (drop (i + 1) all))
+
+-- ---- the search by halves
+
+further_shifted : (i : ℕ) (r : Result ℕ ℕ) → further (shifted i r) ≡ shifted (suc i) r
+further_shifted i (Ok j) = let e : suc (i + j) ≡ suc i + j = omega arith in ap (λ k. Ok k) e
+further_shifted i (Err j) = let e : suc (i + j) ≡ suc i + j = omega arith in ap (λ k. Err k) e
+
+further_once : (r : Result ℕ ℕ) → further r ≡ shifted (0 + 1) r
+further_once (Ok j) = let e : suc j ≡ 0 + 1 + j = omega arith in ap (λ k. Ok k) e
+further_once (Err j) = let e : suc j ≡ 0 + 1 + j = omega arith in ap (λ k. Err k) e
+
+-- the names of a list that ascends are behind one that is before the first
+later_behind : (a : List ℕ) (qs : List Pair) (i : ℕ) (q : Pair) → is_below a qs ≡ true → is_ascending qs ≡ true
+    → slice_get qs i ≡ Some q → is_before a q.0 ≡ true
+later_behind a [] i q b h e = absurd (cc)
+later_behind a (x ∷ qs) zero q b h e = let same : x ≡ q = cc in ap (λ (p : Pair). is_before a p.0) (sym same) ∙ b
+later_behind a (x ∷ qs) (suc i) q b h e =
+    later_behind a qs i q (below_trans a x.0 qs b (left (is_below x.0 qs) (is_ascending qs) h))
+    (right (is_below x.0 qs) (is_ascending qs) h) e
+
+passes_first : (name : List ℕ) (x q : Pair) → is_before x.0 q.0 ≡ true → slice_cmp nat_cmp name q.0 ≡ Greater
+    → slice_cmp nat_cmp name x.0 ≡ Greater
+passes_first name x q b is =
+    let above : slice_cmp nat_cmp q.0 name ≡ Less = nat_list_cmp_total.antisymm q.0 name ∙ ap ordering_reverse is in
+    nat_list_cmp_total.antisymm name x.0
+    ∙ ap ordering_reverse (nat_list_cmp_total.trans x.0 q.0 name (lt_less _ b) above)
+
+-- all up to one before the name are passed
+pub search_behind : (name : List ℕ) (qs : List Pair) (i : ℕ) (q : Pair) → is_ascending qs ≡ true → slice_get qs i ≡ Some q
+    → slice_cmp nat_cmp name q.0 ≡ Greater → search_name name qs ≡ shifted (i + 1) (search_name name (drop (i + 1) qs))
+search_behind name [] i q h e is = absurd (cc)
+search_behind name (x ∷ qs) zero q h e is =
+    let same : x ≡ q = cc in
+    ap (λ o. match_ordering o (Err 0) (Ok 0) (further (search_name name qs))) (ap (λ (p : Pair). slice_cmp nat_cmp name p.0) same ∙ is)
+    ∙ further_once (search_name name qs)
+search_behind name (x ∷ qs) (suc i) q h e is =
+    let rest = right (is_below x.0 qs) (is_ascending qs) h in
+    let first = passes_first name x q (later_behind x.0 qs i q (left (is_below x.0 qs) (is_ascending qs) h) rest e) is in
+    let next : suc i + 1 ≡ suc (i + 1) = omega arith in
+    rw next (ap (λ o. match_ordering o (Err 0) (Ok 0) (further (search_name name qs))) first
+    ∙ ap further (search_behind name qs i q rest e is) ∙ further_shifted (i + 1) (search_name name (drop (i + 1) qs)))
 
 pub get-within : {A : Type 0} (xs : List A) (i : ℕ) (x : A) → slice_get xs i ≡ Some x → i < length xs
 get-within [] i x e = absurd (cc)

@@ -1,9 +1,8 @@
 -- Lemmas on the faults of a line.
-use Rattle.std.proofs.Common.{◌≡◌, ℕ, ◌==◌, List, [], ◌∷◌, Bool, true, false, not, ◌&&◌, ◌||◌, cond, if◌then◌else◌, Option, Some, None}
+use Rattle.std.proofs.Common.{◌≡◌, ℕ, ◌==◌, List, [], ◌∷◌, Bool, true, false, not, ◌&&◌, ◌||◌, if◌then◌else◌, Option, Some, None}
 use Rattle.std.proofs.Common.{is_none, is_some, option_map, option_and_then, IsUtf8, refl, ap, subst, ◌∙◌}
-use Rattle.std.specs.Str.{is_utf8}
 use Rattle.std.specs.Option.{option_map_or}
-use Rattle.std.proofs.lemmas.Str.{IsUtf8-from_is_utf8, is_utf8-from_IsUtf8}
+use Rattle.std.proofs.lemmas.Str.{is_utf8-from_IsUtf8}
 use Rattle.serde_json.specs.Data.{Data}
 use Rattle.serde_json.specs.Read.{read}
 use Rattle.serde_json.specs.Written.{has_float}
@@ -23,11 +22,6 @@ use Rattle.replay_script.specs.Faults.{has_form, is_no_frame, page_by, raw_by, f
 
 pub json-some : (line : List ℕ) (d : Data) → IsUtf8 line → read line ≡ Some d → json_of line ≡ Some d
 json-some line d text is = rw (is_utf8-from_IsUtf8 line text) is
-
-pub json-none : (line : List ℕ) → (IsUtf8 line → read line ≡ None) → json_of line ≡ None
-json-none line h =
-    (elim (is_utf8 line) as (λ v. is_utf8 line ≡ v
-    → cond v (read line) None ≡ None) [ true ↦ λ e. h (IsUtf8-from_is_utf8 line e) | false ↦ λ e. refl ]) refl
 
 -- ---- the first of some faults
 

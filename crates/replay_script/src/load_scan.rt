@@ -45,6 +45,20 @@ fn scan_tokens(alloc: Global, reader: &mut Reader<'_>) -> Result<PageForm, ScanE
     Ok(page)
 }
 
+// The page that a line loads, where the line has its usual form and no fault. The table of the reader is cleared where a function is
+// entered that has one.
+fn scan_whole(alloc: Global, line: &[u8]) -> Result<PageForm, ScanErr>
+    ensures { IfOk result (λ page. Loads line.now (loaded_page page)) }
+{
+    let Ok(text) = str::from_utf8(line) else {
+        return Err(ScanErr::OtherForm);
+    };
+    let mut scratch = Scratch::new(alloc);
+    let mut reader = Reader::new(text, &mut scratch)?;
+    let page = scan_tokens(alloc, &mut reader)?;
+    Ok(page)
+}
+
 /// The page that the line loads, where the line has its usual form and no fault. Any other line, which may be a load all the same, is
 /// answered by an error.
 pub(crate) fn scan_load(alloc: Global, line: &[u8]) -> Result<PageForm, ScanErr>
@@ -53,11 +67,6 @@ pub(crate) fn scan_load(alloc: Global, line: &[u8]) -> Result<PageForm, ScanErr>
     if !line.starts_with(b"{\"load\":") {
         return Err(ScanErr::OtherForm);
     }
-    let Ok(text) = str::from_utf8(line) else {
-        return Err(ScanErr::OtherForm);
-    };
-    let mut scratch = Scratch::new(alloc);
-    let mut reader = Reader::new(text, &mut scratch)?;
-    let page = scan_tokens(alloc, &mut reader)?;
+    let page = scan_whole(alloc, line)?;
     Ok(page)
 }

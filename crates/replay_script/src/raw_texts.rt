@@ -1,27 +1,13 @@
 // Which texts a line may send as they are.
-ghost use Rattle.std.specs.Prelude.{◌≡◌, option_map, IfOk};
+ghost use Rattle.std.specs.Prelude.{◌≡◌, IfOk};
 ghost use Rattle.std.specs.List.{list_any};
 ghost use Rattle.serde_json.specs.View.{view};
-ghost use Rattle.cdp_messages.specs.Asked.{json_of};
 ghost use Rattle.replay_script.specs.Faults.{is_zero, is_whole_number, has_whole_id, is_no_frame};
 
 use cdp_json::all_whole;
+use cdp_messages::json_of;
 use serde_json::Value;
 use std::alloc::{AllocError, Global};
-
-/// The JSON value that the bytes are, where they are UTF-8 and JSON.
-pub(crate) fn json_of(alloc: Global, bytes: &[u8]) -> Result<Option<Value>, AllocError>
-    ensures { IfOk result (λ found. option_map view found ≡ json_of bytes.now) }
-{
-    match Value::from_slice(alloc, bytes) {
-        Ok(value) => Ok(Some(value)),
-        Err(error) => if error.is_memory() {
-            Err(AllocError)
-        } else {
-            Ok(None)
-        },
-    }
-}
 
 fn has_zero(bytes: &[u8]) -> bool
     ensures { result ≡ list_any is_zero bytes.now }

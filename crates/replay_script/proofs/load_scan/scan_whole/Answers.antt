@@ -3,7 +3,7 @@ use Rattle.page_forms.specs.Pages.{loaded_page}
 use Rattle.page_forms.specs.Spelt.{ReadsAs}
 use Rattle.replay_script.specs.Loads.{load_line_form}
 use Rattle.replay_script.proofs.LoadLemmas.{line_loads}
-use Rattle.replay_script.proofs.load_scan.scan_load.Goals as goal
+use Rattle.replay_script.proofs.load_scan.scan_whole.Goals as goal
 
 pub returns : goal.returns
 returns c =

@@ -1,0 +1,4 @@
+pub mod Converted
+pub mod Places
+pub mod Taken
+pub mod Values
