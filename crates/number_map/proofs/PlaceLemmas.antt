@@ -12,13 +12,14 @@ use Rattle.number_map.specs.Places.{number_place, times_in, HasSeats}
 
 -- ---- a walk over the list
 
-drop-get : (ks : List ℕ) (i k : ℕ) → slice_get ks i ≡ Some k → drop i ks ≡ k ∷ drop (suc i) ks
-drop-get [] i k e = absurd (cc)
-drop-get (x ∷ ks) zero k e = let same : x ≡ k = cc in ap (λ y. y ∷ ks) same
-drop-get (x ∷ ks) (suc i) k e = drop-get ks i k e
+-- a list from a place on begins with what stands there
+pub drop_here : {A : Type 0} (xs : List A) (k : ℕ) (x : A) → slice_get xs k ≡ Some x → drop k xs ≡ x ∷ drop (suc k) xs
+drop_here [] k x e = absurd cc
+drop_here {A} (y ∷ xs) zero x e = let same : y ≡ x = cc in ap (λ z. z ∷ xs) same
+drop_here (y ∷ xs) (suc k) x e = drop_here xs k x e
 
 number_next : (ks : List ℕ) (i k : ℕ) → slice_get ks i ≡ Some k → drop i ks ≡ k ∷ drop (i + 1) ks
-number_next ks i k at = let e : i + 1 ≡ suc i = omega arith in rw e (drop-get ks i k at)
+number_next ks i k at = let e : i + 1 ≡ suc i = omega arith in rw e (drop_here ks i k at)
 
 module _ (x : ℕ) (ks : List ℕ) (i k : ℕ) (at : slice_get ks i ≡ Some k) where
   pub place_here : k ≡ x → number_place x (drop i ks) ≡ 0
@@ -69,7 +70,7 @@ pub times-remove : (x : ℕ) (ks : List ℕ) (i n : ℕ) → slice_get ks i ≡ 
 times-remove x ks i n at =
     let e = times-append x (take i ks) (drop (suc i) ks) in
     let p = times-parts x ks i in
-    let d = ap (times_in x) (drop-get ks i n at) in
+    let d = ap (times_in x) (drop_here ks i n at) in
     omega (arith, e, p, d)
 
 -- ---- the place of a number that stands once, or never
@@ -141,10 +142,6 @@ seats-same seats ks js has alike x =
     let h = has x in
     let e = alike x in
     omega (arith, h, e)
-
--- no list has no seats
-pub seats-none : (seats : map.FinMap nat_cmp ℕ) → HasSeats seats []
-seats-none seats x = omega arith
 
 get-put : (seats : map.FinMap nat_cmp ℕ) (n v x : ℕ) → map.get (map.insert seats n v) x ≡ cond (x == n) (Some v) (map.get seats x)
 get-put seats n v x = map.get-insert nat_cmp_total seats n v x ∙ ap (λ b. cond b (Some v) (map.get seats x)) (unsigned_tied x n)

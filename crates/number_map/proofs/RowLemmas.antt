@@ -63,9 +63,6 @@ row-behind first (place ∷ row) key h =
     ap (λ b. option_or (cond b place None) (row_at (suc first) row key)) other
     ∙ row-behind (suc first) row key (omega arith)
 
-pub row-empty : (first other key : ℕ) (row : List (Option ℕ)) → row ≡ [] → row_at first row key ≡ row_at other row key
-row-empty first other key row e = rw e refl
-
 put_here : (place : Option ℕ) (v : Option ℕ) (b : Bool) (rest : Option ℕ) → (b ≡ true → rest ≡ None)
     → option_or (cond b v None) rest ≡ cond b v (option_or (cond b place None) rest)
 put_here place v true rest nothing = ap (option_or v) (nothing refl) ∙ option_or-none v

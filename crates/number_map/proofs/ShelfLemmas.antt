@@ -7,6 +7,7 @@ use Rattle.std.specs.List.{insert, remove}
 use Rattle.number_map.specs.declared.shelves.Shelf.{Shelf}
 use Rattle.number_map.specs.Places.{number_place}
 use Rattle.number_map.specs.Shelves.{numbers_in, StartAt, Spot, Within}
+use Rattle.number_map.proofs.PlaceLemmas.{drop_here}
 
 -- ---- lists behind one another
 
@@ -189,11 +190,6 @@ parts (suc k) [] = refl
 parts (suc k) (s ∷ ss) =
     ap (λ (l : List ℕ). s.numbers.items ++ l) (parts k ss)
     ∙ sym (append_assoc s.numbers.items (numbers_in (take k ss)) (numbers_in (drop k ss)))
-
-pub drop_here : {A : Type 0} (xs : List A) (k : ℕ) (x : A) → slice_get xs k ≡ Some x → drop k xs ≡ x ∷ drop (suc k) xs
-drop_here [] k x e = absurd cc
-drop_here {A} (y ∷ xs) zero x e = let same : y ≡ x = cc in ap (λ z. z ∷ xs) same
-drop_here (y ∷ xs) (suc k) x e = drop_here xs k x e
 
 module _ (ss : List Shelf) (k : ℕ) (s : Shelf) (at : slice_get ss k ≡ Some s) where
   -- those of a shelf stand between those before it and those behind it
