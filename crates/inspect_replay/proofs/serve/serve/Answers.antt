@@ -16,6 +16,7 @@ serve_source-requires g c = record {
   watches_are = c.new.ensures.watches;
   searches_are = c.new.ensures.searches;
   history_is = c.new.ensures.history;
+  alive = c.new.ensures.alive;
 }
 
 pub returns-in-Err-clause-took : goal.returns-in-Err-clause-took

@@ -18,6 +18,7 @@ serve_source-requires g c = (
     watches_are = c.new.ensures.watches.0;
     searches_are = c.new.ensures.searches.0;
     history_is = c.new.ensures.histories.0;
+    alive = c.new.ensures.seats.0;
   },
   record {
     off = c.new.ensures.off.1;
@@ -26,6 +27,7 @@ serve_source-requires g c = (
     watches_are = c.new.ensures.watches.1;
     searches_are = c.new.ensures.searches.1;
     history_is = c.new.ensures.histories.1;
+    alive = c.new.ensures.seats.1;
   },
   c.new.ensures.sessions,
 )
