@@ -3,20 +3,11 @@ ghost use Rattle.std.specs.Prelude.{slice_set};
 ghost use Rattle.std.specs.List.{insert, remove};
 ghost use Rattle.node_tree.specs.Labels.{value_of};
 
+use crate::short_lists::make_room;
 use crate::texts::Text;
 use std::alloc::{AllocError, Global};
 use std::marker::Model;
 use std::mem;
-
-// Room for one pair in an empty list: most lists have no more, and a push alone makes room for four.
-fn make_room(pairs: &mut Vec<(Text, Text)>) -> Result<(), AllocError>
-    ensures { pairs.new.items ≡ pairs.old.items }
-{
-    if pairs.is_empty() {
-        pairs.reserve_exact(1)?;
-    }
-    Ok(())
-}
 
 /// A list of attributes, each a name and a value, which contracts see as the list of the pairs of their bytes.
 #[derive(Drop)]

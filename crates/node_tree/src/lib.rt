@@ -16,6 +16,7 @@ mod attribute_lists;
 mod limits;
 mod names;
 mod origins;
+mod short_lists;
 mod texts;
 mod watches;
 
@@ -24,6 +25,7 @@ pub use attribute_lists::Attributes;
 pub use limits::{MAX_LEVEL, MAX_NODES, MAX_SHEET_BYTES, MAX_SHEETS, MOST_LEVELS, MOST_TOLD};
 pub use names::{is_attribute_name, is_element_name};
 pub use origins::Origin;
+pub use short_lists::make_room;
 pub use texts::Text;
 pub use watches::WatchKind;
 

@@ -1,5 +1,5 @@
 -- Selectors without where they lie in memory.
-use Rattle.std.specs.Prelude.{◌≡◌, ℕ, ℤ, Bool, List, map, Option, Some, None, Result, Ok, Err, string_bytes}
+use Rattle.std.specs.Prelude.{◌≡◌, ℕ, ℤ, Bool, List, map, Option, Some, None, Result, Ok, Err}
 use Rattle.css_tokens.specs.declared.token.Range.{Range}
 use Rattle.selectors.specs.declared.selector.SelErr.{SelErr}
 use Rattle.selectors.specs.declared.selector.SelErr.TheVariants.{Invalid, Memory}
@@ -46,10 +46,10 @@ pub record SelectorForm : Type 0 where
 -- a test as the code has it, with its names as their bytes
 abbrev pub test_seen : Test → TestForm
 test_seen tests.Any = any
-test_seen (tests.Tag name) = tag (string_bytes name)
-test_seen (tests.Id name) = id (string_bytes name)
-test_seen (tests.Class name) = class (string_bytes name)
-test_seen (tests.Attr name op operand) = attr (string_bytes name) op (string_bytes operand)
+test_seen (tests.Tag name) = tag name
+test_seen (tests.Id name) = id name
+test_seen (tests.Class name) = class name
+test_seen (tests.Attr name op operand) = attr name op operand
 test_seen tests.Root = root
 test_seen tests.Empty = empty
 test_seen (tests.Nth kind step offset) = nth kind step offset

@@ -12,6 +12,7 @@ use crate::selector::{Compound, Joint, SelErr, Selector, SelectorList, Simple};
 use crate::simple::{first_at, item_at};
 use crate::values::next;
 use crate::words::{WordKind, Words, all_words};
+use node_tree::make_room;
 use std::alloc::{AllocError, Global};
 
 fn combinator_of(kind: WordKind) -> Option<Joint>
@@ -42,6 +43,7 @@ fn push_item(tests: &mut Vec<Simple>, item: Option<Simple>) -> Result<bool, Allo
 {
     match item {
         Some(test) => {
+            make_room(tests)?;
             tests.push(test)?;
             Ok(false)
         }
@@ -53,6 +55,7 @@ fn push_compound(compounds: &mut Vec<Compound>, compound: Compound) -> Result<()
     ensures { IfOk result (λ _. map compound_seen compounds.new.items
         ≡ map compound_seen compounds.old.items ++ compound_seen compound ∷ []) }
 {
+    make_room(compounds)?;
     compounds.push(compound)?;
     Ok(())
 }
@@ -60,6 +63,7 @@ fn push_compound(compounds: &mut Vec<Compound>, compound: Compound) -> Result<()
 fn push_selector(list: &mut Vec<Selector>, selector: Selector) -> Result<(), AllocError>
     ensures { IfOk result (λ _. map selector_seen list.new.items ≡ map selector_seen list.old.items ++ selector_seen selector ∷ []) }
 {
+    make_room(list)?;
     list.push(selector)?;
     Ok(())
 }

@@ -5,6 +5,7 @@ ghost use Rattle.selectors.specs.Lists.{moved_range, CanMove};
 ghost use Rattle.selectors.specs.Moves.{cut, moved_place, placed_range, CanPlace, CanPlaceRange};
 
 use css_tokens::Range;
+use node_tree::Text;
 use std::alloc::AllocError;
 use thiserror::Error;
 
@@ -73,14 +74,14 @@ pub enum NthKind {
 pub enum Test {
     /// `*`
     Any,
-    Tag(String),
-    Id(String),
-    Class(String),
+    Tag(Text),
+    Id(Text),
+    Class(Text),
     Attr {
-        name: String,
+        name: Text,
         op: AttrOp,
         /// Empty for `Exists`.
-        operand: String,
+        operand: Text,
     },
     Root,
     Empty,

@@ -2,7 +2,7 @@
 //!
 //! A function that has taken the first word of what it reads gets that word as an argument.
 
-ghost use Rattle.std.specs.Prelude.{◌≡◌, ◌≤◌, ◌<◌, IfOk, string_bytes, length};
+ghost use Rattle.std.specs.Prelude.{◌≡◌, ◌≤◌, ◌<◌, IfOk, length};
 ghost use Rattle.std.specs.Str.{IsCharBoundary};
 ghost use Rattle.selectors.specs.declared.words.WordKind.TheVariants as kinds;
 ghost use Rattle.selectors.specs.Words.{IsWordOf};
@@ -20,6 +20,7 @@ use crate::values::{
     take_tight_mark, tight_ident_at, value_of,
 };
 use crate::words::{Word, WordKind, Words};
+use node_tree::Text;
 use std::alloc::Global;
 
 fn operator_of(kind: WordKind) -> Option<AttrOp>
@@ -65,14 +66,14 @@ fn operator_at(words: &mut Words) -> Result<AttrOp, SelErr>
 
 /// An ident or a string.
 #[tactic(auto, unfolding(crate::specs::Reading::operand_at))]
-fn operand_at(alloc: Global, words: &mut Words) -> Result<String, SelErr>
-    ensures reads { GivesRead (λ s. (string_bytes s, words.new)) result (operand_at words.old) }
+fn operand_at(alloc: Global, words: &mut Words) -> Result<Text, SelErr>
+    ensures reads { GivesRead (λ t. (t, words.new)) result (operand_at words.old) }
     ensures shorter { IfOk result (λ _. length words.new.words ≤ length words.old.words) }
 {
     let word = next(words)?;
     match word.kind {
-        WordKind::Ident => Ok(value_of(alloc, words.text(), word)?),
-        WordKind::Str => Ok(string_of(alloc, words.text(), word)?),
+        WordKind::Ident => Ok(Text::new(value_of(alloc, words.text(), word)?)),
+        WordKind::Str => Ok(Text::new(string_of(alloc, words.text(), word)?)),
         _ => Err(SelErr::Invalid),
     }
 }
@@ -83,13 +84,13 @@ fn attribute_at(alloc: Global, words: &mut Words) -> Result<Test, SelErr>
     ensures reads { GivesRead (λ t. (test_seen t, words.new)) result (attribute_at words.old) }
     ensures shorter { IfOk result (λ _. length words.new.words ≤ length words.old.words) }
 {
-    let name = ident_at(alloc, words)?;
+    let name = Text::new(ident_at(alloc, words)?);
     if words.is_mark_next(b']') {
         take_mark(words, b']')?;
         return Ok(Test::Attr {
             name,
             op: AttrOp::Exists,
-            operand: String::new(alloc),
+            operand: Text::empty(alloc),
         });
     }
     let op = operator_at(words)?;
@@ -103,7 +104,7 @@ fn class_at(alloc: Global, words: &mut Words) -> Result<Test, SelErr>
     ensures reads { GivesRead (λ t. (test_seen t, words.new)) result (class_at words.old) }
     ensures shorter { IfOk result (λ _. length words.new.words ≤ length words.old.words) }
 {
-    Ok(Test::Class(tight_ident_at(alloc, words)?))
+    Ok(Test::Class(Text::new(tight_ident_at(alloc, words)?)))
 }
 
 /// An id, a class or an attribute selector.
@@ -114,7 +115,7 @@ fn plain_from(alloc: Global, words: &mut Words, word: Word) -> Result<Test, SelE
     ensures shorter { IfOk result (λ _. length words.new.words ≤ length words.old.words) }
 {
     match word.kind {
-        WordKind::Id => Ok(Test::Id(id_of(alloc, words.text(), word)?)),
+        WordKind::Id => Ok(Test::Id(Text::new(id_of(alloc, words.text(), word)?))),
         WordKind::Mark(b'.') => class_at(alloc, words),
         WordKind::Mark(b'[') => attribute_at(alloc, words),
         _ => Err(SelErr::Invalid),
@@ -211,7 +212,7 @@ fn argument_from(alloc: Global, words: &mut Words, word: Word) -> Result<Test, S
     ensures shorter { IfOk result (λ _. length words.new.words ≤ length words.old.words) }
 {
     match word.kind {
-        WordKind::Ident => Ok(Test::Tag(value_of(alloc, words.text(), word)?)),
+        WordKind::Ident => Ok(Test::Tag(Text::new(value_of(alloc, words.text(), word)?))),
         WordKind::Mark(b'*') => Ok(Test::Any),
         WordKind::Mark(b':') => pseudo_at(alloc, words),
         _ => plain_from(alloc, words, word),
@@ -322,7 +323,7 @@ fn first_from(alloc: Global, words: &mut Words, word: Word) -> Result<Option<Sim
 {
     match word.kind {
         WordKind::Ident => {
-            let name = value_of(alloc, words.text(), word)?;
+            let name = Text::new(value_of(alloc, words.text(), word)?);
             Ok(Some(Simple::Is(Test::Tag(name))))
         }
         WordKind::Mark(b'*') => Ok(Some(Simple::Is(Test::Any))),

@@ -15,7 +15,7 @@ use crate::ends::Ends;
 use crate::parts::{Part, at_rule_at, behind, part_len};
 use crate::sheet::Property;
 use css_tokens::{Range, Token, TokenKind, all_tokens};
-use node_tree::Text;
+use node_tree::{Text, make_room};
 use selectors::{Word, WordKind, lower_of, range_of, value_of, words_among};
 use std::alloc::{AllocError, Global};
 
@@ -234,6 +234,7 @@ fn push_some(properties: &mut Vec<Property>, property: Option<Property>) -> Resu
     ensures { IfOk result (λ _. properties.new.items ≡ properties.old.items ++ option_to_list property) }
 {
     if let Some(property) = property {
+        make_room(properties)?;
         properties.push(property)?;
     }
     Ok(())

@@ -55,9 +55,9 @@ fn test_digest(test: &Test) -> Option<u32>
     ensures { result ≡ option_map filing_digest (test_filing (test_seen test.now)) }
 {
     match test {
-        Test::Tag(name) => Some(name_digest(NameKind::Tag, name.as_bytes())),
-        Test::Id(name) => Some(name_digest(NameKind::Id, name.as_bytes())),
-        Test::Class(name) => Some(name_digest(NameKind::Class, name.as_bytes())),
+        Test::Tag(name) => Some(name_digest(NameKind::Tag, name.as_str().as_bytes())),
+        Test::Id(name) => Some(name_digest(NameKind::Id, name.as_str().as_bytes())),
+        Test::Class(name) => Some(name_digest(NameKind::Class, name.as_str().as_bytes())),
         Test::Any
         | Test::Attr { .. }
         | Test::Root
