@@ -4,6 +4,7 @@ mod Floats
 mod FrameBytes
 mod FieldsRead
 pub mod Messages
+pub mod Results
 pub mod SearchIds
 pub mod SessionFrames
 mod NeedsRead

@@ -9,7 +9,8 @@ use Rattle.cdp_json.specs.Kinds.{is_counted}
 use Rattle.cdp_json.specs.Tokens.{data_tokens}
 use Rattle.cdp_json.proofs.ReadBack.{tokens-compact_text, read-compact_text}
 use Rattle.cdp_messages.specs.declared.down.ReplyBody.{ReplyBody}
-use Rattle.cdp_messages.specs.Replies.{reply, message_data, message_in, body_data, fits_body, down_of}
+use Rattle.cdp_messages.specs.Replies.{reply, message_data, message_in, down_of}
+use Rattle.cdp_messages.specs.Results.{body_data, fits_body}
 use Rattle.cdp_messages.proofs.FrameBytes.{json_is}
 use Rattle.cdp_messages.proofs.Messages.{message_again, reply_fits, reply_plain}
 

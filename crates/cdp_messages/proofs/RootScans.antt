@@ -10,9 +10,10 @@ use Rattle.node_tree.specs.Levels.{most_told_root}
 use Rattle.cdp_messages.specs.declared.down.ReplyBody.TheVariants.{Root}
 use Rattle.dom_objects.specs.Told.{Told}
 use Rattle.dom_objects.specs.NodeData.{fits_tree, tree_data}
-use Rattle.cdp_messages.specs.Replies.{reply, message_data, message_in, body_data, down_of}
+use Rattle.cdp_messages.specs.Replies.{reply, message_data, message_in, down_of}
+use Rattle.cdp_messages.specs.Results.{body_data}
 use Rattle.dom_objects.specs.Tokens.{data_tokens, field_tokens}
-use Rattle.cdp_messages.proofs.Depths.{replies_are_shallow}
+use Rattle.cdp_messages.proofs.Results.{replies_are_shallow}
 use Rattle.cdp_messages.proofs.FrameBytes.{json_is}
 use Rattle.cdp_messages.proofs.Messages.{message_again, reply_fits, reply_plain}
 use Rattle.std.specs.Prelude.{codes}

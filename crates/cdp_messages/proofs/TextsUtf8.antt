@@ -1,18 +1,12 @@
 -- The text of a message is UTF-8 where the texts of its nodes are.
-use Rattle.std.proofs.Common.{◌≡◌, ℕ, ◌-◌, List, [], ◌∷◌, true, false, ◌&&◌, map, refl}
+use Rattle.std.proofs.Common.{◌≡◌, ◌-◌, true, false, ◌&&◌, refl}
 use Rattle.std.specs.Prelude.{codes, IsUtf8}
-use Rattle.json.proofs.Printed.Utf8.{are_ascii, IsUtf8-are_ascii}
-use Rattle.serde_json.specs.View.{items_of}
-use Rattle.cdp_json.specs.Plain.{HasUtf8, ItemsHaveUtf8}
-use Rattle.cdp_json.specs.Kinds.{whole}
+use Rattle.json.proofs.Printed.Utf8.{IsUtf8-are_ascii}
+use Rattle.cdp_json.specs.Plain.{HasUtf8}
 use Rattle.cdp_json.proofs.ReadBack.{IsUtf8-compact_text}
 use Rattle.css_objects.specs.Sheets.{is_sheet, header_kind}
-use Rattle.css_objects.proofs.Objects.{sheet_sound, header_sound, class_names_sound, sheet_text_sound, styles_sound, new_selectors_sound}
-use Rattle.css_objects.proofs.Objects.{new_rule_sound, new_media_sound, matched_sound}
-use Rattle.cdp_messages.specs.declared.down.ReplyBody.{ReplyBody}
-use Rattle.cdp_messages.specs.declared.down.ReplyBody.TheVariants.{Nothing, Root, Node, NodeId, NodeIds, Attributes, ClassNames, SheetText}
-use Rattle.cdp_messages.specs.declared.down.ReplyBody.TheVariants.{Styles, Selectors, Rule, Media, Matched, Search}
-use Rattle.dom_objects.specs.declared.node_rules.Manner.TheVariants.{Pushed, Described}
+use Rattle.css_objects.proofs.Objects.{sheet_sound, header_sound}
+use Rattle.dom_objects.specs.declared.node_rules.Manner.TheVariants.{Pushed}
 use Rattle.dom_objects.specs.NodeData.{fits_nodes, fits_tree}
 use Rattle.cdp_messages.specs.Events.{News, attribute_modified, attribute_removed, text_modified, count_updated, inserted, removed}
 use Rattle.cdp_messages.specs.Events.{set_children, document_updated, sheet_added, sheet_changed, sheet_removed, paused, event_name}
@@ -22,35 +16,14 @@ use Rattle.cdp_messages.specs.declared.down.PauseData.{PauseData}
 use Rattle.cdp_messages.specs.declared.down.PauseData.TheVariants as pause
 use Rattle.cdp_messages.specs.declared.event_names.EventName.{EventName}
 use Rattle.cdp_messages.specs.declared.event_names.EventName.TheVariants as name
-use Rattle.cdp_messages.specs.Replies.{reply, message_data, body_data, fits_body}
-use Rattle.cdp_messages.specs.Laws.{BodyHasUtf8, NewsHaveUtf8, RepliesAreUtf8, EventsAreUtf8}
+use Rattle.cdp_messages.specs.Replies.{reply, message_data}
+use Rattle.cdp_messages.specs.Results.{body_data}
+use Rattle.cdp_messages.specs.Laws.{NewsHaveUtf8, RepliesAreUtf8, EventsAreUtf8}
 use Rattle.cdp_json.proofs.Options.{both_parts}
 use Rattle.cdp_messages.proofs.Messages.{reply_plain}
-use Rattle.cdp_messages.proofs.SearchIds.{search_text-utf8}
+use Rattle.cdp_messages.proofs.Results.{body_utf8}
 use Rattle.cdp_messages.proofs.NewsLaws.{news_plain}
-use Rattle.dom_objects.proofs.NodeUtf8.{pairs_utf8, trees_utf8, tree_utf8}
-
-numbers_utf8 : (ns : List ℕ) → ItemsHaveUtf8 (items_of (map whole.spell ns))
-numbers_utf8 [] = tt
-numbers_utf8 (n ∷ ns) = (tt, numbers_utf8 ns)
-
-body_utf8 : (body : ReplyBody) → fits_body body ≡ true → BodyHasUtf8 body → HasUtf8 (body_data body)
-body_utf8 Nothing f u = tt
-body_utf8 (Root b) f u = (IsUtf8-are_ascii (codes "root") refl, tree_utf8 Pushed true b f u, tt)
-body_utf8 (Node b) f u = (IsUtf8-are_ascii (codes "node") refl, tree_utf8 Described true b f u, tt)
-body_utf8 (NodeId n) f u = (IsUtf8-are_ascii (codes "nodeId") refl, tt, tt)
-body_utf8 (NodeIds ns) f u = (IsUtf8-are_ascii (codes "nodeIds") refl, numbers_utf8 ns, tt)
-body_utf8 (Attributes pairs) f u = (IsUtf8-are_ascii (codes "attributes") refl, pairs_utf8 pairs u, tt)
-body_utf8 (Search search count) f u =
-    let id = search_text-utf8 search (both_parts _ _ (both_parts _ _ f).1).0 in
-    (IsUtf8-are_ascii (codes "resultCount") refl, tt, (IsUtf8-are_ascii (codes "searchId") refl, id, tt))
-body_utf8 (ClassNames names) f u = class_names_sound.utf8 names f u
-body_utf8 (SheetText text) f u = sheet_text_sound.utf8 text f u
-body_utf8 (Styles styles) f u = styles_sound.utf8 styles f u
-body_utf8 (Selectors selectors) f u = new_selectors_sound.utf8 selectors f u
-body_utf8 (Rule rule) f u = new_rule_sound.utf8 rule f u
-body_utf8 (Media media) f u = new_media_sound.utf8 media f u
-body_utf8 (Matched matched) f u = matched_sound.utf8 matched f u
+use Rattle.dom_objects.proofs.NodeUtf8.{trees_utf8, tree_utf8}
 
 pub replies_are_utf8 : RepliesAreUtf8
 replies_are_utf8 id body c f u =

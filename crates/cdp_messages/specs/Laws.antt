@@ -1,12 +1,10 @@
 -- The laws of the messages: what is written is read as what was written, and nothing else is read.
 use Rattle.std.specs.Prelude.{◌≡◌, ◌≢◌, All, ℕ, ℤ, ◌≤◌, ◌<◌, List, ⊤, Bool, true, false, not, ◌&&◌, Option, Some, None, Ok, IsUtf8}
-use Rattle.std.specs.List.{AllByRecursion}
 use Rattle.serde_json.specs.Data.{Data, object, Members, depth}
 use Rattle.serde_json.specs.Read.{max_depth}
 use Rattle.serde_json.specs.Written.{compact_text}
 use Rattle.cdp_json.specs.Plain.{is_plain}
 use Rattle.cdp_json.specs.Kinds.{is_counted, is_signed, holds_of_some}
-use Rattle.css_objects.specs.Laws.{SelectorsHaveUtf8, StyleHasUtf8, RuleHasUtf8, MediaHasUtf8, MatchedHaveUtf8}
 use Rattle.node_tree.specs.Nodes.{Nodes, alone, height}
 use Rattle.node_tree.specs.Levels.{most_told, most_told_root}
 use Rattle.node_tree.specs.Seen.{Seen}
@@ -17,19 +15,17 @@ use Rattle.cdp_messages.specs.declared.command.Asked.{Asked}
 use Rattle.cdp_messages.specs.declared.command.Refused.{Refused}
 use Rattle.cdp_messages.specs.Methods.{is_own, method_named}
 use Rattle.cdp_messages.specs.declared.down.ReplyBody.{ReplyBody}
-use Rattle.cdp_messages.specs.declared.down.ReplyBody.TheVariants.{Nothing, Root, Node, NodeId, NodeIds, Attributes, ClassNames, SheetText}
-use Rattle.cdp_messages.specs.declared.down.ReplyBody.TheVariants.{Styles, Selectors, Rule, Media, Matched, Search}
+use Rattle.cdp_messages.specs.declared.down.ReplyBody.TheVariants.{Nothing}
 use Rattle.cdp_messages.specs.Asked.{asked, asked_by, command_of, method_of, method_name, parameters, fits_command, command_value}
 use Rattle.cdp_messages.specs.Asked.{command_text, json_of}
 use Rattle.cdp_messages.specs.Events.{News, attribute_modified, attribute_removed, text_modified, count_updated, inserted, removed}
-use Rattle.cdp_messages.specs.Events.{set_children, document_updated, sheet_added, sheet_changed, sheet_removed, paused, is_object}
+use Rattle.cdp_messages.specs.Events.{set_children, document_updated, sheet_added, sheet_changed, sheet_removed, paused}
 use Rattle.cdp_messages.specs.Events.{news_data, fits_news}
 use Rattle.cdp_messages.specs.declared.method.Method.{Method}
 use Rattle.cdp_messages.specs.Methods.{result_form}
-use Rattle.cdp_messages.specs.Results.{is_form}
-use Rattle.cdp_messages.specs.Replies.{Message, reply, fault, event, event_text, message_data, fits_message, message_in, down_of, body_data}
-use Rattle.cdp_messages.specs.Replies.{fits_body, form_of_body, result_of, reply_text, refusal_message, refused_text}
-use Rattle.node_tree.specs.Labels.{PairsHaveUtf8}
+use Rattle.cdp_messages.specs.Results.{is_form, body_data, fits_body, form_of_body, Spells, BodyHasUtf8, body_height}
+use Rattle.cdp_messages.specs.Replies.{Message, reply, fault, event, event_text, message_data, fits_message, message_in, down_of, result_of}
+use Rattle.cdp_messages.specs.Replies.{reply_text, refusal_message, refused_text}
 use Rattle.dom_objects.specs.NodeTexts.{NodesHaveUtf8}
 
 -- JSON nests as deep as it is read
@@ -81,23 +77,6 @@ RepliesAreRead = (id : ℕ) (body : ReplyBody) → is_counted id ≡ true → fi
 
 -- ---- UTF-8
 
--- what a result tells has UTF-8 texts
-abbrev pub BodyHasUtf8 : ReplyBody → Type 0
-BodyHasUtf8 Nothing = ⊤
-BodyHasUtf8 (Root b) = NodesHaveUtf8 (alone b)
-BodyHasUtf8 (Node b) = NodesHaveUtf8 (alone b)
-BodyHasUtf8 (NodeId id) = ⊤
-BodyHasUtf8 (NodeIds ids) = ⊤
-BodyHasUtf8 (Attributes pairs) = PairsHaveUtf8 pairs
-BodyHasUtf8 (Search search count) = ⊤
-BodyHasUtf8 (ClassNames names) = AllByRecursion IsUtf8 names
-BodyHasUtf8 (SheetText text) = IsUtf8 text
-BodyHasUtf8 (Styles styles) = AllByRecursion StyleHasUtf8 styles
-BodyHasUtf8 (Selectors selectors) = SelectorsHaveUtf8 selectors
-BodyHasUtf8 (Rule rule) = RuleHasUtf8 rule
-BodyHasUtf8 (Media media) = MediaHasUtf8 media
-BodyHasUtf8 (Matched matched) = MatchedHaveUtf8 matched
-
 -- the texts that an event tells are UTF-8
 abbrev pub NewsHaveUtf8 : News → Type 0
 NewsHaveUtf8 (attribute_modified id name value) = IsUtf8 name × IsUtf8 value
@@ -127,23 +106,6 @@ EventsAreUtf8 = (n : News) → fits_news n ≡ true → NewsHaveUtf8 n → IsUtf
 abbrev pub ShownChildrenFit : Type 0
 ShownChildrenFit = (parent : ℕ) (n : Nodes Seen) → is_counted parent ≡ true → 0 < parent → suits_nodes n ≡ true
     → fits_news (set_children parent (told_nodes parent n)) ≡ true
-
--- how many levels of nodes a result tells
-abbrev pub body_height : ReplyBody → ℕ
-body_height Nothing = 0
-body_height (Root b) = height (alone b)
-body_height (Node b) = height (alone b)
-body_height (NodeId id) = 0
-body_height (NodeIds ids) = 0
-body_height (Attributes pairs) = 0
-body_height (Search search count) = 0
-body_height (ClassNames names) = 0
-body_height (SheetText text) = 0
-body_height (Styles styles) = 0
-body_height (Selectors selectors) = 0
-body_height (Rule rule) = 0
-body_height (Media media) = 0
-body_height (Matched matched) = 0
 
 -- a reply with nodes of as many levels as there may be nests at most 124 deep
 abbrev pub RepliesAreShallow : Type 0
@@ -217,23 +179,6 @@ ResultsAreRead = (method : List ℕ) (body : ReplyBody) → answers method body 
 -- a message that is read is spelled so
 abbrev pub MessagesAreSpelled : Type 0
 MessagesAreSpelled = (d : Data) (m : Message) → message_in d ≡ Some m → (message_data m ≡ d) × (fits_message m ≡ true)
-
--- the value spells the result; any object spells the empty one
-abbrev pub Spells : ReplyBody → Data → Type 0
-Spells Nothing d = is_object d ≡ true
-Spells (Root b) d = d ≡ body_data (Root b)
-Spells (Node b) d = d ≡ body_data (Node b)
-Spells (NodeId id) d = d ≡ body_data (NodeId id)
-Spells (NodeIds ids) d = d ≡ body_data (NodeIds ids)
-Spells (Attributes pairs) d = d ≡ body_data (Attributes pairs)
-Spells (Search search count) d = d ≡ body_data (Search search count)
-Spells (ClassNames names) d = d ≡ body_data (ClassNames names)
-Spells (SheetText text) d = d ≡ body_data (SheetText text)
-Spells (Styles styles) d = d ≡ body_data (Styles styles)
-Spells (Selectors selectors) d = d ≡ body_data (Selectors selectors)
-Spells (Rule rule) d = d ≡ body_data (Rule rule)
-Spells (Media media) d = d ≡ body_data (Media media)
-Spells (Matched matched) d = d ≡ body_data (Matched matched)
 
 -- a result that is read is spelled so, and is one of that method
 abbrev pub ResultsAreSpelled : Type 0

@@ -6,8 +6,8 @@ use Rattle.cdp_messages.specs.declared.method.Server.TheVariants as server
 use Rattle.cdp_messages.specs.declared.method.Domains.{Domains}
 use Rattle.cdp_messages.specs.declared.method.Domains.TheVariants as domains
 use Rattle.cdp_messages.specs.declared.method.MethodRow.{MethodRow}
-use Rattle.cdp_messages.specs.declared.result_forms.ResultForm.{ResultForm}
-use Rattle.cdp_messages.specs.declared.result_forms.ResultForm.TheVariants as form
+use Rattle.cdp_messages.specs.declared.method.ResultForm.{ResultForm}
+use Rattle.cdp_messages.specs.declared.method.ResultForm.TheVariants as form
 use Rattle.cdp_messages.specs.declared.method.Method.{Method}
 use Rattle.cdp_messages.specs.declared.method.Method.TheVariants.{DomEnable, DomDisable, GetDocument, RequestChildNodes, PushByPath}
 use Rattle.cdp_messages.specs.declared.method.Method.TheVariants.{PushBySerials, QuerySelector, QuerySelectorAll, GetAttributes}

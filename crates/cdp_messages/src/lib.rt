@@ -34,7 +34,6 @@ mod read;
 mod read_by;
 mod receive;
 mod reply_write;
-mod result_forms;
 mod result_read;
 mod root_scan;
 mod search_ask;

@@ -6,7 +6,8 @@ ghost use Rattle.cdp_json.specs.Kinds.{is_counted};
 ghost use Rattle.cdp_json.specs.Tokens.{data_tokens};
 ghost use Rattle.css_objects.specs.Rules.{matched_kind};
 ghost use Rattle.cdp_messages.specs.declared.down.ReplyBody.TheVariants.{Matched as matched_body};
-ghost use Rattle.cdp_messages.specs.Replies.{reply, message_data, body_data, down_of};
+ghost use Rattle.cdp_messages.specs.Replies.{reply, message_data, down_of};
+ghost use Rattle.cdp_messages.specs.Results.{body_data};
 
 use crate::root_scan::take_end;
 use cdp_json::{

@@ -3,9 +3,9 @@ ghost use Rattle.std.specs.Prelude.{◌≡◌};
 ghost use Rattle.cdp_json.specs.Kinds.{named};
 ghost use Rattle.cdp_messages.specs.Methods.{MethodSaid, said, row_seen, row_of, name_of, method_named, is_own, result_form, domains_of};
 ghost use Rattle.cdp_messages.specs.Methods.{is_replay};
-ghost use Rattle.cdp_messages.specs.declared.result_forms.ResultForm.TheVariants as form;
+ghost use Rattle.cdp_messages.specs.declared.method.ResultForm.TheVariants as form;
 
-use crate::result_forms::ResultForm as Form;
+use crate::method::ResultForm as Form;
 
 /// A method of the protocol, or one of the two of our own.
 #[derive(Clone, Copy)]
@@ -82,6 +82,25 @@ pub enum Method {
     ReplayLoad,
     /// `Replay.act`
     ReplayAct,
+}
+
+// The form of a result.
+#[derive(Clone, Copy)]
+pub(crate) enum ResultForm {
+    Nothing,
+    Root,
+    Node,
+    NodeId,
+    NodeIds,
+    Attributes,
+    Search,
+    ClassNames,
+    SheetText,
+    Styles,
+    Selectors,
+    Rule,
+    Media,
+    Matched,
 }
 
 /// Whose a method is: who carries out what it asks.

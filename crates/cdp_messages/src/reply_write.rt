@@ -4,8 +4,8 @@ ghost use Rattle.serde_json.specs.Data.{Data};
 ghost use Rattle.serde_json.specs.View.{view};
 ghost use Rattle.serde_json.specs.Written.{compact_text, has_float};
 ghost use Rattle.dom_objects.specs.NodeObject.{attribute_list};
-ghost use Rattle.cdp_messages.specs.Results.{id_kind, ids_kind, attributes_kind, search_result_kind};
-ghost use Rattle.cdp_messages.specs.Replies.{reply, message_data, body_data, reply_text};
+ghost use Rattle.cdp_messages.specs.Results.{id_kind, ids_kind, attributes_kind, search_result_kind, body_data};
+ghost use Rattle.cdp_messages.specs.Replies.{reply, message_data, reply_text};
 ghost use Rattle.pipe_frames.specs.Frames.{framed};
 ghost use Rattle.cdp_messages.specs.Forms.{body_said};
 

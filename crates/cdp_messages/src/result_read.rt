@@ -6,16 +6,15 @@ ghost use Rattle.cdp_json.specs.Left.{left};
 ghost use Rattle.cdp_json.specs.Kinds.{list_of, refined, whole};
 ghost use Rattle.cdp_json.specs.Rows.{left_with, need};
 ghost use Rattle.dom_objects.specs.Answers.{GivesMessage};
-ghost use Rattle.cdp_messages.specs.declared.result_forms.ResultForm.TheVariants as form;
+ghost use Rattle.cdp_messages.specs.declared.method.ResultForm.TheVariants as form;
 ghost use Rattle.dom_objects.specs.NodeObject.{attribute_list};
-ghost use Rattle.cdp_messages.specs.Results.{are_attributes};
+ghost use Rattle.cdp_messages.specs.Results.{are_attributes, result_by};
 ghost use Rattle.cdp_messages.specs.SearchIds.{search_kind};
-ghost use Rattle.cdp_messages.specs.Replies.{result_by, result_of};
+ghost use Rattle.cdp_messages.specs.Replies.{result_of};
 
 use crate::down::ReplyBody;
-use crate::method::Method;
+use crate::method::{Method, ResultForm};
 use crate::numbers::Numbers;
-use crate::result_forms::ResultForm;
 use crate::search_ids::search_of;
 use cdp_json::{Cursor, wholes_of};
 use css_objects::{

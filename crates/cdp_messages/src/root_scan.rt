@@ -5,7 +5,8 @@ ghost use Rattle.node_tree.specs.Nodes.{alone, height};
 ghost use Rattle.node_tree.specs.Levels.{most_told_root};
 ghost use Rattle.dom_objects.specs.NodeData.{fits_tree};
 ghost use Rattle.cdp_messages.specs.declared.down.ReplyBody.TheVariants.{Root};
-ghost use Rattle.cdp_messages.specs.Replies.{reply, message_data, body_data, down_of};
+ghost use Rattle.cdp_messages.specs.Replies.{reply, message_data, down_of};
+ghost use Rattle.cdp_messages.specs.Results.{body_data};
 ghost use Rattle.dom_objects.specs.Tokens.{data_tokens};
 
 use cdp_json::{ScanErr, take_begin_object, take_end_object, take_key};

@@ -1,7 +1,7 @@
 -- What an Ok reply changes at the front end, beside the reply itself.
 use Rattle.std.specs.Prelude.{ℕ, List, codes, cond, bytes_eq}
 use Rattle.cdp_messages.specs.declared.down.ReplyBody.{ReplyBody}
-use Rattle.cdp_messages.specs.declared.down.ReplyBody.TheVariants as body
+use Rattle.cdp_messages.specs.Results.{Tale, no_result, document, sheet_text, new_styles, matched_styles, answer_alone, tale_of}
 use Rattle.client_views.specs.declared.effects.Effect.{Effect}
 use Rattle.client_views.specs.declared.effects.Effect.TheVariants.{Document, SheetText, AllOff, SheetsOff, NothingElse}
 
@@ -10,19 +10,15 @@ abbrev pub effect_of_method : List ℕ → Effect
 effect_of_method method = cond (bytes_eq method (codes "DOM.disable")) AllOff
     (cond (bytes_eq method (codes "CSS.disable")) SheetsOff NothingElse)
 
+-- of an Ok reply to that method, by what its result tells
+abbrev pub effect_by : List ℕ → Tale → Effect
+effect_by method no_result = effect_of_method method
+effect_by method (document tree) = Document tree
+effect_by method (sheet_text text) = SheetText text
+effect_by method (new_styles styles) = NothingElse
+effect_by method (matched_styles matched) = NothingElse
+effect_by method answer_alone = NothingElse
+
 -- of an Ok reply to that method, with this result
 abbrev pub effect_of : List ℕ → ReplyBody → Effect
-effect_of method body.Nothing = effect_of_method method
-effect_of method (body.Root tree) = Document tree
-effect_of method (body.Node tree) = NothingElse
-effect_of method (body.NodeId id) = NothingElse
-effect_of method (body.NodeIds ids) = NothingElse
-effect_of method (body.Attributes pairs) = NothingElse
-effect_of method (body.Search search count) = NothingElse
-effect_of method (body.ClassNames names) = NothingElse
-effect_of method (body.SheetText text) = SheetText text
-effect_of method (body.Styles styles) = NothingElse
-effect_of method (body.Selectors selectors) = NothingElse
-effect_of method (body.Rule rule) = NothingElse
-effect_of method (body.Media media) = NothingElse
-effect_of method (body.Matched matched) = NothingElse
+effect_of method body = effect_by method (tale_of body)

@@ -13,8 +13,7 @@ use Rattle.node_tree.specs.LabelChanges.{with_attribute, without_attribute, with
 use Rattle.node_tree.specs.Seen.{Seen, counted, opened, shows_count as is_shut, is_opened, seen_id}
 use Rattle.cdp_messages.specs.declared.command.Refused.{Refused}
 use Rattle.cdp_messages.specs.declared.down.ReplyBody.{ReplyBody}
-use Rattle.cdp_messages.specs.declared.down.ReplyBody.TheVariants.{Nothing, Root, Node, NodeId, NodeIds, Attributes, ClassNames, SheetText}
-use Rattle.cdp_messages.specs.declared.down.ReplyBody.TheVariants.{Styles, Selectors, Rule, Media, Matched, Search}
+use Rattle.cdp_messages.specs.declared.down.ReplyBody.TheVariants.{Nothing, Root, SheetText}
 use Rattle.cdp_messages.specs.declared.down.PauseData.{PauseData}
 use Rattle.cdp_messages.specs.declared.down.PauseData.TheVariants as pause
 use Rattle.cdp_messages.specs.Events.{News, attribute_modified, attribute_removed, text_modified, count_updated, inserted, removed}
@@ -22,9 +21,10 @@ use Rattle.cdp_messages.specs.Events.{set_children, document_updated, paused, sh
 use Rattle.pipe_frames.specs.Frames.{framed}
 use Rattle.dom_objects.specs.Tellable.{suits_tree}
 use Rattle.dom_objects.specs.Told.{told_nodes, told_branch}
-use Rattle.cdp_messages.specs.Replies.{Message, reply, event, message_data, refusal_message, body_data, fits_body}
+use Rattle.cdp_messages.specs.Replies.{Message, reply, event, message_data, refusal_message}
+use Rattle.cdp_messages.specs.Results.{body_data, fits_body, BodyHasUtf8, body_height, Tale, no_result, document, sheet_text, new_styles}
+use Rattle.cdp_messages.specs.Results.{matched_styles, answer_alone, tale_of}
 use Rattle.node_tree.specs.Labels.{LabelHasUtf8}
-use Rattle.cdp_messages.specs.Laws.{BodyHasUtf8, body_height}
 use Rattle.client_views.specs.Views.{ShownSheet, sheet_number, AreSheets, text_units, sheet_header, shows_sheet, shown_text, sheets_without}
 use Rattle.client_views.specs.Views.{sheets_with_text, View, IsView, is_distinct}
 
@@ -224,22 +224,18 @@ abbrev pub AreShown : List ℕ → Nodes Seen → Type 0
 AreShown [] v = ⊤
 AreShown (id ∷ ids) v = (has seen_id id v ≡ true) × AreShown ids v
 
--- a result that tells of a view: a document, or the text of a sheet
+-- what tells of a view: a document, or the text of a sheet
+abbrev pub is_of_view : Tale → Bool
+is_of_view no_result = false
+is_of_view (document tree) = true
+is_of_view (sheet_text text) = true
+is_of_view (new_styles styles) = false
+is_of_view (matched_styles matched) = false
+is_of_view answer_alone = false
+
+-- a result that does so
 abbrev pub tells_view : ReplyBody → Bool
-tells_view Nothing = false
-tells_view (Root b) = true
-tells_view (Node b) = false
-tells_view (NodeId id) = false
-tells_view (NodeIds ids) = false
-tells_view (Attributes pairs) = false
-tells_view (Search search count) = false
-tells_view (ClassNames names) = false
-tells_view (SheetText text) = true
-tells_view (Styles styles) = false
-tells_view (Selectors selectors) = false
-tells_view (Rule rule) = false
-tells_view (Media media) = false
-tells_view (Matched matched) = false
+tells_view body = is_of_view (tale_of body)
 
 -- a reply that tells neither a document nor the text of a sheet, and that a message can spell
 pub record IsPlainReply (id : ℕ) (body : ReplyBody) : Type 0 where

@@ -4,10 +4,10 @@ use Rattle.std.specs.Str.{IsUtf8}
 use Rattle.cdp_json.specs.Kinds.{is_counted}
 use Rattle.cdp_messages.specs.declared.command.Command.TheVariants.{EditCss}
 use Rattle.cdp_messages.specs.declared.down.ReplyBody.{ReplyBody}
-use Rattle.cdp_messages.specs.declared.down.ReplyBody.TheVariants as body
 use Rattle.cdp_messages.specs.declared.edits.TextEdit.{TextEdit}
 use Rattle.cdp_messages.specs.Asked.{method_name}
 use Rattle.cdp_messages.specs.Laws.{answers}
+use Rattle.cdp_messages.specs.Results.{Tale, no_result, document, sheet_text, new_styles, matched_styles, answer_alone, tale_of}
 use Rattle.client_views.specs.Moves.{IsPlainReply}
 use Rattle.sheet_reader.specs.declared.book.SheetEntry.{SheetEntry}
 use Rattle.sheet_reader.specs.Books.{IsStored}
@@ -60,22 +60,18 @@ back_splices (s ∷ ss) book = back_splice s book ∷ back_splices ss (after_spl
 
 -- ---- of what is told
 
--- a list of styles has so many
+-- new styles are so many
+abbrev pub HasStyles : ℕ → Tale → Type 0
+HasStyles n no_result = ⊤
+HasStyles n (document tree) = ⊤
+HasStyles n (sheet_text text) = ⊤
+HasStyles n (new_styles styles) = length styles ≡ n
+HasStyles n (matched_styles matched) = ⊤
+HasStyles n answer_alone = ⊤
+
+-- a result that tells styles tells so many
 abbrev pub TellsStyles : ℕ → ReplyBody → Type 0
-TellsStyles n body.Nothing = ⊤
-TellsStyles n (body.Root b) = ⊤
-TellsStyles n (body.Node b) = ⊤
-TellsStyles n (body.NodeId id) = ⊤
-TellsStyles n (body.NodeIds ids) = ⊤
-TellsStyles n (body.Attributes pairs) = ⊤
-TellsStyles n (body.Search search count) = ⊤
-TellsStyles n (body.ClassNames names) = ⊤
-TellsStyles n (body.SheetText text) = ⊤
-TellsStyles n (body.Styles styles) = length styles ≡ n
-TellsStyles n (body.Selectors selectors) = ⊤
-TellsStyles n (body.Rule rule) = ⊤
-TellsStyles n (body.Media media) = ⊤
-TellsStyles n (body.Matched matched) = ⊤
+TellsStyles n body = HasStyles n (tale_of body)
 
 -- what is told of that place is the style rule that stands there
 abbrev pub IsRuleTold : List SheetEntry → RulePlace → Type 0

@@ -1,6 +1,6 @@
 -- A step is a list of moves, and its reply is one of the command's.
 use Rattle.std.proofs.Common.{◌≡◌, ℕ, ◌+◌, ◌≤◌, pos, true, false, List, [], ◌∷◌, length, Option, unwrap_or, refl, sym}
-use Rattle.std.proofs.Common.{◌∙◌, arith}
+use Rattle.std.proofs.Common.{◌∙◌, ap, arith}
 use Rattle.cdp_json.specs.Kinds.{is_counted}
 use Rattle.node_tree.specs.Nodes.{Nodes, Branch, alone, node_count, height}
 use Rattle.node_tree.specs.Levels.{most_told, most_told_root}
@@ -16,12 +16,13 @@ use Rattle.cdp_messages.specs.declared.dom_ask.DomAsk.{DomAsk}
 use Rattle.cdp_messages.specs.declared.dom_ask.DomAsk.TheVariants.{GetDocument, RequestChildNodes, PushByPath, PushBySerials, QuerySelector}
 use Rattle.cdp_messages.specs.declared.dom_ask.DomAsk.TheVariants.{QuerySelectorAll, GetAttributes, DescribeNode}
 use Rattle.cdp_messages.specs.declared.down.ReplyBody.{ReplyBody}
-use Rattle.cdp_messages.specs.declared.down.ReplyBody.TheVariants.{Nothing, Root, Node, NodeId, NodeIds, Attributes, ClassNames, SheetText}
-use Rattle.cdp_messages.specs.declared.down.ReplyBody.TheVariants.{Styles, Selectors, Rule, Media, Matched, Search}
+use Rattle.cdp_messages.specs.declared.down.ReplyBody.TheVariants.{Root, SheetText}
 use Rattle.cdp_messages.specs.DomAsks.{ask_name}
 use Rattle.cdp_messages.specs.Laws.{answers}
+use Rattle.cdp_messages.specs.Results.{Tale, no_result, document, sheet_text, new_styles, matched_styles, answer_alone, tale_of}
+use Rattle.cdp_messages.proofs.Results.{IsTaleOf, tale_is}
 use Rattle.client_views.specs.Views.{ShownSheet, View}
-use Rattle.client_views.specs.Moves.{root, replied, failed, tells_view, IsPlainReply, CanBeTold, Course, ends, goes}
+use Rattle.client_views.specs.Moves.{root, replied, failed, is_of_view, tells_view, IsPlainReply, CanBeTold, Course, ends, goes}
 use Rattle.dom_objects.specs.Told.{Told}
 use Rattle.dom_agent.specs.Requests.{Outcome, shows_root, served, refused, Progress, Showing, all_opened, opening_moves, state_after}
 use Rattle.dom_agent.specs.Requests.{moves_of}
@@ -38,20 +39,14 @@ TellsNoView c = ((b : Branch Told) → answers (ask_name c) (Root b) ≡ false)
 
 -- a reply that is neither
 is_no_view : (c : DomAsk) (body : ReplyBody) → TellsNoView c → answers (ask_name c) body ≡ true → tells_view body ≡ false
-is_no_view c Nothing other is = refl
-is_no_view c (Root b) other is = let is_told : false ≡ true = sym (other.0 b) ∙ is in absurd cc
-is_no_view c (Node b) other is = refl
-is_no_view c (NodeId node) other is = refl
-is_no_view c (NodeIds nodes) other is = refl
-is_no_view c (Attributes pairs) other is = refl
-is_no_view c (Search search count) other is = refl
-is_no_view c (ClassNames names) other is = refl
-is_no_view c (SheetText text) other is = let is_told : false ≡ true = sym (other.1 text) ∙ is in absurd cc
-is_no_view c (Styles styles) other is = refl
-is_no_view c (Selectors selectors) other is = refl
-is_no_view c (Rule rule) other is = refl
-is_no_view c (Media media) other is = refl
-is_no_view c (Matched matched) other is = refl
+is_no_view c body other is = at (tale_of body) (tale_is body) where
+  at : (t : Tale) → IsTaleOf body t → is_of_view t ≡ false
+  at no_result e = refl
+  at (document b) e = let told : false ≡ true = sym (other.0 b) ∙ ap (answers (ask_name c)) (sym e) ∙ is in absurd cc
+  at (sheet_text text) e = let told : false ≡ true = sym (other.1 text) ∙ ap (answers (ask_name c)) (sym e) ∙ is in absurd cc
+  at (new_styles styles) e = refl
+  at (matched_styles matched) e = refl
+  at answer_alone e = refl
 
 plain : (c : DomAsk) (id : ℕ) (body : ReplyBody) → TellsNoView c → is_counted id ≡ true → CanSpell body → answers (ask_name c) body ≡ true
     → IsPlainReply id body

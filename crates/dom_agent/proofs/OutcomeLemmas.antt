@@ -27,8 +27,8 @@ use Rattle.cdp_messages.specs.declared.dom_ask.DomAsk.TheVariants.{QuerySelector
 use Rattle.cdp_messages.specs.declared.down.ReplyBody.{ReplyBody}
 use Rattle.cdp_messages.specs.declared.down.ReplyBody.TheVariants.{Nothing, NodeId, NodeIds, Attributes, Node as ReplyNode}
 use Rattle.cdp_messages.specs.DomAsks.{fits_ask, ask_name}
-use Rattle.cdp_messages.specs.Laws.{answers, BodyHasUtf8, body_height}
-use Rattle.cdp_messages.specs.Replies.{fits_body}
+use Rattle.cdp_messages.specs.Laws.{answers}
+use Rattle.cdp_messages.specs.Results.{BodyHasUtf8, body_height, fits_body}
 use Rattle.dom_agent.specs.Keepers.{Keeper, session_keeper}
 use Rattle.dom_agent.specs.Paths.{node_at_path}
 use Rattle.dom_agent.specs.Requests.{Outcome, shows_root, served, refused, Progress, Pushes, requested, known_node, named_serial}

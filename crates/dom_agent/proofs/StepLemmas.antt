@@ -22,8 +22,7 @@ use Rattle.node_binding.proofs.OpeningLemmas.{AreDistinct}
 use Rattle.node_binding.proofs.InViewLemmas.{roots_in_view, opened-grows}
 use Rattle.node_binding.proofs.OpenedLemmas.{IsSession-opened, length-opened, bare_row, view-opened}
 use Rattle.cdp_messages.specs.declared.down.ReplyBody.{ReplyBody}
-use Rattle.cdp_messages.specs.Laws.{BodyHasUtf8, body_height}
-use Rattle.cdp_messages.specs.Replies.{fits_body}
+use Rattle.cdp_messages.specs.Results.{BodyHasUtf8, body_height, fits_body}
 use Rattle.client_views.specs.Views.{ShownSheet, View}
 use Rattle.client_views.specs.Moves.{Move, CanBeTold, Course, ends, goes}
 use Rattle.dom_agent.specs.Keepers.{session_keeper}

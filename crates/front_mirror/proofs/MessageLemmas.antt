@@ -16,14 +16,17 @@ use Rattle.cdp_messages.specs.declared.down.ReplyBody.{ReplyBody}
 use Rattle.cdp_messages.specs.declared.down.ReplyBody.TheVariants as body
 use Rattle.client_views.specs.declared.effects.Effect.{Effect}
 use Rattle.client_views.specs.declared.effects.Effect.TheVariants as effect
-use Rattle.client_views.specs.Effects.{effect_of}
+use Rattle.client_views.specs.Effects.{effect_by, effect_of}
 use Rattle.dom_objects.specs.Told.{Told}
 use Rattle.dom_objects.specs.NodeData.{fits_tree, fits_nodes}
 use Rattle.cdp_messages.specs.Asked.{json_of}
 use Rattle.cdp_messages.specs.Events.{attribute_modified, attribute_removed, inserted, set_children, news_of, fits_news}
 use Rattle.dom_objects.specs.NodeKinds.{shows_no_children}
-use Rattle.cdp_messages.specs.Replies.{Message, reply, event, message_of, message_in, down_of, body_data, result_of, fits_body}
+use Rattle.cdp_messages.specs.Replies.{Message, reply, event, message_of, message_in, down_of, result_of}
+use Rattle.cdp_messages.specs.Results.{body_data, fits_body, Tale, no_result, document, sheet_text, new_styles, matched_styles}
+use Rattle.cdp_messages.specs.Results.{answer_alone, tale_of}
 use Rattle.cdp_messages.specs.Replies.{fits_message}
+use Rattle.cdp_messages.proofs.Results.{IsTaleOf, tale_is}
 use Rattle.cdp_messages.proofs.Messages.{messages_are_spelled, results_are_read, results_are_spelled}
 use Rattle.css_objects.specs.Rules.{matched_kind}
 use Rattle.front_mirror.specs.declared.faults.FrontKind.TheVariants.{NotMessage}
@@ -32,31 +35,25 @@ use Rattle.front_mirror.specs.declared.replies.MatchedReply.{MatchedReply}
 use Rattle.front_mirror.specs.declared.edits.NodeChange.TheVariants as edit
 use Rattle.front_mirror.specs.Edits.{fits_edit, fits_effect}
 use Rattle.front_mirror.specs.Front.{FrontValue, reply_frame, method_waiting, root_fault, matched_told, with_matched, replied, with_root}
-use Rattle.front_mirror.specs.Front.{with_effect}
+use Rattle.front_mirror.specs.Front.{with_effect, matched_by}
 use Rattle.front_mirror.specs.Front.{with_body, with_reply, with_message, take_frame}
 use Rattle.client_views.proofs.BoolLemmas.{and_left, both}
 
 -- a result that is read has the forms of one, and so has what it changes
 body_effect : (method : List ℕ) (b : ReplyBody) → fits_body b ≡ true → fits_effect (effect_of method b) ≡ true
-body_effect method body.Nothing e = of_method (bytes_eq method (codes "DOM.disable")) (bytes_eq method (codes "CSS.disable"))
-  where
-    of_method : (a b : Bool) → fits_effect (cond a effect.AllOff (cond b effect.SheetsOff effect.NothingElse)) ≡ true
-    of_method true b = refl
-    of_method false true = refl
-    of_method false false = refl
-body_effect method (body.Root tree) e = e
-body_effect method (body.Node tree) e = refl
-body_effect method (body.NodeId id) e = refl
-body_effect method (body.NodeIds ids) e = refl
-body_effect method (body.Attributes pairs) e = refl
-body_effect method (body.Search search count) e = refl
-body_effect method (body.ClassNames names) e = refl
-body_effect method (body.SheetText text) e = refl
-body_effect method (body.Styles styles) e = refl
-body_effect method (body.Selectors selectors) e = refl
-body_effect method (body.Rule rule) e = refl
-body_effect method (body.Media media) e = refl
-body_effect method (body.Matched matched) e = refl
+body_effect method b fits = at (tale_of b) (tale_is b) where
+  of_method : (x y : Bool) → fits_effect (cond x effect.AllOff (cond y effect.SheetsOff effect.NothingElse)) ≡ true
+  of_method true y = refl
+  of_method false true = refl
+  of_method false false = refl
+
+  at : (t : Tale) → IsTaleOf b t → fits_effect (effect_by method t) ≡ true
+  at no_result e = of_method (bytes_eq method (codes "DOM.disable")) (bytes_eq method (codes "CSS.disable"))
+  at (document tree) e = sym (ap fits_body e) ∙ fits
+  at (sheet_text text) e = refl
+  at (new_styles styles) e = refl
+  at (matched_styles matched) e = refl
+  at answer_alone e = refl
 
 pub effect_fits : (method : List ℕ) (d : Data) (b : ReplyBody) (x : Effect) → result_of method d ≡ Some b → x ≡ effect_of method b
     → fits_effect x ≡ true
@@ -103,20 +100,14 @@ pub none_matched : (v : FrontValue) → with_matched v [] ≡ v
 none_matched v = ap (λ (rs : List MatchedReply). record v { matched = rs }) (append-nil v.matched)
 
 untold : (id : ℕ) (b : ReplyBody) → ((m : Matched) → b ≡ body.Matched m → ⊥) → matched_told id b ≡ []
-untold id body.Nothing other = refl
-untold id (body.Root tree) other = refl
-untold id (body.Node tree) other = refl
-untold id (body.NodeId n) other = refl
-untold id (body.NodeIds ns) other = refl
-untold id (body.Attributes pairs) other = refl
-untold id (body.Search search count) other = refl
-untold id (body.ClassNames names) other = refl
-untold id (body.SheetText text) other = refl
-untold id (body.Styles styles) other = refl
-untold id (body.Selectors selectors) other = refl
-untold id (body.Rule rule) other = refl
-untold id (body.Media media) other = refl
-untold id (body.Matched matched) other = absurd (other matched refl)
+untold id b other = at (tale_of b) (tale_is b) where
+  at : (t : Tale) → IsTaleOf b t → matched_by id t ≡ []
+  at no_result e = refl
+  at (document tree) e = refl
+  at (sheet_text text) e = refl
+  at (new_styles styles) e = refl
+  at (matched_styles matched) e = absurd (other matched e)
+  at answer_alone e = refl
 
 -- What is read of a reply: the ask of its id waits and is of that method, which has this result.
 pub record IsRead (v : FrontValue) (id : ℕ) (d : Data) (method : List ℕ) (b : ReplyBody) : Type 0 where

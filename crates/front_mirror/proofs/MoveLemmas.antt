@@ -20,16 +20,18 @@ use Rattle.client_views.specs.Effects.{effect_of}
 use Rattle.dom_objects.specs.Told.{told_branch, seen-told}
 use Rattle.cdp_messages.specs.Events.{News, document_updated, paused, sheet_added, sheet_changed, sheet_removed}
 use Rattle.cdp_messages.specs.Refusals.{code_of, refusal_words}
-use Rattle.cdp_messages.specs.Replies.{fault, event, down_of, body_data, fits_body, reply_text, event_text, refused_text}
+use Rattle.cdp_messages.specs.Replies.{fault, event, down_of, reply_text, event_text, refused_text}
+use Rattle.cdp_messages.specs.Results.{body_data, fits_body, BodyHasUtf8, body_height}
 use Rattle.dom_objects.specs.Tellable.{suits_tree}
-use Rattle.cdp_messages.specs.Laws.{BodyHasUtf8, body_height, answers}
+use Rattle.cdp_messages.specs.Laws.{answers}
 use Rattle.client_views.specs.Moves as move
 use Rattle.client_views.specs.Moves.{Move, change_news, move_text, answered_by, paused_nodes, AreShown, IsTellable, CanBeTold}
 use Rattle.client_views.specs.Moves.{ChangesNode, IsPlainReply, Course, ends, goes}
 use Rattle.css_objects.specs.Sheets.{is_sheet}
 use Rattle.client_views.specs.Views.{ShownSheet, sheet_number, AreSheets, text_units, sheet_header, shows_sheet, shown_text, sheets_without}
 use Rattle.client_views.specs.Views.{sheets_with_text, is_distinct, View}
-use Rattle.cdp_messages.proofs.Depths.{replies_are_shallow, events_are_shallow}
+use Rattle.cdp_messages.proofs.Depths.{events_are_shallow}
+use Rattle.cdp_messages.proofs.Results.{replies_are_shallow}
 use Rattle.cdp_messages.proofs.Messages.{replies_are_read, results_are_read, events_are_read, refusals_are_read}
 use Rattle.dom_objects.proofs.TellableLaws.{shown_trees_fit}
 use Rattle.cdp_messages.proofs.TextsUtf8.{replies_are_utf8, events_are_utf8}

@@ -13,7 +13,7 @@ use Rattle.node_tree.specs.Seen.{Seen, shows_count, is_opened, seen_id, seen_ser
 use Rattle.std.specs.List.{list_all}
 use Rattle.pipe_frames.specs.Frames.{frames_from, held_after}
 use Rattle.cdp_messages.specs.declared.down.ReplyBody.{ReplyBody}
-use Rattle.cdp_messages.specs.declared.down.ReplyBody.TheVariants as body
+use Rattle.cdp_messages.specs.Results.{Tale, no_result, document, sheet_text, new_styles, matched_styles, answer_alone, tale_of}
 use Rattle.client_views.specs.declared.effects.Effect.{Effect}
 use Rattle.client_views.specs.declared.effects.Effect.TheVariants as effect
 use Rattle.client_views.specs.Effects.{effect_of}
@@ -230,22 +230,18 @@ with_effect v r effect.AllOff = Ok (record (replied v r true none) { sheets = []
 with_effect v r effect.SheetsOff = Ok (record (replied v r true v.tree) { sheets = [] })
 with_effect v r effect.NothingElse = Ok (replied v r true v.tree)
 
--- the matched styles that a result tells, if it tells some, with the id of the ask that it answers
+-- matched styles, if they are told, with the id of the ask that they answer
+abbrev pub matched_by : ℕ → Tale → List MatchedReply
+matched_by id no_result = []
+matched_by id (document tree) = []
+matched_by id (sheet_text text) = []
+matched_by id (new_styles styles) = []
+matched_by id (matched_styles matched) = record { ask = id; matched = matched } ∷ []
+matched_by id answer_alone = []
+
+-- the matched styles that a result tells, if it tells some
 abbrev pub matched_told : ℕ → ReplyBody → List MatchedReply
-matched_told id body.Nothing = []
-matched_told id (body.Root tree) = []
-matched_told id (body.Node tree) = []
-matched_told id (body.NodeId n) = []
-matched_told id (body.NodeIds ns) = []
-matched_told id (body.Attributes pairs) = []
-matched_told id (body.Search search count) = []
-matched_told id (body.ClassNames names) = []
-matched_told id (body.SheetText text) = []
-matched_told id (body.Styles styles) = []
-matched_told id (body.Selectors selectors) = []
-matched_told id (body.Rule rule) = []
-matched_told id (body.Media media) = []
-matched_told id (body.Matched matched) = record { ask = id; matched = matched } ∷ []
+matched_told id body = matched_by id (tale_of body)
 
 -- the front with these matched styles more
 abbrev pub with_matched : FrontValue → List MatchedReply → FrontValue

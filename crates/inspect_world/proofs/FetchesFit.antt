@@ -12,9 +12,10 @@ use Rattle.css_objects.specs.Sheets.{is_sheet}
 use Rattle.cdp_messages.specs.declared.down.ReplyBody.TheVariants.{SheetText}
 use Rattle.cdp_messages.specs.Asked.{command_text}
 use Rattle.client_views.specs.Views.{ShownSheet, shown_text}
-use Rattle.cdp_messages.specs.Replies.{body_data, message_data, reply, reply_text}
+use Rattle.cdp_messages.specs.Replies.{message_data, reply, reply_text}
+use Rattle.cdp_messages.specs.Results.{body_data}
 use Rattle.client_views.specs.Moves.{texted, move_text, frames_of_moves}
-use Rattle.cdp_messages.proofs.Depths.{replies_are_shallow}
+use Rattle.cdp_messages.proofs.Results.{replies_are_shallow}
 use Rattle.cdp_messages.proofs.Messages.{reply_plain, replies_are_read, results_are_read}
 use Rattle.cdp_messages.proofs.TextsUtf8.{replies_are_utf8}
 use Rattle.cdp_messages.proofs.ZeroFree.{texts_have_no_zero}

@@ -12,12 +12,12 @@ use Rattle.cdp_messages.specs.declared.command.Refused.{Refused}
 use Rattle.cdp_messages.specs.declared.command.Why.{Why}
 use Rattle.cdp_messages.specs.Asked.{method_name}
 use Rattle.cdp_messages.specs.declared.down.ReplyBody.{ReplyBody}
-use Rattle.cdp_messages.specs.declared.down.ReplyBody.TheVariants as body
+use Rattle.cdp_messages.specs.Results.{Tale, no_result, document, sheet_text, new_styles, matched_styles, answer_alone, tale_of}
 use Rattle.client_views.specs.declared.effects.Effect.TheVariants.{NothingElse}
-use Rattle.client_views.specs.Effects.{effect_of_method, effect_of}
+use Rattle.client_views.specs.Effects.{effect_of_method, effect_by, effect_of}
 use Rattle.client_views.specs.Views.{View}
 use Rattle.client_views.specs.Moves.{Move, change, clear, met, added, dropped, rewritten, root, texted, replied, all_off, sheets_off}
-use Rattle.client_views.specs.Moves.{failed, move_text, frames_of_moves, tells_view, Moves, Course, ends, goes, answered_by}
+use Rattle.client_views.specs.Moves.{failed, move_text, frames_of_moves, is_of_view, tells_view, Moves, Course, ends, goes, answered_by}
 use Rattle.front_mirror.specs.declared.replies.Ask.{Ask}
 use Rattle.front_mirror.specs.declared.replies.Kept.{Kept}
 use Rattle.front_mirror.specs.declared.faults.FrontKind.{FrontKind}
@@ -86,20 +86,14 @@ course-quiet _ _ _ (goes m ms u v w here moves later) = (move-quiet m u v moves,
 
 quiet-effect : (method : List ℕ) (body : ReplyBody) → tells_view body ≡ false → effect_of_method method ≡ NothingElse
     → is_quiet (effect_of method body) ≡ true
-quiet-effect method body.Nothing plain e = ap is_quiet e
-quiet-effect method (body.Root tree) plain e = absurd cc
-quiet-effect method (body.Node tree) plain e = refl
-quiet-effect method (body.NodeId id) plain e = refl
-quiet-effect method (body.NodeIds ids) plain e = refl
-quiet-effect method (body.Attributes pairs) plain e = refl
-quiet-effect method (body.Search search count) plain e = refl
-quiet-effect method (body.ClassNames names) plain e = refl
-quiet-effect method (body.SheetText text) plain e = absurd cc
-quiet-effect method (body.Styles styles) plain e = refl
-quiet-effect method (body.Selectors selectors) plain e = refl
-quiet-effect method (body.Rule rule) plain e = refl
-quiet-effect method (body.Media media) plain e = refl
-quiet-effect method (body.Matched matched) plain e = refl
+quiet-effect method body plain e = at (tale_of body) plain where
+  at : (t : Tale) → is_of_view t ≡ false → is_quiet (effect_by method t) ≡ true
+  at no_result quiet = ap is_quiet e
+  at (document tree) quiet = absurd cc
+  at (sheet_text text) quiet = absurd cc
+  at (new_styles styles) quiet = refl
+  at (matched_styles matched) quiet = refl
+  at answer_alone quiet = refl
 
 -- ---- the fold of frames
 

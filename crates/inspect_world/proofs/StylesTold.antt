@@ -1,33 +1,27 @@
 -- The matched styles among the messages of a step on a frame are those that the frame asks for.
 use Rattle.std.proofs.Common.{◌≡◌, Bool, true, false, not, ◌&&◌, cond, ℕ, List, [], ◌∷◌, ◌++◌, map, Some, None, option_map, refl}
-use Rattle.std.proofs.Common.{◌∙◌, ap, Result, Ok, Err}
+use Rattle.std.proofs.Common.{◌∙◌, sym, ap, Result, Ok, Err}
 use Rattle.std.specs.List.{flat_map}
 use Rattle.std.specs.Option.{option_to_list}
-use Rattle.css_objects.specs.declared.rules.Matched.{Matched}
 use Rattle.cdp_messages.specs.declared.command.Asked.{Asked}
 use Rattle.cdp_messages.specs.declared.command.Refused.{Refused}
 use Rattle.cdp_messages.specs.declared.command.Why.{Why}
 use Rattle.cdp_messages.specs.declared.command.Why.TheVariants.{DomOff, CssOff}
 use Rattle.cdp_messages.specs.declared.command.Command.{Command}
-use Rattle.cdp_messages.specs.declared.dom_ask.DomAsk.{DomAsk}
-use Rattle.cdp_messages.specs.declared.dom_edit.DomEdit.{DomEdit}
-use Rattle.cdp_messages.specs.declared.css_edit.CssEdit.{CssEdit}
-use Rattle.cdp_messages.specs.declared.search_ask.SearchAsk.{SearchAsk}
-use Rattle.cdp_messages.specs.declared.search_ask.SearchAsk.TheVariants as search
 use Rattle.cdp_messages.specs.declared.command.Command.TheVariants.{DomEnable, DomDisable, CssEnable, CssDisable, AskDom, EditDom, AskCss}
 use Rattle.cdp_messages.specs.declared.command.Command.TheVariants.{EditCss, MarkUndoableState, Undo, Redo, SetBreakpoint, RemoveBreakpoint}
 use Rattle.cdp_messages.specs.declared.command.Command.TheVariants.{ReplayLoad, ReplayAct, AskSearch}
-use Rattle.cdp_messages.specs.declared.dom_ask.DomAsk.TheVariants as ask
-use Rattle.cdp_messages.specs.declared.dom_edit.DomEdit.TheVariants as tree
-use Rattle.cdp_messages.specs.declared.css_edit.CssEdit.TheVariants as style
 use Rattle.cdp_messages.specs.declared.down.ReplyBody.{ReplyBody}
-use Rattle.cdp_messages.specs.declared.down.ReplyBody.TheVariants as body
+use Rattle.cdp_messages.specs.Results.{Tale, no_result, document, sheet_text, new_styles, matched_styles, answer_alone, tale_of}
 use Rattle.cdp_messages.specs.Asked.{asked, method_name}
 use Rattle.cdp_messages.specs.Laws.{answers}
 use Rattle.client_views.specs.Moves.{Move, change, clear, met, added, dropped, rewritten, root, texted, replied, all_off, sheets_off}
 use Rattle.client_views.specs.Moves.{failed}
 use Rattle.cdp_messages.specs.declared.css_ask.CssAsk.TheVariants as css
-use Rattle.front_mirror.specs.Front.{matched_told}
+use Rattle.cdp_messages.proofs.Results.{IsTaleOf, tale_is}
+use Rattle.cdp_messages.proofs.Commands.{TellsNoStyles, asks-tell-no_styles, edits-tell-no_styles, searches-tell-no_styles}
+use Rattle.cdp_messages.proofs.Commands.{sheet_edits-tell-no_styles}
+use Rattle.front_mirror.specs.Front.{matched_by, matched_told}
 use Rattle.front_mirror.specs.Laws.{matched_after}
 use Rattle.back_end.specs.States.{State}
 use Rattle.back_end.specs.Steps.{refusing, element_named, node_answer, command_step, asked_step, frame_step}
@@ -37,27 +31,17 @@ use Rattle.inspect_world.specs.Fits.{kept_styles}
 
 -- ---- moves that tell none
 
--- a method whose results are others
-abbrev Never : List ℕ → Type 0
-Never method = (m : Matched) → answers method (body.Matched m) ≡ true → ⊥
+no-matched : (method : List ℕ) (id : ℕ) (found : ReplyBody) → TellsNoStyles method → answers method found ≡ true → matched_told id found ≡ []
+no-matched method id found never is = at (tale_of found) (tale_is found) where
+  at : (t : Tale) → IsTaleOf found t → matched_by id t ≡ []
+  at no_result e = refl
+  at (document tree) e = refl
+  at (sheet_text text) e = refl
+  at (new_styles styles) e = refl
+  at (matched_styles m) e = absurd (never m (ap (answers method) (sym e) ∙ is))
+  at answer_alone e = refl
 
-no-matched : (method : List ℕ) (id : ℕ) (found : ReplyBody) → Never method → answers method found ≡ true → matched_told id found ≡ []
-no-matched method id body.Nothing never e = refl
-no-matched method id (body.Root tree) never e = refl
-no-matched method id (body.Node tree) never e = refl
-no-matched method id (body.NodeId node) never e = refl
-no-matched method id (body.NodeIds nodes) never e = refl
-no-matched method id (body.Attributes pairs) never e = refl
-no-matched method id (body.Search search count) never e = refl
-no-matched method id (body.ClassNames names) never e = refl
-no-matched method id (body.SheetText text) never e = refl
-no-matched method id (body.Styles styles) never e = refl
-no-matched method id (body.Selectors selectors) never e = refl
-no-matched method id (body.Rule rule) never e = refl
-no-matched method id (body.Media media) never e = refl
-no-matched method id (body.Matched m) never e = absurd (never m e)
-
-no-styles : (method : List ℕ) (ms : List Move) → Never method → MayAnswerAll method ms → flat_map matched_after ms ≡ []
+no-styles : (method : List ℕ) (ms : List Move) → TellsNoStyles method → MayAnswerAll method ms → flat_map matched_after ms ≡ []
 no-styles method [] never may = refl
 no-styles method (change node c ∷ ms) never may = no-styles method ms never may.1
 no-styles method (clear ∷ ms) never may = no-styles method ms never may.1
@@ -116,48 +100,17 @@ styles-on id node state true true (Ok serial) = refl
 styles-on id node state true true (Err why) = refl
 
 -- a command of another method tells none
-other : (c : Command) (ms : List Move) → Never (method_name c) → MayAnswerAll (method_name c) ms → styles_in ms ≡ []
+other : (c : Command) (ms : List Move) → TellsNoStyles (method_name c) → MayAnswerAll (method_name c) ms → styles_in ms ≡ []
 other c ms never may = ap (map kept_styles) (no-styles (method_name c) ms never may)
-
--- nothing that the DOM agent is asked, and no edit, has a result of matched styles
-ask-never : (a : DomAsk) → Never (method_name (AskDom a))
-ask-never (ask.GetDocument depth pierce) m e = absurd cc
-ask-never (ask.RequestChildNodes node depth pierce) m e = absurd cc
-ask-never (ask.PushByPath path) m e = absurd cc
-ask-never (ask.PushBySerials serials) m e = absurd cc
-ask-never (ask.QuerySelector node selector) m e = absurd cc
-ask-never (ask.QuerySelectorAll node selector) m e = absurd cc
-ask-never (ask.GetAttributes node) m e = absurd cc
-ask-never (ask.DescribeNode id serial depth pierce) m e = absurd cc
-
-edit-never : (e : DomEdit) → Never (method_name (EditDom e))
-edit-never (tree.SetAttributeValue node name value) m e = absurd cc
-edit-never (tree.RemoveAttribute node name) m e = absurd cc
-edit-never (tree.SetNodeValue node value) m e = absurd cc
-edit-never (tree.RemoveNode node) m e = absurd cc
-edit-never (tree.MoveTo node target before) m e = absurd cc
-edit-never (tree.CopyTo node target before) m e = absurd cc
-
-search-never : (a : SearchAsk) → Never (method_name (AskSearch a))
-search-never (search.PerformSearch query shadow) m e = absurd cc
-search-never (search.GetSearchResults id from to) m e = absurd cc
-search-never (search.DiscardSearchResults id) m e = absurd cc
-
-sheet-edit-never : (e : CssEdit) → Never (method_name (EditCss e))
-sheet-edit-never (style.SetStyleTexts edits) m e = absurd cc
-sheet-edit-never (style.SetRuleSelector sheet range selector) m e = absurd cc
-sheet-edit-never (style.SetStyleSheetText sheet text) m e = absurd cc
-sheet-edit-never (style.AddRule sheet rule_text location) m e = absurd cc
-sheet-edit-never (style.SetMediaText sheet range text) m e = absurd cc
 
 styles-command : (id : ℕ) (c : Command) (state : State) (ms : List Move) → ms ≡ (command_step id c state).moves
     → MayAnswerAll (method_name c) ms
     → styles_in ms ≡ styles_asked (Ok (record { id = id; command = c })) state
 styles-command id (DomEnable word) state ms is may = other (DomEnable word) ms (λ m e. absurd cc) may
 styles-command id DomDisable state ms is may = other DomDisable ms (λ m e. absurd cc) may
-styles-command id (AskDom a) state ms is may = other (AskDom a) ms (ask-never a) may
-styles-command id (EditDom e) state ms is may = other (EditDom e) ms (edit-never e) may
-styles-command id (AskSearch a) state ms is may = other (AskSearch a) ms (search-never a) may
+styles-command id (AskDom a) state ms is may = other (AskDom a) ms (asks-tell-no_styles a) may
+styles-command id (EditDom e) state ms is may = other (EditDom e) ms (edits-tell-no_styles e) may
+styles-command id (AskSearch a) state ms is may = other (AskSearch a) ms (searches-tell-no_styles a) may
 styles-command id MarkUndoableState state ms is may = other MarkUndoableState ms (λ m e. absurd cc) may
 styles-command id Undo state ms is may = other Undo ms (λ m e. absurd cc) may
 styles-command id Redo state ms is may = other Redo ms (λ m e. absurd cc) may
@@ -169,7 +122,7 @@ styles-command id (AskCss (css.GetStyleSheetText sheet)) state ms is may =
     other (AskCss (css.GetStyleSheetText sheet)) ms (λ m e. absurd cc) may
 styles-command id (AskCss (css.CollectClassNames sheet)) state ms is may =
     other (AskCss (css.CollectClassNames sheet)) ms (λ m e. absurd cc) may
-styles-command id (EditCss e) state ms is may = other (EditCss e) ms (sheet-edit-never e) may
+styles-command id (EditCss e) state ms is may = other (EditCss e) ms (sheet_edits-tell-no_styles e) may
 styles-command id (SetBreakpoint node kind) state ms is may = other (SetBreakpoint node kind) ms (λ m e. absurd cc) may
 styles-command id (RemoveBreakpoint node kind) state ms is may = other (RemoveBreakpoint node kind) ms (λ m e. absurd cc) may
 styles-command id (ReplayLoad params) state ms is may = other (ReplayLoad params) ms (λ m e. absurd cc) may

@@ -27,10 +27,11 @@ use Rattle.cdp_messages.specs.declared.down.PauseData.TheVariants as pause
 use Rattle.cdp_messages.specs.Asked.{json_of}
 use Rattle.cdp_messages.specs.Refusals.{code_of, refusal_words}
 use Rattle.cdp_messages.specs.Events.{News, fits_news, document_updated, paused, sheet_added, sheet_changed, sheet_removed}
-use Rattle.cdp_messages.specs.Replies.{Message, reply, fault, event, message_data, message_in, down_of, body_data, fits_body}
+use Rattle.cdp_messages.specs.Replies.{Message, reply, fault, event, message_data, message_in, down_of}
+use Rattle.cdp_messages.specs.Results.{body_data, fits_body, BodyHasUtf8, body_height}
 use Rattle.cdp_messages.specs.Replies.{refusal_message, refused_text}
-use Rattle.cdp_messages.specs.Laws.{BodyHasUtf8, body_height}
-use Rattle.cdp_messages.proofs.Depths.{replies_are_shallow, events_are_shallow}
+use Rattle.cdp_messages.proofs.Depths.{events_are_shallow}
+use Rattle.cdp_messages.proofs.Results.{replies_are_shallow}
 use Rattle.cdp_messages.proofs.Messages.{json_of-compact_text, reply_plain, refusal_plain, refusals_are_read}
 use Rattle.cdp_messages.proofs.NewsLaws.{news_plain}
 use Rattle.cdp_messages.proofs.TextsUtf8.{replies_are_utf8, events_are_utf8}

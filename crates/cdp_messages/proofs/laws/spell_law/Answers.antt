@@ -1,6 +1,7 @@
 use Rattle.cdp_messages.proofs.Commands.{asks_are_asked, commands_are_asked, asks_fit, parameters_are_read, parameters_are_plain}
 use Rattle.cdp_messages.proofs.Commands.{commands_are_named}
-use Rattle.cdp_messages.proofs.Depths.{replies_are_shallow, events_are_shallow}
+use Rattle.cdp_messages.proofs.Depths.{events_are_shallow}
+use Rattle.cdp_messages.proofs.Results.{replies_are_shallow}
 use Rattle.cdp_messages.proofs.Messages.{replies_are_read, events_are_read, refusals_are_read, messages_are_read, faults_are_read}
 use Rattle.cdp_messages.proofs.Messages.{objects_are_empty, results_are_read, messages_are_spelled, results_are_spelled, one_message}
 use Rattle.cdp_messages.proofs.Messages.{one_result, message_again, spellings_are_read}

@@ -1,7 +1,7 @@
 use Rattle.std.proofs.Common.{sym, ◌∙◌, arith}
 use Rattle.cdp_messages.specs.declared.down.ReplyBody.TheVariants.{Matched}
 use Rattle.cdp_messages.proofs.MatchedScans.{reply_told}
-use Rattle.cdp_messages.proofs.Depths.{replies_are_shallow}
+use Rattle.cdp_messages.proofs.Results.{replies_are_shallow}
 use Rattle.cdp_messages.proofs.matched_reply.read_matched.Goals as goal
 
 pub returns-in-Ok-clause-told : goal.returns-in-Ok-clause-told

@@ -2,9 +2,10 @@ use Rattle.std.proofs.Common.{◌≡◌, false, sym, ap, ◌∙◌, subst}
 use Rattle.serde_json.specs.Data.{Data}
 use Rattle.serde_json.specs.View.{view}
 use Rattle.serde_json.specs.Written.{has_float}
-use Rattle.cdp_messages.specs.Replies.{reply, message_data, body_data}
+use Rattle.cdp_messages.specs.Replies.{reply, message_data}
+use Rattle.cdp_messages.specs.Results.{body_data}
 use Rattle.cdp_messages.specs.Forms.{body_said}
-use Rattle.cdp_messages.proofs.Floats.{has_float-reply}
+use Rattle.cdp_messages.proofs.Results.{has_float-reply}
 use Rattle.cdp_messages.proofs.reply_write.write_reply.Goals as goal
 
 pub append_reply-requires : goal.append_reply-requires

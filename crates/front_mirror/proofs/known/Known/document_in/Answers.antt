@@ -1,7 +1,8 @@
 use Rattle.std.proofs.Common.{rules, ◌≡◌, true, codes, Some, sym}
 use Rattle.dom_objects.specs.NodeData.{fits_tree}
 use Rattle.cdp_messages.specs.declared.down.ReplyBody.TheVariants.{Root}
-use Rattle.cdp_messages.specs.Replies.{reply, body_data, down_of}
+use Rattle.cdp_messages.specs.Replies.{reply, down_of}
+use Rattle.cdp_messages.specs.Results.{body_data}
 use Rattle.front_mirror.specs.Known.{known_value}
 use Rattle.front_mirror.proofs.MessageLemmas.{document_taken}
 use Rattle.front_mirror.proofs.known.Known.document_in.Goals as goal

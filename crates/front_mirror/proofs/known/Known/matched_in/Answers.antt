@@ -1,7 +1,8 @@
 use Rattle.std.proofs.Common.{rules, ◌≡◌, true, codes, Some, sym}
 use Rattle.css_objects.specs.Rules.{matched_kind}
 use Rattle.cdp_messages.specs.declared.down.ReplyBody.TheVariants.{Matched}
-use Rattle.cdp_messages.specs.Replies.{reply, body_data, down_of}
+use Rattle.cdp_messages.specs.Replies.{reply, down_of}
+use Rattle.cdp_messages.specs.Results.{body_data}
 use Rattle.front_mirror.specs.Known.{known_value}
 use Rattle.front_mirror.proofs.MessageLemmas.{styles_taken}
 use Rattle.front_mirror.proofs.known.Known.matched_in.Goals as goal
