@@ -1,5 +1,5 @@
 -- What the moves of a step answer.
-use Rattle.std.proofs.Common.{◌≡◌, ℕ, true, List, [], ◌∷◌, ◌++◌, Option, Some, codes, refl, ap}
+use Rattle.std.proofs.Common.{◌≡◌, ℕ, true, false, List, [], ◌∷◌, ◌++◌, Option, Some, codes, refl, sym, ap, ◌∙◌}
 use Rattle.std.specs.List.{flat_map}
 use Rattle.node_binding.specs.Sessions.{Session}
 use Rattle.node_tree.specs.Nodes.{Branch}
@@ -7,12 +7,13 @@ use Rattle.node_tree.specs.Seen.{Seen}
 use Rattle.cdp_messages.specs.declared.down.ReplyBody.TheVariants.{Root}
 use Rattle.dom_objects.specs.Told.{told_branch}
 use Rattle.cdp_messages.specs.declared.dom_ask.DomAsk.{DomAsk}
-use Rattle.cdp_messages.specs.declared.dom_ask.DomAsk.TheVariants as ask
 use Rattle.cdp_messages.specs.DomAsks.{ask_name}
+use Rattle.cdp_messages.proofs.Commands.{either_ask, others-tell-no_view, asks-end-nothing}
 use Rattle.cdp_messages.specs.Laws.{answers}
 use Rattle.client_views.specs.Moves.{Move}
 use Rattle.client_views.specs.declared.effects.Effect.TheVariants.{NothingElse}
 use Rattle.client_views.specs.Effects.{effect_of_method}
+use Rattle.client_views.proofs.EffectLemmas.{ends-nothing}
 use Rattle.dom_agent.specs.Requests.{Showing, Outcome, shows_root, served, refused, opening_moves, moves_of}
 use Rattle.dom_agent.specs.Laws.{IsReplyTo}
 use Rattle.back_end.specs.States.{State}
@@ -76,26 +77,15 @@ outcome-answers id (refused why) = refl
 
 -- no ask of the agent ends anything by its method
 ask-ends-nothing : (asked : DomAsk) → effect_of_method (ask_name asked) ≡ NothingElse
-ask-ends-nothing (ask.GetDocument depth pierce) = refl
-ask-ends-nothing (ask.RequestChildNodes id depth pierce) = refl
-ask-ends-nothing (ask.PushByPath path) = refl
-ask-ends-nothing (ask.PushBySerials serials) = refl
-ask-ends-nothing (ask.QuerySelector id text) = refl
-ask-ends-nothing (ask.QuerySelectorAll id text) = refl
-ask-ends-nothing (ask.GetAttributes id) = refl
-ask-ends-nothing (ask.DescribeNode id serial depth pierce) = refl
+ask-ends-nothing asked = ends-nothing (ask_name asked) (asks-end-nothing asked)
 
 -- a document answers one ask alone
 root-asked : (asked : DomAsk) (b : Branch Seen) → answers (ask_name asked) (Root (told_branch 0 b)) ≡ true
     → ask_name asked ≡ codes "DOM.getDocument"
-root-asked (ask.GetDocument depth pierce) b e = refl
-root-asked (ask.RequestChildNodes id depth pierce) b e = absurd cc
-root-asked (ask.PushByPath path) b e = absurd cc
-root-asked (ask.PushBySerials serials) b e = absurd cc
-root-asked (ask.QuerySelector id text) b e = absurd cc
-root-asked (ask.QuerySelectorAll id text) b e = absurd cc
-root-asked (ask.GetAttributes id) b e = absurd cc
-root-asked (ask.DescribeNode id serial depth pierce) b e = absurd cc
+root-asked asked b =
+    either_ask (λ a. answers (ask_name a) (Root (told_branch 0 b)) ≡ true → ask_name a ≡ codes "DOM.getDocument")
+    (λ depth pierce e. refl)
+    (λ a other e. (let no : false ≡ true = sym ((others-tell-no_view a other).0 (told_branch 0 b)) ∙ e in absurd cc)) asked
 
 pub outcome-may : (id : ℕ) (ask : DomAsk) (o : Outcome Session) → IsReplyTo ask o → MayAnswerAll (ask_name ask) (moves_of id o)
 outcome-may id asked (shows_root b p) is = (root-asked asked b is, pieces-may (ask_name asked) p.shown)

@@ -2,6 +2,8 @@
 use Rattle.std.proofs.Common.{◌≡◌, codes, ℕ, ◌+◌, ◌≤◌, Bool, true, false, not, ◌&&◌, ◌||◌, cond, List, [], ◌∷◌, ◌++◌, length, Option, Some}
 use Rattle.std.proofs.Common.{None, unwrap_or, pos, Result, Ok, Err, refl, sym, ◌∙◌, ap, subst, arith}
 use Rattle.std.specs.List.{flat_map}
+use Rattle.std.specs.Prelude.{is_some}
+use Rattle.std.specs.FinMap as table
 use Rattle.cdp_json.specs.Kinds.{is_counted, holds_of_some}
 use Rattle.node_tree.specs.Nodes.{Branch, Nodes, none, node_count, alone}
 use Rattle.node_tree.specs.Levels.{most_told}
@@ -18,7 +20,7 @@ use Rattle.cdp_messages.specs.declared.command.Command.TheVariants.{ReplayLoad, 
 use Rattle.cdp_messages.specs.declared.command.Asked.{Asked}
 use Rattle.cdp_messages.specs.declared.command.Refused.{Refused}
 use Rattle.cdp_messages.specs.declared.command.Why.{Why}
-use Rattle.cdp_messages.specs.declared.command.Why.TheVariants.{DomOff, CssOff, UnknownNode}
+use Rattle.cdp_messages.specs.declared.command.Why.TheVariants.{DomOff, CssOff, UnknownNode, NoSearch}
 use Rattle.cdp_messages.specs.declared.dom_ask.DomAsk.{DomAsk}
 use Rattle.cdp_messages.specs.declared.dom_ask.DomAsk.TheVariants as ask
 use Rattle.cdp_messages.specs.declared.down.ReplyBody.TheVariants.{Nothing}
@@ -28,21 +30,21 @@ use Rattle.client_views.specs.Moves.{replied, all_off, failed, CanBeTold, Course
 use Rattle.cdp_messages.specs.declared.search_ask.SearchAsk.{SearchAsk}
 use Rattle.cdp_messages.specs.declared.search_ask.SearchAsk.TheVariants as search
 use Rattle.cdp_messages.specs.SearchIds.{search_in}
+use Rattle.dom_search.specs.Searches.{without_search}
 use Rattle.cdp_messages.specs.declared.css_ask.CssAsk.{CssAsk}
 use Rattle.dom_agent.specs.Laws.{session_outcome, CanTell, has_depth, IsReplyTo, session_view as seen_by}
 use Rattle.dom_agent.specs.Keepers.{session_keeper}
 use Rattle.dom_agent.specs.Requests.{Outcome, shows_root, served, refused, known_node, named_serial, state_after, moves_of}
 use Rattle.dom_agent.proofs.KnownLemmas.{opened_after}
 use Rattle.dom_agent.proofs.RepliedLemmas.{description-keeps}
-use Rattle.dom_agent.proofs.OutcomeLemmas.{OutcomeGoes, either_ask, root-opened, asks-go, depth-fits, stays_session, draws_few}
+use Rattle.dom_agent.proofs.OutcomeLemmas.{OutcomeGoes, root-opened, asks-go, depth-fits, stays_session, draws_few}
 use Rattle.dom_agent.proofs.MoveLemmas.{steps_are_moves, replies_answer}
 use Rattle.dom_breakpoints.specs.Watched.{Watched, with_watch, without_watch}
-use Rattle.cdp_messages.specs.declared.dom_edit.DomEdit.{DomEdit}
 use Rattle.cdp_messages.specs.declared.dom_edit.DomEdit.TheVariants as tree
 use Rattle.cdp_messages.specs.declared.method.Domains.{Domains}
-use Rattle.cdp_messages.specs.Methods.{needs_both}
-use Rattle.cdp_messages.proofs.MethodRows.{styles-need-both}
-use Rattle.back_end.proofs.TreeSteps.{AsksFor, tree-edit-answered}
+use Rattle.cdp_messages.specs.Methods.{needs_dom, needs_both, turns_dom_on}
+use Rattle.cdp_messages.proofs.Commands.{styles-need-both, either_ask, ask_by_need}
+use Rattle.back_end.proofs.TreeSteps.{asks-for, tree-edit-answered}
 use Rattle.shown_pages.specs.declared.modes.Mode.TheVariants.{All}
 use Rattle.shown_pages.specs.ShownPages.{shown_page}
 use Rattle.cdp_messages.specs.declared.command.WhitespaceWord.{WhitespaceWord}
@@ -52,7 +54,7 @@ use Rattle.back_end.specs.OwnMethods.{load_asked, act_asked}
 use Rattle.back_end.specs.Steps.{Step, with_client, refusing, mode_asked, client_on, client_off, moves_come, Turn, acts, loads, turn_step}
 use Rattle.back_end.specs.Steps.{ask_needs_on}
 use Rattle.back_end.specs.Steps.{needs_on, needs_css, turns_on, client_served, agent_step, serial_now, watch_step}
-use Rattle.back_end.specs.Steps.{results_asked, results_step, search_step}
+use Rattle.back_end.specs.Steps.{results_asked, results_step, search_step, idle, answering, with_searches, discard_step}
 use Rattle.back_end.specs.Steps.{own_step, served_step, command_step, asked_step}
 use Rattle.back_end.specs.Texts.{HasServedTexts}
 use Rattle.back_end.specs.Laws.{reply_ids, MayAnswer, HasRoom, StepsWell, KeepsAtMost, most_splices, most_edits, edits_asked, MayAnswerAll}
@@ -96,20 +98,26 @@ still-off false k = refl
 pub off-after : (c : DomAsk) (state : State) → HoldsNow state → (ask_needs_on c && not state.client.dom_on) ≡ false
     → (state.client.dom_on || turns_on c) ≡ false
     → (state_after state.client.session (session_outcome (page_shown state) state.side.page.tree c state.client.session)).opened ≡ None
-off-after (ask.GetDocument depth pierce) state is h k = turns-off state.client.dom_on k
-off-after (ask.RequestChildNodes id depth pierce) state is h k = refuses-off state.client.dom_on h k
-off-after (ask.PushByPath path) state is h k = refuses-off state.client.dom_on h k
-off-after (ask.PushBySerials serials) state is h k = refuses-off state.client.dom_on h k
-off-after (ask.QuerySelector id text) state is h k = refuses-off state.client.dom_on h k
-off-after (ask.QuerySelectorAll id text) state is h k = refuses-off state.client.dom_on h k
-off-after (ask.GetAttributes id) state is h k = refuses-off state.client.dom_on h k
-off-after (ask.DescribeNode id serial depth pierce) state is h k =
-    let w : Session = state.client.session in
-    ap (λ (z : Session). z.opened)
-    (description-keeps (session_keeper (nodes_shown state)) (page_shown state).tree depth
-    (known_node (session_keeper (nodes_shown state)) (page_shown state).tree w
-    (named_serial (session_keeper (nodes_shown state)) w id serial)) w)
-    ∙ is.off (still-off state.client.dom_on k)
+off-after c state is =
+    ask_by_need (λ a. (ask_needs_on a && not state.client.dom_on) ≡ false → (state.client.dom_on || turns_on a) ≡ false
+    → (state_after state.client.session (session_outcome (page_shown state) state.side.page.tree a state.client.session)).opened ≡ None)
+    (λ depth pierce h k. turns-off state.client.dom_on k) described
+    (λ a need h k. refuses-off state.client.dom_on
+    (subst (λ (d : Domains). (needs_dom d && not state.client.dom_on) ≡ false) need h)
+    (subst (λ (d : Domains). (state.client.dom_on || turns_dom_on d) ≡ false) need k)) c
+  where
+    described : (id serial : Option ℕ) (depth : Option ℤ) (pierce : Option Bool)
+        → (ask_needs_on (ask.DescribeNode id serial depth pierce) && not state.client.dom_on) ≡ false
+        → (state.client.dom_on || turns_on (ask.DescribeNode id serial depth pierce)) ≡ false
+        → (state_after state.client.session (session_outcome (page_shown state) state.side.page.tree
+        (ask.DescribeNode id serial depth pierce) state.client.session)).opened ≡ None
+    described id serial depth pierce h k =
+        let w : Session = state.client.session in
+        ap (λ (z : Session). z.opened)
+        (description-keeps (session_keeper (nodes_shown state)) (page_shown state).tree depth
+        (known_node (session_keeper (nodes_shown state)) (page_shown state).tree w
+        (named_serial (session_keeper (nodes_shown state)) w id serial)) w)
+        ∙ is.off (still-off state.client.dom_on k)
 
 -- where an ask that was carried out leaves DOM off, it was off
 was-off : (on turns : Bool) → (on || turns) ≡ false → on ≡ false
@@ -203,6 +211,11 @@ served-pushed : (ask : DomAsk) (o : Outcome Session) (state : State)
 served-pushed ask (shows_root b p) state = refl
 served-pushed ask (served p body) state = refl
 served-pushed ask (refused why) state = refl
+
+pub served-marks : (ask : DomAsk) (o : Outcome Session) (state : State) → (client_served ask o state.client).marks ≡ state.client.marks
+served-marks ask (shows_root w b) state = refl
+served-marks ask (served p body) state = refl
+served-marks ask (refused why) state = refl
 
 served-given : (ask : DomAsk) (o : Outcome Session) (state : State)
     → (client_served ask o state.client).searches.given ≡ state.client.searches.given
@@ -358,6 +371,14 @@ refusing-well r state is room small =
 
 -- ---- a command
 
+-- the page's side stays, and so does the history
+pub record Stays (before after : State) : Type 0 where
+  pub marks : after.client.marks ≡ before.client.marks
+  pub side : after.side ≡ before.side
+
+pub stayed : (state : State) → Stays state state
+stayed state = record { marks = refl; side = refl }
+
 -- what a step comes to: it is well, keeps at most so many edits more, and answers the command of that id once
 abbrev Serves : State → Step → ℕ → Command → ℕ → Type 0
 Serves state done id c most = Answered (method_name c) (text_asked c) id most state done
@@ -443,15 +464,6 @@ on-events : (b : Bool) (sheets : List ShownSheet) → AreEvents (cond b [] (move
 on-events true sheets = tt
 on-events false sheets = come-are-events sheets
 
--- the reply to each of a client's edits of the tree
-pub asks-for : (edit : DomEdit) → AsksFor (method_name (EditDom edit)) edit
-asks-for (tree.SetAttributeValue node name value) = (refl, refl)
-asks-for (tree.RemoveAttribute node name) = (refl, refl)
-asks-for (tree.SetNodeValue node value) = (refl, refl)
-asks-for (tree.RemoveNode node) = (refl, refl)
-asks-for (tree.MoveTo node target before) = λ id. (refl, refl)
-asks-for (tree.CopyTo node target before) = λ id. (refl, refl)
-
 -- what the CSS agent is asked needs its domain on
 needs-both-on : (ask : CssAsk) (on : Bool) → (needs_css (AskCss ask) && not on) ≡ false → (true && not on) ≡ false
 needs-both-on ask on met = subst (λ (d : Domains). (needs_both d && not on) ≡ false) (styles-need-both ask) met
@@ -486,6 +498,27 @@ serves-search id (search.GetSearchResults named from to) state is room small on 
 serves-search id (search.DiscardSearchResults named) state is room small on =
     let c : Command = AskSearch (search.DiscardSearchResults named) in
     discard-answered (method_name c) (text_asked c) id state is room small (refl, refl) (search_in named)
+
+-- it leaves the page's side and the history as they are
+pub searches-stay : (id : ℕ) (a : SearchAsk) (state : State) → Stays state (search_step id a state).state
+searches-stay id (search.PerformSearch query shadow) state = record { marks = refl; side = refl }
+searches-stay id (search.GetSearchResults named from to) state = results (results_asked named from to state) where
+  results : (r : Result (List ℕ) Why) → Stays state (results_step id r state).state
+  results (Err why) = stayed state
+  results (Ok serials) = record {
+    marks = served-marks (ask.PushBySerials serials) (outcome_now (ask.PushBySerials serials) state) state;
+    side = refl;
+  }
+searches-stay id (search.DiscardSearchResults named) state = discarded (search_in named) where
+  kept_or : (n : ℕ) (b : Bool)
+      → Stays state (cond b (answering id (idle (with_searches (without_search n state.client.searches) state)))
+      (refusing (Some id) NoSearch state)).state
+  kept_or n true = record { marks = refl; side = refl }
+  kept_or n false = stayed state
+
+  discarded : (o : Option ℕ) → Stays state (discard_step id o state).state
+  discarded None = stayed state
+  discarded (Some n) = kept_or n (is_some (table.get state.client.searches.lists n))
 
 serves : (id : ℕ) (c : Command) (state : State) → fits_command c ≡ true → HasServedTexts c → IsState state → HasRoom state
     → is_counted id ≡ true → Serves state (command_step id c state) id c (most_edits c)

@@ -29,7 +29,7 @@ use Rattle.cdp_messages.specs.declared.command.Why.{Why}
 use Rattle.cdp_messages.specs.declared.dom_edit.DomEdit.{DomEdit}
 use Rattle.cdp_messages.specs.declared.method.Domains.{Domains}
 use Rattle.cdp_messages.specs.Methods.{needs_both}
-use Rattle.cdp_messages.proofs.MethodRows.{edits-need-dom}
+use Rattle.cdp_messages.proofs.Commands.{edits-need-dom}
 use Rattle.cdp_json.specs.Lookups.{then_ok}
 use Rattle.serde_json.specs.Data.{Data}
 use Rattle.css_agent.specs.Told.{turn_messages}

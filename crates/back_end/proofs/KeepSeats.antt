@@ -1,23 +1,14 @@
 -- A desk and a history that stand for a state do so after each command, of what edits nothing, and of a script's changes.
-use Rattle.std.proofs.Common.{◌≡◌, ℕ, Bool, true, false, cond, not, ◌&&◌, List, [], ◌∷◌, ◌++◌, Option, Some, None, Result, Ok, Err, refl}
+use Rattle.std.proofs.Common.{◌≡◌, ℕ, Bool, true, false, cond, not, ◌&&◌, List, [], ◌∷◌, ◌++◌, Option, Some, None, Result, refl}
 use Rattle.std.proofs.Common.{sym, ap}
 use Rattle.std.proofs.Common.{◌∙◌, subst, arith}
 use Rattle.page_tree.specs.declared.edits.TreeEdit.{TreeEdit}
-use Rattle.node_binding.specs.Sessions.{Session}
-use Rattle.cdp_messages.specs.declared.command.Why.TheVariants.{DomOff, CssOff, NoSearch}
-use Rattle.cdp_messages.specs.declared.command.Why.{Why}
+use Rattle.cdp_messages.specs.declared.command.Why.TheVariants.{DomOff, CssOff}
 use Rattle.cdp_messages.specs.declared.search_ask.SearchAsk.{SearchAsk}
-use Rattle.cdp_messages.specs.declared.search_ask.SearchAsk.TheVariants as search
-use Rattle.cdp_messages.specs.SearchIds.{search_in}
-use Rattle.dom_search.specs.Searches.{without_search}
-use Rattle.std.specs.Prelude.{is_some}
-use Rattle.std.specs.FinMap as table
 use Rattle.cdp_messages.specs.declared.dom_ask.DomAsk.{DomAsk}
-use Rattle.cdp_messages.specs.declared.dom_ask.DomAsk.TheVariants.{PushBySerials}
 use Rattle.client_views.specs.Moves.{frames_of_moves}
 use Rattle.cdp_messages.specs.declared.css_ask.CssAsk.{CssAsk}
 use Rattle.std.specs.Result.{OnOk}
-use Rattle.dom_agent.specs.Requests.{Outcome, shows_root, served, refused}
 use Rattle.dom_agent.specs.Laws.{session_outcome}
 use Rattle.dom_breakpoints.specs.declared.pauses.Pause.{Pause}
 use Rattle.dom_breakpoints.specs.Pauses.{pause_of}
@@ -31,31 +22,24 @@ use Rattle.back_end.specs.declared.desk.Desk.{Desk}
 use Rattle.back_end.specs.declared.side.PageSide.{PageSide}
 use Rattle.back_end.specs.declared.faults.ActFault.{ActFault}
 use Rattle.back_end.specs.Sheets.{as_book, SheetChange}
-use Rattle.back_end.specs.Steps.{on_medium, idle, answering, with_searches, results_asked, results_step, discard_step}
+use Rattle.back_end.specs.Steps.{on_medium}
 use Rattle.back_end.specs.States.{page_shown, Side, State, book_in, Keeps}
 use Rattle.back_end.specs.Plans.{Deed, edits, restyles, shows_on, act_fault, act_plan}
 use Rattle.cdp_messages.specs.declared.command.WhitespaceWord.{WhitespaceWord}
 use Rattle.cdp_messages.specs.declared.command.Command.{Command}
 use Rattle.cdp_messages.specs.declared.command.Command.TheVariants.{DomEnable, DomDisable, CssEnable, CssDisable, AskDom, AskCss}
 use Rattle.cdp_messages.specs.declared.command.Command.TheVariants.{SetBreakpoint, RemoveBreakpoint, AskSearch}
-use Rattle.back_end.specs.Steps.{Step, refusing, with_page, client_served, push_step, push_steps, pause_step, script_step, script_steps}
+use Rattle.back_end.specs.Steps.{Step, refusing, with_page, push_step, push_steps, pause_step, script_step, script_steps}
 use Rattle.back_end.specs.Steps.{sheet_step, sheet_steps, deed_step, planned_step, act_step, load_step, watch_step, serial_now}
 use Rattle.back_end.specs.Steps.{needs_on, needs_css, served_step, command_step}
 use Rattle.node_tree.specs.declared.watches.WatchKind.{WatchKind}
 use Rattle.back_end.specs.Seats.{DeskStandsFor, BothStandFor}
+use Rattle.back_end.proofs.FrameLemmas.{Stays, stayed, served-marks, searches-stay}
 use Rattle.back_end.proofs.HistoryLemmas.{keeps-same, keeps-crossed, keeps-cleared}
 use Rattle.back_end.proofs.SeatLemmas.{on_ok, on-is}
 use Rattle.back_end.proofs.SheetSeats.{dom-on}
 
 -- ---- steps that leave the history alone
-
--- the page's side stays, and so does the history
-pub record Stays (before after : State) : Type 0 where
-  pub marks : after.client.marks ≡ before.client.marks
-  pub side : after.side ≡ before.side
-
-stayed : (state : State) → Stays state state
-stayed state = record { marks = refl; side = refl }
 
 -- what is kept for the state before is kept for the state after
 pub stays-kept : (h : Marks Inverse) (before after : State) → Stays before after → Keeps h before → Keeps h after
@@ -83,12 +67,10 @@ stays-both d d1 s s1 h state id command stays both stands = record {
 }
 
 agent-stays : (id : ℕ) (ask : DomAsk) (state : State) → Stays state (served_step id (AskDom ask) state).state
-agent-stays id ask state =
-    record { marks = at (session_outcome (page_shown state) state.side.page.tree ask state.client.session); side = refl } where
-      at : (o : Outcome Session) → (client_served ask o state.client).marks ≡ state.client.marks
-      at (shows_root b p) = refl
-      at (served p body) = refl
-      at (refused why) = refl
+agent-stays id ask state = record {
+  marks = served-marks ask (session_outcome (page_shown state) state.side.page.tree ask state.client.session) state;
+  side = refl;
+}
 
 watch-stays : (id : ℕ) (change : ℕ → Watched → Watched) (found : Option ℕ) (state : State)
     → Stays state (watch_step id change found state).state
@@ -126,23 +108,8 @@ unwatches-alone node word id state = unwatches-stay id node word state
 pub agent-alone : (ask : DomAsk) → LeavesAlone (AskDom ask)
 agent-alone ask id state = agent-stays id ask state
 
-results-stay : (id : ℕ) (r : Result (List ℕ) Why) (state : State) → Stays state (results_step id r state).state
-results-stay id (Err why) state = stayed state
-results-stay id (Ok serials) state = agent-stays id (PushBySerials serials) state
-
-discard-stays : (id : ℕ) (o : Option ℕ) (state : State) → Stays state (discard_step id o state).state
-discard-stays id None state = stayed state
-discard-stays id (Some n) state = at (is_some (table.get state.client.searches.lists n))
-  where
-    at : (b : Bool) → Stays state (cond b (answering id (idle (with_searches (without_search n state.client.searches) state)))
-        (refusing (Some id) NoSearch state)).state
-    at true = record { marks = refl; side = refl }
-    at false = stayed state
-
 pub searches-alone : (a : SearchAsk) → LeavesAlone (AskSearch a)
-searches-alone (search.PerformSearch query shadow) id state = record { marks = refl; side = refl }
-searches-alone (search.GetSearchResults named from to) id state = results-stay id (results_asked named from to state) state
-searches-alone (search.DiscardSearchResults named) id state = discard-stays id (search_in named) state
+searches-alone a id state = searches-stay id a state
 
 pub plain-both : {T E : Type 0} (result : Result T E) (d d1 : Desk) (s s1 : PageSide) (h : Marks Inverse) (state : State) (id : ℕ)
     (p q : Command) → p ≡ q → LeavesAlone p → BothStandFor d h s state

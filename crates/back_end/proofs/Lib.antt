@@ -21,6 +21,7 @@ pub mod CssAnswers
 pub mod FrameLemmas
 pub mod OutsideSteps
 pub mod CommandTexts
+pub mod CommandRows
 pub mod OwnTexts
 pub mod OwnLemmas
 pub mod SeatLemmas
@@ -35,6 +36,7 @@ pub mod ScriptLemmas
 pub mod TreeSeats
 pub mod OwnSeats
 pub mod FrameSizes
+pub mod MemberSizes
 pub mod EditSizes
 pub mod TreeCopies
 pub mod OneProof

@@ -36,23 +36,16 @@ use Rattle.back_end.specs.Sheets.{as_book, SheetChange}
 use Rattle.back_end.specs.States.{Side, Client, State, book_in, view_of, saved_now, HoldsNow, HasHistory, IsState, TakesWell}
 use Rattle.back_end.specs.Plans.{Plan, node_edit_fault, node_edit_plan, node_put, Deed, edits, restyles, shows_on, act_fault, act_plan}
 use Rattle.back_end.specs.OwnMethods.{load_asked, act_asked}
-use Rattle.back_end.specs.Steps.{Step, idle, with_page, pause_step, push_step, push_steps, script_step, script_steps}
+use Rattle.back_end.specs.Steps.{Step, with_page, pause_step, push_step, push_steps, script_step, script_steps}
 use Rattle.back_end.specs.Steps.{edit_step, edit_steps, splice_step, splice_steps, kept_step, kept_steps, taken_edits}
 use Rattle.back_end.specs.Steps.{taken_step, edit_named, lowered, serial_now, put_answer, unless_fault, node_edit_step}
 use Rattle.back_end.specs.Steps.{restyled_step, watch_step, own_step, planned_step, sheet_steps, sheet_step}
 use Rattle.back_end.specs.Steps.{Turn, acts, loads, turn_step, needs_on, needs_css, served_step, command_step, asked_step}
-use Rattle.back_end.specs.Steps.{refusing, answering, with_searches, results_asked, results_step, discard_step, search_step}
-use Rattle.cdp_messages.specs.declared.search_ask.SearchAsk.{SearchAsk}
-use Rattle.cdp_messages.specs.declared.search_ask.SearchAsk.TheVariants as search
-use Rattle.cdp_messages.specs.SearchIds.{search_in}
-use Rattle.dom_search.specs.Searches.{without_search}
-use Rattle.std.specs.FinMap as table
-use Rattle.std.specs.Prelude.{is_some}
+use Rattle.back_end.specs.Steps.{refusing}
 use Rattle.page_tree.specs.Edits.{after}
 use Rattle.css_agent.specs.Edits.{text_under}
 use Rattle.style_edits.specs.Splices.{after_splice}
 use Rattle.client_views.specs.Views.{sheets_with_text}
-use Rattle.cdp_messages.specs.declared.command.Why.TheVariants.{NoSearch}
 use Rattle.dom_breakpoints.specs.Watched.{with_watch, without_watch}
 use Rattle.back_end.specs.Laws.{HasRoom, StepsWell, IsTurn, reply_ids}
 use Rattle.back_end.specs.Texts.{HasServedTexts, HasTreeTexts}
@@ -66,11 +59,11 @@ use Rattle.back_end.proofs.WellSteps.{Well, HasNumbers, stays, then-well, more}
 use Rattle.back_end.proofs.KeptSteps.{recalls-same, recalls-crossed}
 use Rattle.back_end.proofs.SpliceSteps.{splice-well, splice-events, splices-taken, edit-done}
 use Rattle.back_end.proofs.UndoSteps.{takes-splice, AllTakenIn, TakenIn, taken-rest, taken-either, none-taken}
-use Rattle.back_end.proofs.TreeSteps.{AsksFor, lowered-texts, lowered-asks, named-is, node-edit-planned, trees-taken}
+use Rattle.back_end.proofs.TreeSteps.{AsksFor, lowered-texts, lowered-asks, named-is, node-edit-planned, trees-taken, asks-for}
 use Rattle.back_end.proofs.TurnAnswers.{AreEvents, events-append, events-answer, script-events, turn-events}
 use Rattle.back_end.proofs.StepLemmas.{Planned, script-well, with-page-is, same-view, crossed-is, turn-steps-well}
 use Rattle.cdp_messages.specs.declared.command.Why.TheVariants.{DomOff, CssOff}
-use Rattle.back_end.proofs.FrameLemmas.{asks-for}
+use Rattle.back_end.proofs.FrameLemmas.{searches-stay}
 
 -- ---- where the page's side is led
 
@@ -410,24 +403,6 @@ group-done way id state is room =
     (λ u. nothing-done id marks state is)
     (λ es u. taken-done id es marks state is room u.taken (few-taken way state.client.marks es u.edits))
 
--- a search
-searched-side : (id : ℕ) (ask : SearchAsk) (state : State) → (search_step id ask state).state.side ≡ state.side
-searched-side id (search.PerformSearch query shadow) state = refl
-searched-side id (search.GetSearchResults which from to) state = results (results_asked which from to state) where
-  results : (r : Result (List ℕ) Why) → (results_step id r state).state.side ≡ state.side
-  results (Err why) = refl
-  results (Ok serials) = refl
-searched-side id (search.DiscardSearchResults which) state = discarded (search_in which) where
-  kept_or : (n : ℕ) (b : Bool)
-      → (cond b (answering id (idle (with_searches (without_search n state.client.searches) state)))
-      (refusing (Some id) NoSearch state)).state.side ≡ state.side
-  kept_or n true = refl
-  kept_or n false = refl
-
-  discarded : (o : Option ℕ) → (discard_step id o state).state.side ≡ state.side
-  discarded None = refl
-  discarded (Some n) = kept_or n (is_some (table.get state.client.searches.lists n))
-
 -- a watch
 watch-side : (id : ℕ) (change : ℕ → Watched → Watched) (o : Option ℕ) (state : State)
     → (watch_step id change o state).state.side ≡ state.side
@@ -450,7 +425,7 @@ served-done id (DomEnable word) state texts is room = done-none state state.side
 served-done id DomDisable state texts is room = done-none state state.side is refl
 served-done id (AskDom ask) state texts is room = done-none state state.side is refl
 served-done id (EditDom edit) state texts is room = tree-done (method_name (EditDom edit)) id edit state texts (asks-for edit) is
-served-done id (AskSearch ask) state texts is room = done-none state _ is (searched-side id ask state)
+served-done id (AskSearch ask) state texts is room = done-none state _ is (searches-stay id ask state).side
 served-done id MarkUndoableState state texts is room = done-none state state.side is refl
 served-done id Undo state texts is room = group-done directions.Undo id state is room
 served-done id Redo state texts is room = group-done directions.Redo id state is room

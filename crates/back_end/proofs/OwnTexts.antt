@@ -6,13 +6,11 @@ use Rattle.std.proofs.lemmas.Str.{IsUtf8-from_is_utf8}
 use Rattle.serde_json.specs.Data.{Data, null, boolean, number, string, array, object, Members, no_members, member}
 use Rattle.serde_json.specs.Find.{get_member, as_str, as_object}
 use Rattle.serde_json.specs.Read.{read}
-use Rattle.std.specs.List.{All}
-use Rattle.std.specs.Str.{IsUtf8}
-use Rattle.cdp_json.specs.Kinds.{Kind, as_whole, whole, text, list_of}
+use Rattle.cdp_json.specs.Kinds.{as_whole}
 use Rattle.cdp_json.specs.declared.fields.Field.{Field}
 use Rattle.cdp_json.specs.declared.fields.Field.TheVariants.{Is, Missing, WrongKind}
 use Rattle.cdp_json.specs.Fields.{field_of}
-use Rattle.cdp_json.specs.Lookups.{then_ok, Lookups, no_lookups}
+use Rattle.cdp_json.specs.Lookups.{then_ok}
 use Rattle.cdp_json.specs.Plain.{HasUtf8, MembersHaveUtf8}
 use Rattle.cdp_json.proofs.ReadTexts.{IfSome, read_utf8}
 use Rattle.page_forms.proofs.NodeTexts.{object_utf8}
@@ -21,156 +19,20 @@ use Rattle.cdp_messages.specs.declared.command.ReadErr.{ReadErr}
 use Rattle.cdp_messages.specs.declared.command.Asked.{Asked}
 use Rattle.cdp_messages.specs.SessionFrames.{session_name, without, without_session, session_asked}
 use Rattle.cdp_messages.specs.declared.command.Command.{Command}
-use Rattle.cdp_messages.specs.declared.command.Command.TheVariants.{DomEnable, AskDom, EditDom, AskCss, EditCss, SetBreakpoint}
-use Rattle.cdp_messages.specs.declared.command.Command.TheVariants.{RemoveBreakpoint}
-use Rattle.cdp_messages.specs.declared.command.Command.TheVariants.{AskSearch}
-use Rattle.cdp_messages.specs.declared.dom_ask.DomAsk.TheVariants as ask
-use Rattle.cdp_messages.specs.declared.dom_edit.DomEdit.TheVariants as tree
-use Rattle.cdp_messages.specs.declared.css_ask.CssAsk.TheVariants as css
-use Rattle.cdp_messages.specs.declared.css_edit.CssEdit.TheVariants as style
-use Rattle.cdp_messages.specs.declared.search_ask.SearchAsk.TheVariants as search
 use Rattle.cdp_messages.specs.declared.command.Refused.{Refused}
 use Rattle.cdp_messages.specs.declared.command.Why.{Why}
 use Rattle.cdp_messages.specs.declared.method.Method.{Method}
-use Rattle.cdp_messages.specs.declared.method.Method.TheVariants as method
 use Rattle.cdp_messages.specs.Methods.{known_method}
-use Rattle.cdp_messages.specs.declared.command.Param.{Param}
-use Rattle.cdp_messages.specs.declared.command.Param.TheVariants as param
-use Rattle.cdp_messages.specs.declared.command.Why.TheVariants.{BadParam}
-use Rattle.cdp_messages.specs.Refusals.{param_name}
-use Rattle.css_objects.specs.declared.ranges.SourceRange.{SourceRange}
-use Rattle.css_agent.specs.EditLaws.{HasEditText}
-use Rattle.back_end.proofs.CommandTexts.{Any, reads-any, reads-text, reads-list, IfGiven, Gives, member-texts, gives-all, gives-field}
-use Rattle.back_end.proofs.CommandTexts.{reads-edit}
-use Rattle.cdp_messages.specs.Parameters.{command_by, reads_with, needed, attribute_fields, name_fields, value_fields, edits_field}
-use Rattle.cdp_messages.specs.Parameters.{set_selector_fields, sheet_text_fields, add_rule_fields, set_media_fields, range_parameter}
-use Rattle.cdp_messages.specs.Parameters.{text_edit}
+use Rattle.back_end.proofs.CommandTexts.{member-texts}
 use Rattle.cdp_messages.specs.Asked.{json_of, of_method, command_for, unless_session, or_bad_request, params_of, command_of, method_in}
 use Rattle.cdp_messages.specs.Asked.{command_in, asked_by, with_id, asked_in, asked_value, asked}
 use Rattle.back_end.specs.Texts.{HasServedTexts}
-
--- what is asked, if anything is, has UTF-8 texts where it is one of our own two methods
-abbrev CommandTexts : Result Command Why → Type 0
-CommandTexts (Ok c) = HasServedTexts c
-CommandTexts (Err why) = ⊤
+use Rattle.back_end.proofs.CommandRows.{CommandTexts, by-method}
 
 -- the same of a frame
 abbrev pub AskedTexts : Result Asked Refused → Type 0
 AskedTexts (Ok a) = HasServedTexts a.command
 AskedTexts (Err r) = ⊤
-
--- ---- a command by its method
-
--- one whose parameters bring none
-brings-none : {T : Type 0} (r : Result T Why) (makes : T → Command) → ((x : T) → HasServedTexts (makes x))
-    → CommandTexts (then_ok r (λ x. Ok (makes x)))
-brings-none (Ok x) makes has = has x
-brings-none (Err why) makes has = tt
-
--- one whose parameters bring texts
-given : {T : Type 0} (fields : Lookups Why T) (makes : T → Command) (P : T → Type 0) (ms : Members) → MembersHaveUtf8 ms → Gives fields P
-    → ((x : T) → P x → HasServedTexts (makes x))
-    → CommandTexts (reads_with fields makes ms)
-given fields makes P ms u gives has = at (fields.gets ms) (gives ms u) where
-  at : (r : Result _ Why) → IfGiven P r → CommandTexts (then_ok r (λ x. Ok (makes x)))
-  at (Ok x) g = has x g
-  at (Err why) g = tt
-
-needed-text : {B : Type 0} (p : Param) (later : Lookups Why B) (Q : B → Type 0) → Gives later Q
-    → Gives (needed p text later) (λ x. IsUtf8 x.0 × Q x.1)
-needed-text p later Q rest = gives-field (param_name p) (BadParam p) text later IsUtf8 Q reads-text rest
-
-needed-any : {A B : Type 0} (p : Param) (k : Kind A) (later : Lookups Why B) (Q : B → Type 0) → Gives later Q
-    → Gives (needed p k later) (λ x. Any x.0 × Q x.1)
-needed-any p k later Q rest = gives-field (param_name p) (BadParam p) k later Any Q (reads-any k.reads) rest
-
--- what the parameters of each give
-abbrev OneText : List ℕ × ⊤ → Type 0
-OneText x = IsUtf8 x.0 × Any x.1
-
-abbrev TwoTexts : List ℕ × (List ℕ × ⊤) → Type 0
-TwoTexts x = IsUtf8 x.0 × OneText x.1
-
-last-text : (p : Param) → Gives (needed p text no_lookups) OneText
-last-text p = needed-text p no_lookups Any (gives-all Why)
-
-attribute-gives : Gives attribute_fields (λ x. Any x.0 × TwoTexts x.1)
-attribute-gives =
-    needed-any param.NodeId whole (needed param.Name text (needed param.Value text no_lookups)) TwoTexts
-    (needed-text param.Name (needed param.Value text no_lookups) OneText (last-text param.Value))
-
-edits-give : Gives edits_field (λ x. All HasEditText x.0 × Any x.1)
-edits-give = gives-field (param_name param.Edits) (BadParam param.Edits) (list_of text_edit) no_lookups (All HasEditText) Any
-    (reads-list text_edit HasEditText reads-edit) (gives-all Why)
-
-selector-gives : Gives set_selector_fields (λ x. IsUtf8 x.0 × (Any x.1.0 × OneText x.1.1))
-selector-gives =
-    needed-text param.StyleSheetId (needed param.Range range_parameter (needed param.Selector text no_lookups))
-    (λ (x : SourceRange × (List ℕ × ⊤)). Any x.0 × OneText x.1)
-    (needed-any param.Range range_parameter (needed param.Selector text no_lookups) OneText (last-text param.Selector))
-
-media-gives : Gives set_media_fields (λ x. IsUtf8 x.0 × (Any x.1.0 × OneText x.1.1))
-media-gives =
-    needed-text param.StyleSheetId (needed param.Range range_parameter (needed param.Text text no_lookups))
-    (λ (x : SourceRange × (List ℕ × ⊤)). Any x.0 × OneText x.1)
-    (needed-any param.Range range_parameter (needed param.Text text no_lookups) OneText (last-text param.Text))
-
-rule-gives : Gives add_rule_fields (λ x. IsUtf8 x.0 × (IsUtf8 x.1.0 × (Any x.1.1.0 × Any x.1.1.1)))
-rule-gives =
-    needed-text param.StyleSheetId (needed param.RuleText text (needed param.Location range_parameter no_lookups))
-    (λ (x : List ℕ × (SourceRange × ⊤)). IsUtf8 x.0 × (Any x.1.0 × Any x.1.1))
-    (needed-text param.RuleText (needed param.Location range_parameter no_lookups) (λ (x : SourceRange × ⊤). Any x.0 × Any x.1)
-    (needed-any param.Location range_parameter no_lookups Any (gives-all Why)))
-
-by-method : (m : Method) (ms : Members) → MembersHaveUtf8 ms → CommandTexts (command_by m ms)
-by-method method.DomEnable ms u = brings-none _ (λ x. DomEnable x.0) (λ x. tt)
-by-method method.DomDisable ms u = tt
-by-method method.GetDocument ms u = brings-none _ (λ x. AskDom (ask.GetDocument x.0 x.1.0)) (λ x. tt)
-by-method method.RequestChildNodes ms u = brings-none _ (λ x. AskDom (ask.RequestChildNodes x.0 x.1.0 x.1.1.0))
-    (λ x. tt)
-by-method method.PushByPath ms u = brings-none _ (λ x. AskDom (ask.PushByPath x.0)) (λ x. tt)
-by-method method.PushBySerials ms u = brings-none _ (λ x. AskDom (ask.PushBySerials x.0)) (λ x. tt)
-by-method method.QuerySelector ms u = brings-none _ (λ x. AskDom (ask.QuerySelector x.0 x.1.0)) (λ x. tt)
-by-method method.QuerySelectorAll ms u = brings-none _ (λ x. AskDom (ask.QuerySelectorAll x.0 x.1.0))
-    (λ x. tt)
-by-method method.GetAttributes ms u = brings-none _ (λ x. AskDom (ask.GetAttributes x.0)) (λ x. tt)
-by-method method.DescribeNode ms u = brings-none _ (λ x. AskDom (ask.DescribeNode x.0 x.1.0 x.1.1.0 x.1.1.1.0))
-    (λ x. tt)
-by-method method.SetAttributeValue ms u = given attribute_fields (λ x. EditDom (tree.SetAttributeValue x.0 x.1.0 x.1.1.0))
-    (λ x. Any x.0 × TwoTexts x.1) ms u attribute-gives (λ x g. (g.1.0, g.1.1.0))
-by-method method.RemoveAttribute ms u = given name_fields (λ x. EditDom (tree.RemoveAttribute x.0 x.1.0)) (λ x. Any x.0 × OneText x.1) ms u
-    (needed-any param.NodeId whole (needed param.Name text no_lookups) OneText (last-text param.Name)) (λ x g. g.1.0)
-by-method method.SetNodeValue ms u = given value_fields (λ x. EditDom (tree.SetNodeValue x.0 x.1.0)) (λ x. Any x.0 × OneText x.1) ms u
-    (needed-any param.NodeId whole (needed param.Value text no_lookups) OneText (last-text param.Value)) (λ x g. g.1.0)
-by-method method.RemoveNode ms u = brings-none _ (λ x. EditDom (tree.RemoveNode x.0)) (λ x. tt)
-by-method method.MoveTo ms u = brings-none _ (λ x. EditDom (tree.MoveTo x.0 x.1.0 x.1.1.0)) (λ x. tt)
-by-method method.CopyTo ms u = brings-none _ (λ x. EditDom (tree.CopyTo x.0 x.1.0 x.1.1.0)) (λ x. tt)
-by-method method.MarkUndoableState ms u = tt
-by-method method.Undo ms u = tt
-by-method method.Redo ms u = tt
-by-method method.CssEnable ms u = tt
-by-method method.CssDisable ms u = tt
-by-method method.GetMatchedStyles ms u = brings-none _ (λ x. AskCss (css.GetMatchedStyles x.0)) (λ x. tt)
-by-method method.GetStyleSheetText ms u = brings-none _ (λ x. AskCss (css.GetStyleSheetText x.0)) (λ x. tt)
-by-method method.CollectClassNames ms u = brings-none _ (λ x. AskCss (css.CollectClassNames x.0)) (λ x. tt)
-by-method method.SetStyleTexts ms u =
-    given edits_field (λ x. EditCss (style.SetStyleTexts x.0)) (λ x. All HasEditText x.0 × Any x.1) ms u edits-give
-    (λ x g. g.0)
-by-method method.SetRuleSelector ms u = given set_selector_fields (λ x. EditCss (style.SetRuleSelector x.0 x.1.0 x.1.1.0))
-    (λ x. IsUtf8 x.0 × (Any x.1.0 × OneText x.1.1)) ms u selector-gives (λ x g. g.1.1.0)
-by-method method.SetStyleSheetText ms u = given sheet_text_fields (λ x. EditCss (style.SetStyleSheetText x.0 x.1.0)) TwoTexts ms u
-    (needed-text param.StyleSheetId (needed param.Text text no_lookups) OneText (last-text param.Text)) (λ x g. g.1.0)
-by-method method.AddRule ms u = given add_rule_fields (λ x. EditCss (style.AddRule x.0 x.1.0 x.1.1.0))
-    (λ x. IsUtf8 x.0 × (IsUtf8 x.1.0 × (Any x.1.1.0 × Any x.1.1.1))) ms u rule-gives (λ x g. g.1.0)
-by-method method.SetMediaText ms u = given set_media_fields (λ x. EditCss (style.SetMediaText x.0 x.1.0 x.1.1.0))
-    (λ x. IsUtf8 x.0 × (Any x.1.0 × OneText x.1.1)) ms u media-gives (λ x g. g.1.1.0)
-by-method method.PerformSearch ms u = brings-none _ (λ x. AskSearch (search.PerformSearch x.0 x.1.0)) (λ x. tt)
-by-method method.GetSearchResults ms u = brings-none _ (λ x. AskSearch (search.GetSearchResults x.0 x.1.0 x.1.1.0)) (λ x. tt)
-by-method method.DiscardSearchResults ms u = brings-none _ (λ x. AskSearch (search.DiscardSearchResults x.0)) (λ x. tt)
-by-method method.SetBreakpoint ms u = brings-none _ (λ x. SetBreakpoint x.0 x.1.0) (λ x. tt)
-by-method method.RemoveBreakpoint ms u = brings-none _ (λ x. RemoveBreakpoint x.0 x.1.0) (λ x. tt)
-by-method method.ReplayLoad ms u = u
-by-method method.ReplayAct ms u = u
 
 -- ---- a frame
 

@@ -15,7 +15,9 @@ use Rattle.cdp_messages.specs.declared.dom_ask.DomAsk.TheVariants.{PushBySerials
 use Rattle.cdp_messages.specs.declared.down.ReplyBody.{ReplyBody}
 use Rattle.cdp_messages.specs.declared.down.ReplyBody.TheVariants.{Nothing, Search}
 use Rattle.cdp_messages.specs.declared.search_ask.SearchAsk.{SearchAsk}
-use Rattle.cdp_messages.specs.declared.search_ask.SearchAsk.TheVariants as search
+use Rattle.cdp_messages.specs.declared.method.Domains.{Domains}
+use Rattle.cdp_messages.specs.Methods.{needs_both}
+use Rattle.cdp_messages.proofs.Commands.{searches-need-dom}
 use Rattle.cdp_messages.specs.Replies.{reply_text}
 use Rattle.cdp_messages.specs.SearchIds.{search_in}
 use Rattle.client_views.specs.Moves.{replied, frames_of_moves}
@@ -31,7 +33,7 @@ use Rattle.back_end.specs.declared.desk.Desk.{Desk}
 use Rattle.back_end.specs.declared.side.PageSide.{PageSide}
 use Rattle.back_end.specs.States.{State, nodes_shown}
 use Rattle.back_end.specs.Steps.{Step, found_now, refusing, idle, answering, with_searches, perform_step, results_in, or_why, results_asked}
-use Rattle.back_end.specs.Steps.{results_step, discard_step, agent_step, search_step, needs_on, needs_css, command_step}
+use Rattle.back_end.specs.Steps.{results_step, discard_step, agent_step, search_step, needs_css, command_step}
 use Rattle.back_end.specs.Seats.{DeskStandsFor}
 use Rattle.back_end.proofs.SearchSteps.{searched-is}
 use Rattle.back_end.proofs.SeatLemmas.{on-is, asked-stands, asked-sent}
@@ -213,16 +215,9 @@ module _ (d : Desk) (s : PageSide) (state : State) (id : ℕ) (named : List ℕ)
 
 -- ---- a command
 
--- each needs DOM on, and none CSS
-pub searches-need-dom : (ask : SearchAsk) → needs_on (AskSearch ask) ≡ true
-searches-need-dom (search.PerformSearch query shadow) = refl
-searches-need-dom (search.GetSearchResults named from to) = refl
-searches-need-dom (search.DiscardSearchResults named) = refl
-
+-- none needs CSS on
 no-css : (ask : SearchAsk) (on : Bool) → (needs_css (AskSearch ask) && not on) ≡ false
-no-css (search.PerformSearch query shadow) on = refl
-no-css (search.GetSearchResults named from to) on = refl
-no-css (search.DiscardSearchResults named) on = refl
+no-css ask on = ap (λ (d : Domains). needs_both d && not on) (searches-need-dom ask)
 
 -- while DOM is on, what is asked of searches is served
 pub search-is : (d : Desk) (s : PageSide) (state : State) (id : ℕ) (ask : SearchAsk) → DeskStandsFor d s state → d.is_on ≡ true

@@ -1,7 +1,7 @@
 -- The answer of a seat to a command is the step of the state.
-use Rattle.std.proofs.Common.{◌≡◌, ℕ, List, [], ◌++◌, Bool, true, false, not, ◌&&◌, ◌||◌, cond, Option, Some, None, Result, Ok, Err, refl}
+use Rattle.std.proofs.Common.{◌≡◌, ℕ, List, ◌++◌, Bool, true, false, not, ◌&&◌, ◌||◌, cond, Option, Some, None, Result, Ok, Err, refl}
 use Rattle.std.proofs.Common.{sym, ◌∙◌, ap}
-use Rattle.std.proofs.Common.{subst, append-nil}
+use Rattle.std.proofs.Common.{subst}
 use Rattle.std.specs.Result.{OnOk}
 use Rattle.node_tree.specs.Nodes.{Nodes, Branch, alone}
 use Rattle.page_tree.specs.Pages.{PageRow, PageValue}
@@ -12,8 +12,6 @@ use Rattle.node_binding.specs.Sessions.{Session, reset, id_at}
 use Rattle.node_binding.proofs.StandsLemmas.{Stands-reset}
 use Rattle.client_views.specs.Moves.{frames_of_moves}
 use Rattle.cdp_messages.specs.declared.dom_ask.DomAsk.{DomAsk}
-use Rattle.cdp_messages.specs.declared.dom_ask.DomAsk.TheVariants.{GetDocument, RequestChildNodes, PushByPath, PushBySerials, QuerySelector}
-use Rattle.cdp_messages.specs.declared.dom_ask.DomAsk.TheVariants.{QuerySelectorAll, GetAttributes, DescribeNode}
 use Rattle.cdp_messages.specs.declared.command.Why.TheVariants.{DomOff, CssOff}
 use Rattle.dom_agent.specs.Laws.{session_outcome, binding_outcome, has_depth}
 use Rattle.dom_agent.specs.Requests.{Outcome, shows_root, served, refused, state_after, answer}
@@ -36,7 +34,7 @@ use Rattle.cdp_messages.specs.declared.command.WhitespaceWord.{WhitespaceWord}
 use Rattle.back_end.specs.States.{Client, State, page_shown, nodes_shown}
 use Rattle.cdp_messages.specs.declared.command.Command.{Command}
 use Rattle.cdp_messages.specs.declared.command.Command.TheVariants.{DomEnable, DomDisable, AskDom}
-use Rattle.cdp_messages.proofs.MethodRows.{asks-without-css}
+use Rattle.cdp_messages.proofs.Commands.{asks-without-css, either_ask, others-turn-none_on}
 use Rattle.back_end.specs.Steps.{Step, with_client, mode_asked, client_on, client_off, refusing, with_marks, ask_needs_on, needs_on}
 use Rattle.back_end.specs.Steps.{needs_css, turns_on, client_served, served_step}
 use Rattle.back_end.specs.Steps.{command_step}
@@ -117,16 +115,9 @@ still-on c page whole client on off is = ap (λ t. on || t) off ∙ or-false on 
 
 on-after : (c : DomAsk) (page : PageValue) (whole : Branch PageRow) (client : Client) (on : Bool) → on ≡ client.dom_on
     → (on || turns_on c) ≡ (client_served c (session_outcome page whole c client.session) client).dom_on
-on-after (GetDocument depth pierce) page whole client on is = ap (λ b. b || true) is
-on-after (RequestChildNodes id depth pierce) page whole client on is = still-on
-    (RequestChildNodes id depth pierce) page whole client on refl is
-on-after (PushByPath path) page whole client on is = still-on (PushByPath path) page whole client on refl is
-on-after (PushBySerials serials) page whole client on is = still-on (PushBySerials serials) page whole client on refl is
-on-after (QuerySelector id text) page whole client on is = still-on (QuerySelector id text) page whole client on refl is
-on-after (QuerySelectorAll id text) page whole client on is = still-on (QuerySelectorAll id text) page whole client on refl is
-on-after (GetAttributes id) page whole client on is = still-on (GetAttributes id) page whole client on refl is
-on-after (DescribeNode id serial depth pierce) page whole client on is = still-on
-    (DescribeNode id serial depth pierce) page whole client on refl is
+on-after c page whole client on is =
+    either_ask (λ a. (on || turns_on a) ≡ (client_served a (session_outcome page whole a client.session) client).dom_on)
+    (λ depth pierce. ap (λ b. b || true) is) (λ a other. still-on a page whole client on (others-turn-none_on a other) is) c
 
 served-css : (c : DomAsk) (o : Outcome Session) (client : Client) → client.css_on ≡ (client_served c o client).css_on
 served-css c (shows_root b p) client = refl

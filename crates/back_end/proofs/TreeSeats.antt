@@ -42,7 +42,7 @@ use Rattle.back_end.proofs.SheetSeats.{dom-on}
 use Rattle.back_end.proofs.SeatLemmas.{on-is}
 use Rattle.cdp_messages.specs.declared.method.Domains.{Domains}
 use Rattle.cdp_messages.specs.Methods.{needs_both}
-use Rattle.cdp_messages.proofs.MethodRows.{edits-need-dom}
+use Rattle.cdp_messages.proofs.Commands.{edits-need-dom}
 
 -- ---- a move
 

@@ -24,6 +24,8 @@ use Rattle.cdp_messages.specs.declared.down.ReplyBody.TheVariants.{Nothing, Node
 use Rattle.client_views.specs.Moves.{replied, Course}
 use Rattle.sheet_reader.specs.declared.book.SheetEntry.{SheetEntry}
 use Rattle.dom_agent.proofs.StepLemmas.{is_small, ids-below}
+use Rattle.cdp_messages.specs.declared.command.Command.TheVariants.{EditDom}
+use Rattle.cdp_messages.specs.Asked.{method_name}
 use Rattle.cdp_messages.specs.declared.dom_edit.DomEdit.{DomEdit}
 use Rattle.cdp_messages.specs.declared.dom_edit.DomEdit.TheVariants as dom
 use Rattle.back_end.specs.declared.node_edits.TreeWish.{TreeWish}
@@ -99,6 +101,15 @@ AsksFor method (dom.SetNodeValue node value) = MayAnswer method (replied 0 Nothi
 AsksFor method (dom.RemoveNode node) = MayAnswer method (replied 0 Nothing)
 AsksFor method (dom.MoveTo node target before) = (id : ℕ) → MayAnswer method (replied 0 (NodeId id))
 AsksFor method (dom.CopyTo node target before) = (id : ℕ) → MayAnswer method (replied 0 (NodeId id))
+
+-- the reply to each of a client's edits of the tree
+pub asks-for : (edit : DomEdit) → AsksFor (method_name (EditDom edit)) edit
+asks-for (dom.SetAttributeValue node name value) = (refl, refl)
+asks-for (dom.RemoveAttribute node name) = (refl, refl)
+asks-for (dom.SetNodeValue node value) = (refl, refl)
+asks-for (dom.RemoveNode node) = (refl, refl)
+asks-for (dom.MoveTo node target before) = λ id. (refl, refl)
+asks-for (dom.CopyTo node target before) = λ id. (refl, refl)
 
 -- in lower case its texts are UTF-8 still
 pub lowered-texts : (edit : DomEdit) → HasTreeTexts edit → HasTreeTexts (lowered edit)

@@ -1,22 +1,17 @@
--- What is asked by a command that was written.
-use Rattle.std.proofs.Common.{◌≡◌, ℕ, ◌^◌, ◌<◌, ℤ, pos, negsuc, List, Bool, true, false, ◌||◌, ◌&&◌, not, cond, nat_lt, Option, Some, None}
-use Rattle.std.proofs.Common.{option_and_then, Result, Ok, Err, bytes_eq, refl, sym, ap, subst, ◌∙◌, arith, ltb-true, lt-ltb}
-use Rattle.std.proofs.lemmas.Bool.Decides.{Decides-int_eq}
-use Rattle.std.specs.Ordering.{int_eq}
-use Rattle.std.specs.Prelude.{int_lt, codes, is_some, IfOk, ⊤}
+-- What is asked by a command that was written, and what holds of each command, by cases.
+use Rattle.std.proofs.Common.{◌≡◌, ℕ, ℤ, List, Bool, true, false, ◌&&◌, not, cond, Option, Some, None, option_and_then, Result, Ok, Err}
+use Rattle.std.proofs.Common.{refl, sym, ap, subst, ◌∙◌}
+use Rattle.std.specs.Prelude.{codes, IfOk, bytes_eq, ⊤}
 use Rattle.serde_json.specs.Data.{Data, null, boolean, number, string, array, object, Members}
-use Rattle.serde_json.specs.Find.{of_integer, as_i64, as_str, as_number, get_member, as_object}
-use Rattle.serde_json.proofs.Views.{get_member-put_other}
+use Rattle.serde_json.specs.Find.{as_str, get_member, as_object}
 use Rattle.cdp_json.specs.Plain.{is_plain}
 use Rattle.cdp_json.specs.Fields.{field_from, field_if}
-use Rattle.cdp_json.specs.Kinds.{Kind, named, as_whole, is_counted, holds_of_some, if_holds, is_depth, as_depth, whole, text, flag}
+use Rattle.cdp_json.specs.Kinds.{as_whole, is_counted, holds_of_some, whole, text, flag}
 use Rattle.cdp_json.specs.Lawful.{LawfulKind}
-use Rattle.cdp_json.specs.Lookups.{then_ok, optional, Lookups, no_lookups}
+use Rattle.cdp_json.specs.Lookups.{then_ok, Lookups}
 use Rattle.cdp_json.specs.Faithful.{FaithfulKind, FaithfulLookups}
-use Rattle.cdp_json.proofs.KindLaws.{named_is, whole_lawful, text_lawful, flag_lawful, anything_lawful, list_faithful, through_faithful}
-use Rattle.cdp_json.proofs.KindLaws.{faithful, choice_lawful}
-use Rattle.cdp_json.proofs.LookupLaws.{then_ok_some, same_ok, other_name, no_lookups_faithful, look_for_faithful, may_look_for_faithful}
-use Rattle.cdp_json.proofs.LookupLaws.{object_with_faithful}
+use Rattle.cdp_json.proofs.KindLaws.{named_is, whole_lawful, text_lawful, flag_lawful, anything_lawful, list_faithful, faithful}
+use Rattle.cdp_json.proofs.LookupLaws.{then_ok_some, same_ok, look_for_faithful, may_look_for_faithful}
 use Rattle.cdp_json.proofs.RowLaws.{ends_lawful, and_need_lawful, and_may_lawful, object_lawful}
 use Rattle.cdp_messages.specs.declared.command.Command.{Command}
 use Rattle.cdp_messages.specs.declared.command.Command.TheVariants.{DomEnable, DomDisable, CssEnable, CssDisable, AskDom, EditDom, AskCss}
@@ -29,175 +24,41 @@ use Rattle.cdp_messages.specs.declared.css_edit.CssEdit.TheVariants as style
 use Rattle.cdp_messages.specs.declared.search_ask.SearchAsk.TheVariants as search
 use Rattle.cdp_messages.specs.declared.command.Asked.{Asked}
 use Rattle.cdp_messages.specs.declared.command.Refused.{Refused}
-use Rattle.cdp_messages.specs.declared.command.Param.{Param}
 use Rattle.cdp_messages.specs.declared.command.Param.TheVariants as param
 use Rattle.cdp_messages.specs.declared.command.Why.{Why}
-use Rattle.cdp_messages.specs.declared.command.Why.TheVariants.{NotJson, NoId, NoSession, NoMethod, BadParam}
-use Rattle.cdp_messages.specs.declared.edits.TextEdit.{TextEdit}
+use Rattle.cdp_messages.specs.declared.command.Why.TheVariants.{NotJson, NoId, NoSession, NoMethod}
 use Rattle.cdp_messages.specs.declared.method.Method.{Method}
 use Rattle.cdp_messages.specs.declared.method.Method.TheVariants as method
-use Rattle.css_objects.specs.declared.ranges.SourceRange.{SourceRange}
-use Rattle.cdp_messages.specs.Methods.{name_of, all_methods, method_named, is_own, if_known, known_method}
-use Rattle.cdp_messages.specs.Parameters.{depth_number, place_fields, place_parts, place_from, range_parameter, edit_fields, edit_parts}
-use Rattle.cdp_messages.specs.Parameters.{edit_from, text_edit, allowed, one_there, one_of, depth_fields, children_fields, path_field}
-use Rattle.cdp_messages.specs.Parameters.{serials_field, node_field, query_fields, describe_fields, attribute_fields, name_fields}
-use Rattle.cdp_messages.specs.Parameters.{value_fields, move_fields, sheet_field, edits_field, set_selector_fields, sheet_text_fields}
-use Rattle.cdp_messages.specs.Parameters.{add_rule_fields, set_media_fields, search_fields, results_fields, search_field, watch_fields}
-use Rattle.cdp_messages.specs.Parameters.{enable_fields, reads_with, command_by, Form, form, parameters_form}
+use Rattle.cdp_messages.specs.Methods.{name_of, all_methods, method_named, is_own, if_known, known_method, domains_of, needs_both}
+use Rattle.cdp_messages.specs.Methods.{turns_dom_on}
+use Rattle.cdp_messages.specs.Parameters.{depth_fields, children_fields, path_field, serials_field, node_field, query_fields}
+use Rattle.cdp_messages.specs.Parameters.{describe_fields, attribute_fields, name_fields, value_fields, move_fields, sheet_field}
+use Rattle.cdp_messages.specs.Parameters.{edits_field, set_selector_fields, sheet_text_fields, add_rule_fields, set_media_fields}
+use Rattle.cdp_messages.specs.Parameters.{search_fields, results_fields, search_field, watch_fields, enable_fields, reads_with, command_by}
+use Rattle.cdp_messages.specs.Parameters.{Form, form, parameters_form, dom_ask_form, dom_edit_form, css_ask_form, css_edit_form}
+use Rattle.cdp_messages.specs.Parameters.{search_ask_form}
 use Rattle.cdp_messages.specs.Asked.{refusal, of_method, command_for, params_of, unless_session, command_of, method_in, command_in, with_id}
 use Rattle.cdp_messages.specs.Asked.{asked_in, asked_value, asked_by, json_of, method_of, method_name, parameters, fits_command}
 use Rattle.cdp_messages.specs.Asked.{command_value, request}
 use Rattle.cdp_messages.specs.Laws.{AsksAreAsked, CommandsAreAsked, ParametersAreRead, ParametersArePlain, CommandsAreNamed, AsksFit}
+use Rattle.cdp_messages.specs.Laws.{answers}
 use Rattle.cdp_messages.specs.Answers.{ReadsAsked}
-use Rattle.cdp_messages.specs.Events.{is_object, watch}
-use Rattle.cdp_messages.specs.Refusals.{param_name}
+use Rattle.cdp_messages.specs.Events.{is_object}
 use Rattle.cdp_messages.specs.declared.command.ReadErr.{ReadErr}
-use Rattle.cdp_json.proofs.Options.{both, both_parts, and_then_some}
+use Rattle.cdp_json.proofs.Options.{both, and_then_some}
 use Rattle.cdp_messages.proofs.Messages.{json_of-compact_text}
-use Rattle.cdp_messages.proofs.NewsLaws.{watch_lawful}
-use Rattle.cdp_messages.specs.declared.command.WhitespaceWord.{WhitespaceWord}
-use Rattle.cdp_messages.specs.declared.command.WhitespaceWord.TheVariants.{Hidden, Shown}
-use Rattle.cdp_messages.specs.Whitespace.{whitespace_name, all_whitespace, whitespace}
-
--- ---- depths
-
-small_depth : (n : ℕ) → is_depth (pos n) ≡ true → n < 2 ^ 53
-small_depth n e = ltb-true n (2 ^ 53) (both_parts (int_lt (pos 0) (pos n)) (nat_lt n (2 ^ 53)) e).1
-
-depth_again : (z : ℤ) → is_depth z ≡ true → as_depth (number (of_integer z)) ≡ Some z
-depth_again (pos n) e = let small = small_depth n e in let fits : nat_lt n (2 ^ 63) ≡ true = lt-ltb n (2 ^ 63) (omega arith) in rw (fits, e)
-depth_again (negsuc n) e = rw e
-
-held : {T : Type 0} (test : T → Bool) (x y : T) (b : Bool) → test x ≡ b → cond b (Some x) None ≡ Some y → test y ≡ true
-held test x y true is e = let same : x ≡ y = cc in subst (λ z. test z ≡ true) same is
-held test x y false is e = absurd cc
-
-depth_fit : (d : Data) (z : ℤ) → as_depth d ≡ Some z → is_depth z ≡ true
-depth_fit d z e =
-    let p = and_then_some (if_holds is_depth) (option_and_then as_i64 (as_number d)) z e in
-    held is_depth p.0 z (is_depth p.0) refl p.2
-
-only_first : (a b : Bool) → (a || b) ≡ true → b ≡ false → a ≡ true
-only_first true b e f = refl
-only_first false true e f = absurd cc
-only_first false false e f = absurd cc
-
-depth_plain : (z : ℤ) → is_depth z ≡ true → is_plain (number (of_integer z)) ≡ true
-depth_plain (pos n) e = let small = small_depth n e in lt-ltb n (2 ^ 64) (omega arith)
-depth_plain (negsuc n) e =
-    let same : negsuc n ≡ negsuc 0 = (Decides-int_eq (negsuc n) (negsuc 0)).0 (only_first (int_eq (negsuc n) (negsuc 0)) false e refl) in
-    subst (λ z. is_plain (number (of_integer z)) ≡ true) (sym same) refl
-
-depth_faithful : FaithfulKind depth_number
-depth_faithful = record { fit = depth_fit; again = depth_again; plain = λ z f l. depth_plain z f }
-
--- ---- places, edits and watches
-
-nothing_more : {E : Type 0} → FaithfulLookups (no_lookups {E = E})
-nothing_more = no_lookups_faithful
-
-whole_faithful : FaithfulKind whole
-whole_faithful = faithful whole_lawful
-
-text_faithful : FaithfulKind text
-text_faithful = faithful text_lawful
-
-place_fields_faithful : FaithfulLookups place_fields
-place_fields_faithful =
-    look_for_faithful _ _ refl whole_faithful
-    (look_for_faithful _ _ refl whole_faithful
-    (look_for_faithful _ _ refl whole_faithful (look_for_faithful _ _ refl whole_faithful nothing_more refl) refl) refl) refl
-
-place_only : (s : ℕ × (ℕ × (ℕ × (ℕ × ⊤)))) (x : SourceRange) → place_from s ≡ Some x → place_parts x ≡ s
-place_only s x e = ap place_parts (same_place _ x e) where
-  same_place : (a b : SourceRange) → Some a ≡ Some b → b ≡ a
-  same_place a b h = cc
-
-place_faithful : FaithfulKind range_parameter
-place_faithful = through_faithful place_parts place_from place_only (λ x. refl) (object_with_faithful place_fields_faithful)
-
-edit_fields_faithful : FaithfulLookups edit_fields
-edit_fields_faithful = look_for_faithful _ _ refl text_faithful
-    (look_for_faithful _ _ refl place_faithful (look_for_faithful _ _ refl text_faithful nothing_more refl) refl) refl
-
-edit_only : (s : List ℕ × (SourceRange × (List ℕ × ⊤))) (x : TextEdit) → edit_from s ≡ Some x → edit_parts x ≡ s
-edit_only s x e = ap edit_parts (same_edit _ x e) where
-  same_edit : (a b : TextEdit) → Some a ≡ Some b → b ≡ a
-  same_edit a b h = cc
-
-edit_faithful : FaithfulKind text_edit
-edit_faithful = through_faithful edit_parts edit_from edit_only (λ x. refl) (object_with_faithful edit_fields_faithful)
-
-watch_faithful : FaithfulKind watch
-watch_faithful = faithful watch_lawful
-
-first_whitespace : (w : WhitespaceWord) → named whitespace_name all_whitespace (whitespace_name w) ≡ Some w
-first_whitespace Hidden = refl
-first_whitespace Shown = refl
-
-whitespace_faithful : FaithfulKind whitespace
-whitespace_faithful = faithful (choice_lawful whitespace_name all_whitespace first_whitespace)
-
--- ---- one of two parameters
-
--- what is read of the two, and of the others
-abbrev one_gets : {A B C : Type 0} → Param → Result (Option A) Why → Result (Option B) Why → Result C Why
-    → Result (Option A × (Option B × C)) Why
-one_gets p ra rb rc = then_ok ra (λ a. then_ok rb (λ b. then_ok (one_there p a b) (λ _. then_ok rc (λ c. Ok (a, (b, c))))))
-
-abbrev both_gets : {A B C : Type 0} → Result (Option A) Why → Result (Option B) Why → Result C Why → Result (Option A × (Option B × C)) Why
-both_gets ra rb rc = then_ok ra (λ a. then_ok (then_ok rb (λ b. then_ok rc (λ c. Ok (b, c)))) (λ y. Ok (a, y)))
-
-abbrev one_is : {A B C : Type 0} → Option A × (Option B × C) → Bool
-one_is x = is_some x.0 || is_some x.1.0
-
-no_ok : {T P : Type 0} (why : Why) (x : T) → ◌≡◌ {A = Result T Why} (Err why) (Ok x) → P
-no_ok {T} {P} why x e = let no : ◌≡◌ {A = Result T Why} (Err why) (Ok x) = e in absurd cc
-
-one_down : {A B C : Type 0} (p : Param) (ra : Result (Option A) Why) (rb : Result (Option B) Why) (rc : Result C Why)
-    (x : Option A × (Option B × C)) → one_gets p ra rb rc ≡ Ok x → (both_gets ra rb rc ≡ Ok x) × (one_is x ≡ true)
-one_down p (Err why) rb rc x e = no_ok why x e
-one_down p (Ok a) (Err why) rc x e = no_ok why x e
-one_down p (Ok None) (Ok None) rc x e = no_ok (BadParam p) x e
-one_down p (Ok None) (Ok (Some b)) (Err why) x e = no_ok why x e
-one_down p (Ok (Some a)) (Ok b) (Err why) x e = no_ok why x e
-one_down {A} {B} {C} p (Ok None) (Ok (Some b)) (Ok c) x e =
-    (e, subst (λ (y : Option A × (Option B × C)). one_is y ≡ true) (same_ok (None, (Some b, c)) x e) refl)
-one_down {A} {B} {C} p (Ok (Some a)) (Ok b) (Ok c) x e =
-    (e, subst (λ (y : Option A × (Option B × C)). one_is y ≡ true) (same_ok (Some a, (b, c)) x e) refl)
-
-one_up : {A B C : Type 0} (p : Param) (ra : Result (Option A) Why) (rb : Result (Option B) Why) (rc : Result C Why)
-    (x : Option A × (Option B × C)) → both_gets ra rb rc ≡ Ok x → one_is x ≡ true → one_gets p ra rb rc ≡ Ok x
-one_up p (Err why) rb rc x e t = no_ok why x e
-one_up p (Ok a) (Err why) rc x e t = no_ok why x e
-one_up p (Ok a) (Ok b) (Err why) x e t = no_ok why x e
-one_up {A} {B} {C} p (Ok None) (Ok None) (Ok c) x e t =
-    let no : false ≡ true = subst (λ (y : Option A × (Option B × C)). one_is y ≡ true) (sym (same_ok (None, (None, c)) x e)) t in absurd cc
-one_up p (Ok None) (Ok (Some b)) (Ok c) x e t = e
-one_up p (Ok (Some a)) (Ok b) (Ok c) x e t = e
-
-one_of_faithful : {A B C : Type 0} {later : Lookups Why C} (p : Param) (k : Kind A) (q : Param) (l : Kind B)
-    → FaithfulLookups (allowed p k (allowed q l later)) → FaithfulLookups later → FaithfulLookups (one_of p k q l later)
-one_of_faithful {A} {B} {C} {later} p k q l law laws = record {
-  fit = λ ms x e.
-      let r = one_down p (optional (BadParam p) (field_from k.reads (get_member (param_name p) ms)))
-      (optional (BadParam q) (field_from l.reads (get_member (param_name q) ms))) (later.gets ms) x e in
-      both r.1 (law.fit ms x r.0);
-  again = λ x f.
-      let t = both_parts (one_is x) _ f in
-      let ms = (allowed p k (allowed q l later)).puts x in
-      one_up p (optional (BadParam p) (field_from k.reads (get_member (param_name p) ms)))
-      (optional (BadParam q) (field_from l.reads (get_member (param_name q) ms))) (later.gets ms) x (law.again x t.1) t.0;
-  plain = λ x f. law.plain x (both_parts (one_is x) _ f).1;
-  skips = λ other d ms n.
-      let n1 = both_parts (not (bytes_eq other (param_name p))) _ n in
-      let n2 = both_parts (not (bytes_eq other (param_name q))) _ n1.1 in
-      let ga = get_member-put_other (param_name p) other d ms (other_name other (param_name p) n1.0) in
-      let gb = get_member-put_other (param_name q) other d ms (other_name other (param_name q) n2.0) in
-      let gc = laws.skips other d ms n2.1 in
-      λ i. one_gets p (optional (BadParam p) (field_from k.reads (ga i))) (optional (BadParam q) (field_from l.reads (gb i))) (gc i);
-  absent = λ other x n. law.absent other x n;
-}
+use Rattle.css_objects.specs.declared.rules.Matched.{Matched}
+use Rattle.node_tree.specs.Nodes.{Branch}
+use Rattle.dom_objects.specs.Told.{Told}
+use Rattle.cdp_messages.specs.declared.dom_ask.DomAsk.{DomAsk}
+use Rattle.cdp_messages.specs.declared.dom_edit.DomEdit.{DomEdit}
+use Rattle.cdp_messages.specs.declared.css_ask.CssAsk.{CssAsk}
+use Rattle.cdp_messages.specs.declared.css_edit.CssEdit.{CssEdit}
+use Rattle.cdp_messages.specs.declared.search_ask.SearchAsk.{SearchAsk}
+use Rattle.cdp_messages.specs.declared.down.ReplyBody.TheVariants as body
+use Rattle.cdp_messages.specs.declared.method.Domains.TheVariants.{Dom, DomAndCss}
+use Rattle.cdp_messages.proofs.ParameterKinds.{depth_faithful, nothing_more, whole_faithful, text_faithful, place_faithful, edit_faithful}
+use Rattle.cdp_messages.proofs.ParameterKinds.{watch_faithful, whitespace_faithful, one_of_faithful, no_ok}
 
 -- ---- the parameters of each command
 
@@ -643,3 +504,155 @@ pub commands_are_asked : CommandsAreAsked
 commands_are_asked own id c counted f open_to plain shallow utf8 =
     asks_are_asked own id (method_name c) (Some (parameters c)) None counted plain refl shallow utf8 ∙ ap (asked_by id)
     (parameters_are_read own c f open_to)
+
+-- ---- what each part needs on
+
+pub asks-without-css : (a : DomAsk) → needs_both (domains_of (dom_ask_form a).method) ≡ false
+asks-without-css (ask.GetDocument depth pierce) = refl
+asks-without-css (ask.RequestChildNodes node depth pierce) = refl
+asks-without-css (ask.PushByPath path) = refl
+asks-without-css (ask.PushBySerials serials) = refl
+asks-without-css (ask.QuerySelector node selector) = refl
+asks-without-css (ask.QuerySelectorAll node selector) = refl
+asks-without-css (ask.GetAttributes node) = refl
+asks-without-css (ask.DescribeNode node serial depth pierce) = refl
+
+pub edits-need-dom : (e : DomEdit) → domains_of (dom_edit_form e).method ≡ Dom
+edits-need-dom (tree.SetAttributeValue node name value) = refl
+edits-need-dom (tree.RemoveAttribute node name) = refl
+edits-need-dom (tree.SetNodeValue node value) = refl
+edits-need-dom (tree.RemoveNode node) = refl
+edits-need-dom (tree.MoveTo node target before) = refl
+edits-need-dom (tree.CopyTo node target before) = refl
+
+pub styles-need-both : (a : CssAsk) → domains_of (css_ask_form a).method ≡ DomAndCss
+styles-need-both (css.GetMatchedStyles node) = refl
+styles-need-both (css.GetStyleSheetText sheet) = refl
+styles-need-both (css.CollectClassNames sheet) = refl
+
+pub style_edits-need-both : (e : CssEdit) → domains_of (css_edit_form e).method ≡ DomAndCss
+style_edits-need-both (style.SetStyleTexts edits) = refl
+style_edits-need-both (style.SetRuleSelector sheet range selector) = refl
+style_edits-need-both (style.SetStyleSheetText sheet text) = refl
+style_edits-need-both (style.AddRule sheet rule_text location) = refl
+style_edits-need-both (style.SetMediaText sheet range text) = refl
+
+-- a search needs no more than DOM
+pub searches-need-dom : (a : SearchAsk) → domains_of (search_ask_form a).method ≡ Dom
+searches-need-dom (search.PerformSearch query shadow) = refl
+searches-need-dom (search.GetSearchResults id from to) = refl
+searches-need-dom (search.DiscardSearchResults id) = refl
+
+-- ---- matched styles are the result of one method
+
+-- the results of a method are others
+abbrev pub TellsNoStyles : List ℕ → Type 0
+TellsNoStyles method = (m : Matched) → answers method (body.Matched m) ≡ true → ⊥
+
+pub asks-tell-no_styles : (a : DomAsk) → TellsNoStyles (method_name (AskDom a))
+asks-tell-no_styles (ask.GetDocument depth pierce) m e = absurd cc
+asks-tell-no_styles (ask.RequestChildNodes node depth pierce) m e = absurd cc
+asks-tell-no_styles (ask.PushByPath path) m e = absurd cc
+asks-tell-no_styles (ask.PushBySerials serials) m e = absurd cc
+asks-tell-no_styles (ask.QuerySelector node selector) m e = absurd cc
+asks-tell-no_styles (ask.QuerySelectorAll node selector) m e = absurd cc
+asks-tell-no_styles (ask.GetAttributes node) m e = absurd cc
+asks-tell-no_styles (ask.DescribeNode id serial depth pierce) m e = absurd cc
+
+pub edits-tell-no_styles : (e : DomEdit) → TellsNoStyles (method_name (EditDom e))
+edits-tell-no_styles (tree.SetAttributeValue node name value) m e = absurd cc
+edits-tell-no_styles (tree.RemoveAttribute node name) m e = absurd cc
+edits-tell-no_styles (tree.SetNodeValue node value) m e = absurd cc
+edits-tell-no_styles (tree.RemoveNode node) m e = absurd cc
+edits-tell-no_styles (tree.MoveTo node target before) m e = absurd cc
+edits-tell-no_styles (tree.CopyTo node target before) m e = absurd cc
+
+pub searches-tell-no_styles : (a : SearchAsk) → TellsNoStyles (method_name (AskSearch a))
+searches-tell-no_styles (search.PerformSearch query shadow) m e = absurd cc
+searches-tell-no_styles (search.GetSearchResults id from to) m e = absurd cc
+searches-tell-no_styles (search.DiscardSearchResults id) m e = absurd cc
+
+pub sheet_edits-tell-no_styles : (e : CssEdit) → TellsNoStyles (method_name (EditCss e))
+sheet_edits-tell-no_styles (style.SetStyleTexts edits) m e = absurd cc
+sheet_edits-tell-no_styles (style.SetRuleSelector sheet range selector) m e = absurd cc
+sheet_edits-tell-no_styles (style.SetStyleSheetText sheet text) m e = absurd cc
+sheet_edits-tell-no_styles (style.AddRule sheet rule_text location) m e = absurd cc
+sheet_edits-tell-no_styles (style.SetMediaText sheet range text) m e = absurd cc
+
+-- ---- what the DOM agent is asked
+
+-- an ask, but not for the document
+abbrev pub IsOther : DomAsk → Type 0
+IsOther (ask.GetDocument depth pierce) = ⊥
+IsOther (ask.RequestChildNodes node depth pierce) = ⊤
+IsOther (ask.PushByPath path) = ⊤
+IsOther (ask.PushBySerials serials) = ⊤
+IsOther (ask.QuerySelector node selector) = ⊤
+IsOther (ask.QuerySelectorAll node selector) = ⊤
+IsOther (ask.GetAttributes node) = ⊤
+IsOther (ask.DescribeNode id serial depth pierce) = ⊤
+
+-- what holds of the ask for the document, and of all others
+pub either_ask : (P : DomAsk → Type 0) → ((depth : Option ℤ) (pierce : Option Bool) → P (ask.GetDocument depth pierce))
+    → ((a : DomAsk) → IsOther a → P a) → (a : DomAsk) → P a
+either_ask P document others (ask.GetDocument depth pierce) = document depth pierce
+either_ask P document others (ask.RequestChildNodes node depth pierce) = others (ask.RequestChildNodes node depth pierce) tt
+either_ask P document others (ask.PushByPath path) = others (ask.PushByPath path) tt
+either_ask P document others (ask.PushBySerials serials) = others (ask.PushBySerials serials) tt
+either_ask P document others (ask.QuerySelector node selector) = others (ask.QuerySelector node selector) tt
+either_ask P document others (ask.QuerySelectorAll node selector) = others (ask.QuerySelectorAll node selector) tt
+either_ask P document others (ask.GetAttributes node) = others (ask.GetAttributes node) tt
+either_ask P document others (ask.DescribeNode id serial depth pierce) = others (ask.DescribeNode id serial depth pierce) tt
+
+-- what holds of the ask for the document, of a description, which needs nothing on, and of all asks that need DOM on
+pub ask_by_need : (P : DomAsk → Type 0) → ((depth : Option ℤ) (pierce : Option Bool) → P (ask.GetDocument depth pierce))
+    → ((id serial : Option ℕ) (depth : Option ℤ) (pierce : Option Bool) → P (ask.DescribeNode id serial depth pierce))
+    → ((a : DomAsk) → domains_of (dom_ask_form a).method ≡ Dom → P a) → (a : DomAsk) → P a
+ask_by_need P document described others (ask.GetDocument depth pierce) = document depth pierce
+ask_by_need P document described others (ask.RequestChildNodes node depth pierce) = others (ask.RequestChildNodes node depth pierce) refl
+ask_by_need P document described others (ask.PushByPath path) = others (ask.PushByPath path) refl
+ask_by_need P document described others (ask.PushBySerials serials) = others (ask.PushBySerials serials) refl
+ask_by_need P document described others (ask.QuerySelector node selector) = others (ask.QuerySelector node selector) refl
+ask_by_need P document described others (ask.QuerySelectorAll node selector) = others (ask.QuerySelectorAll node selector) refl
+ask_by_need P document described others (ask.GetAttributes node) = others (ask.GetAttributes node) refl
+ask_by_need P document described others (ask.DescribeNode id serial depth pierce) = described id serial depth pierce
+
+-- no other ask turns a domain on
+pub others-turn-none_on : (a : DomAsk) → IsOther a → turns_dom_on (domains_of (dom_ask_form a).method) ≡ false
+others-turn-none_on (ask.GetDocument depth pierce) other = absurd other
+others-turn-none_on (ask.RequestChildNodes node depth pierce) other = refl
+others-turn-none_on (ask.PushByPath path) other = refl
+others-turn-none_on (ask.PushBySerials serials) other = refl
+others-turn-none_on (ask.QuerySelector node selector) other = refl
+others-turn-none_on (ask.QuerySelectorAll node selector) other = refl
+others-turn-none_on (ask.GetAttributes node) other = refl
+others-turn-none_on (ask.DescribeNode id serial depth pierce) other = refl
+
+-- the results of a method are neither a document nor the text of a sheet
+abbrev pub TellsNoView : List ℕ → Type 0
+TellsNoView method = ((b : Branch Told) → answers method (body.Root b) ≡ false)
+    × ((said : List ℕ) → answers method (body.SheetText said) ≡ false)
+
+pub others-tell-no_view : (a : DomAsk) → IsOther a → TellsNoView (method_name (AskDom a))
+others-tell-no_view (ask.GetDocument depth pierce) other = absurd other
+others-tell-no_view (ask.RequestChildNodes node depth pierce) other = (λ b. refl, λ said. refl)
+others-tell-no_view (ask.PushByPath path) other = (λ b. refl, λ said. refl)
+others-tell-no_view (ask.PushBySerials serials) other = (λ b. refl, λ said. refl)
+others-tell-no_view (ask.QuerySelector node selector) other = (λ b. refl, λ said. refl)
+others-tell-no_view (ask.QuerySelectorAll node selector) other = (λ b. refl, λ said. refl)
+others-tell-no_view (ask.GetAttributes node) other = (λ b. refl, λ said. refl)
+others-tell-no_view (ask.DescribeNode id serial depth pierce) other = (λ b. refl, λ said. refl)
+
+-- a method is none of the two that end what is told
+abbrev pub EndsNothing : List ℕ → Type 0
+EndsNothing method = (bytes_eq method (codes "DOM.disable") ≡ false) × (bytes_eq method (codes "CSS.disable") ≡ false)
+
+pub asks-end-nothing : (a : DomAsk) → EndsNothing (method_name (AskDom a))
+asks-end-nothing (ask.GetDocument depth pierce) = (refl, refl)
+asks-end-nothing (ask.RequestChildNodes node depth pierce) = (refl, refl)
+asks-end-nothing (ask.PushByPath path) = (refl, refl)
+asks-end-nothing (ask.PushBySerials serials) = (refl, refl)
+asks-end-nothing (ask.QuerySelector node selector) = (refl, refl)
+asks-end-nothing (ask.QuerySelectorAll node selector) = (refl, refl)
+asks-end-nothing (ask.GetAttributes node) = (refl, refl)
+asks-end-nothing (ask.DescribeNode id serial depth pierce) = (refl, refl)

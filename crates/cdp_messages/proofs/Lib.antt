@@ -13,5 +13,5 @@ pub mod TextsUtf8
 pub mod ZeroFree
 pub mod MessageTokens
 mod RootScans
-pub mod MethodRows
+mod ParameterKinds
 mod MatchedScans

@@ -3,3 +3,4 @@ pub mod InsertedLemmas
 pub mod ToldChanges
 pub mod ToldSheets
 pub mod MoveTexts
+pub mod EffectLemmas

@@ -29,17 +29,7 @@ impl Effect {
             ReplyBody::Nothing => effect_of_method(method),
             ReplyBody::Root(document) => Effect::Document(document),
             ReplyBody::SheetText(text) => Effect::SheetText(text),
-            ReplyBody::Node(_)
-            | ReplyBody::NodeId(_)
-            | ReplyBody::NodeIds(_)
-            | ReplyBody::Attributes(_)
-            | ReplyBody::Search { .. }
-            | ReplyBody::ClassNames(_)
-            | ReplyBody::Styles(_)
-            | ReplyBody::Selectors(_)
-            | ReplyBody::Rule(_)
-            | ReplyBody::Media(_)
-            | ReplyBody::Matched(_) => Effect::NothingElse,
+            _ => Effect::NothingElse,
         }
     }
 }

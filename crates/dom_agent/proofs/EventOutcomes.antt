@@ -37,7 +37,8 @@ use Rattle.dom_agent.specs.Events.{PushesOne, PushesAll, PathTells, SerialsTell,
 use Rattle.dom_agent.proofs.OpeningsLemmas.{request-are}
 use Rattle.dom_agent.proofs.NewlyLemmas.{closed-in_view}
 use Rattle.dom_agent.proofs.ShowsLemmas.{requested-at}
-use Rattle.dom_agent.proofs.OutcomeLemmas.{IsOther, either_ask, document-left, containers-page, known-found, root-opened}
+use Rattle.dom_agent.proofs.OutcomeLemmas.{document-left, containers-page, known-found, root-opened}
+use Rattle.cdp_messages.proofs.Commands.{IsOther, either_ask}
 use Rattle.dom_agent.proofs.EventLemmas.{shows-none, shows-on, shows-new, are-told, nodes_of, ToldAll, told-openings, shows-start}
 use Rattle.dom_agent.proofs.EventOrder.{requested-among, requested-shut}
 use Rattle.dom_agent.proofs.EventPushes.{ToldPushes, told-pushed, told-all_pushed, ids-all_pushed, pushes-told}

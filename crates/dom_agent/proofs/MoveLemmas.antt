@@ -13,32 +13,25 @@ use Rattle.node_binding.proofs.DealLemmas.{root-low, spent-capped}
 use Rattle.node_binding.proofs.StartLemmas.{distinct-alone, root_holds}
 use Rattle.node_binding.proofs.SessionLemmas.{IsSession-document_opened}
 use Rattle.cdp_messages.specs.declared.dom_ask.DomAsk.{DomAsk}
-use Rattle.cdp_messages.specs.declared.dom_ask.DomAsk.TheVariants.{GetDocument, RequestChildNodes, PushByPath, PushBySerials, QuerySelector}
-use Rattle.cdp_messages.specs.declared.dom_ask.DomAsk.TheVariants.{QuerySelectorAll, GetAttributes, DescribeNode}
+use Rattle.cdp_messages.specs.declared.dom_ask.DomAsk.TheVariants.{GetDocument}
 use Rattle.cdp_messages.specs.declared.down.ReplyBody.{ReplyBody}
-use Rattle.cdp_messages.specs.declared.down.ReplyBody.TheVariants.{Root, SheetText}
 use Rattle.cdp_messages.specs.DomAsks.{ask_name}
 use Rattle.cdp_messages.specs.Laws.{answers}
 use Rattle.cdp_messages.specs.Results.{Tale, no_result, document, sheet_text, new_styles, matched_styles, answer_alone, tale_of}
 use Rattle.cdp_messages.proofs.Results.{IsTaleOf, tale_is}
+use Rattle.cdp_messages.proofs.Commands.{TellsNoView, others-tell-no_view, either_ask}
 use Rattle.client_views.specs.Views.{ShownSheet, View}
 use Rattle.client_views.specs.Moves.{root, replied, failed, is_of_view, tells_view, IsPlainReply, CanBeTold, Course, ends, goes}
-use Rattle.dom_objects.specs.Told.{Told}
 use Rattle.dom_agent.specs.Requests.{Outcome, shows_root, served, refused, Progress, Showing, all_opened, opening_moves, state_after}
 use Rattle.dom_agent.specs.Requests.{moves_of}
 use Rattle.dom_agent.specs.Keepers.{session_keeper}
 use Rattle.dom_agent.specs.Laws.{session_outcome, CanTell, has_depth, session_view, IsReplyTo, StepsAreMoves, RepliesAnswer}
 use Rattle.dom_agent.proofs.StepLemmas.{Goes, CanSay, CanSpell, course-join, goes-few}
-use Rattle.dom_agent.proofs.OutcomeLemmas.{IsOther, either_ask, OutcomeGoes, asks-go, document-left, document-goes, document-few}
+use Rattle.dom_agent.proofs.OutcomeLemmas.{OutcomeGoes, asks-go, document-left, document-goes, document-few}
 use Rattle.dom_agent.proofs.TellableLemmas.{can_say}
 
--- the command's reply is no document, and no text of a sheet
-abbrev TellsNoView : DomAsk → Type 0
-TellsNoView c = ((b : Branch Told) → answers (ask_name c) (Root b) ≡ false)
-    × ((text : List ℕ) → answers (ask_name c) (SheetText text) ≡ false)
-
 -- a reply that is neither
-is_no_view : (c : DomAsk) (body : ReplyBody) → TellsNoView c → answers (ask_name c) body ≡ true → tells_view body ≡ false
+is_no_view : (c : DomAsk) (body : ReplyBody) → TellsNoView (ask_name c) → answers (ask_name c) body ≡ true → tells_view body ≡ false
 is_no_view c body other is = at (tale_of body) (tale_is body) where
   at : (t : Tale) → IsTaleOf body t → is_of_view t ≡ false
   at no_result e = refl
@@ -48,7 +41,7 @@ is_no_view c body other is = at (tale_of body) (tale_is body) where
   at (matched_styles matched) e = refl
   at answer_alone e = refl
 
-plain : (c : DomAsk) (id : ℕ) (body : ReplyBody) → TellsNoView c → is_counted id ≡ true → CanSpell body → answers (ask_name c) body ≡ true
+plain : (c : DomAsk) (id : ℕ) (body : ReplyBody) → TellsNoView (ask_name c) → is_counted id ≡ true → CanSpell body → answers (ask_name c) body ≡ true
     → IsPlainReply id body
 plain c id body other small spells is = record {
   id_fits = small;
@@ -65,7 +58,7 @@ replied_course id body v is told = goes (replied id body) [] v v v told (refl, i
 module _ (page : PageValue) (c : DomAsk) (w : Session) (id : ℕ) (sheets : List ShownSheet) (session : IsSession (alone page.tree) w)
     (can : CanTell page w) (small : is_counted id ≡ true)
     (say : CanSay (alone page.tree) (length w.pushed + node_count (alone page.tree)) sheets) where
-  moved : (out : Outcome Session) → TellsNoView c → OutcomeGoes page c w out
+  moved : (out : Outcome Session) → TellsNoView (ask_name c) → OutcomeGoes page c w out
       → Course (moves_of id out) (session_view w page sheets) (session_view (state_after w out) page sheets)
   moved (shows_root b p) other g = absurd g
   moved (served p body) other g =
@@ -87,16 +80,6 @@ module _ (page : PageValue) (c : DomAsk) (w : Session) (id : ℕ) (sheets : List
       goes (root id b) (opening_moves xs) (session_view w page sheets) (session_view z page sheets) (session_view y page sheets)
       (say w session (omega arith)) (is, small, low) (g.course _ sheets say few)
 
-tells_no_view : (c : DomAsk) → IsOther c → TellsNoView c
-tells_no_view (GetDocument depth pierce) other = absurd other
-tells_no_view (RequestChildNodes id depth pierce) other = (λ b. refl, λ text. refl)
-tells_no_view (PushByPath path) other = (λ b. refl, λ text. refl)
-tells_no_view (PushBySerials serials) other = (λ b. refl, λ text. refl)
-tells_no_view (QuerySelector id text) other = (λ b. refl, λ text. refl)
-tells_no_view (QuerySelectorAll id text) other = (λ b. refl, λ text. refl)
-tells_no_view (GetAttributes id) other = (λ b. refl, λ text. refl)
-tells_no_view (DescribeNode id serial depth pierce) other = (λ b. refl, λ text. refl)
-
 pub steps_are_moves : StepsAreMoves
 steps_are_moves page whole ask w id sheets valid fits session can small can_sheets =
     let n : Nodes PageRow = alone page.tree in
@@ -114,7 +97,7 @@ steps_are_moves page whole ask w id sheets valid fits session can small can_shee
     (say z (IsSession-document_opened (capped most_told d) page.tree.row page.tree.children w (distinct-alone page valid)
     (root_holds page valid) (spent-capped more_told d ∙ left)) (omega (arith, g.longer, few))) refl
     (root-low more_told page d (session_ids z) valid) few))
-    (λ c other h. moved page c w id sheets session can small say (session_outcome page whole c w) (tells_no_view c other)
+    (λ c other h. moved page c w id sheets session can small say (session_outcome page whole c w) (others-tell-no_view c other)
     (asks-go page valid whole c other w session))
     ask fits
 

@@ -3,7 +3,6 @@ use Rattle.std.proofs.Common.{◌≡◌, ℕ, zero, suc, ℤ, pos, negsuc, ◌+�
 use Rattle.std.proofs.Common.{length, length-append, Option, Some, None, unwrap_or, Result, Ok, Err, refl, sym, ap, subst, ◌∙◌, arith}
 use Rattle.std.proofs.Common.{lt-ltb}
 use Rattle.std.proofs.lemmas.Bool.{and_parts, and_from}
-use Rattle.std.specs.Prelude.{⊤}
 use Rattle.node_tree.specs.Nodes.{Nodes, none, node, Branch, alone, node_count, map_rows, is_no_node}
 use Rattle.node_tree.specs.Levels.{most_told}
 use Rattle.node_tree.specs.Keys.{has, find}
@@ -27,6 +26,7 @@ use Rattle.cdp_messages.specs.declared.dom_ask.DomAsk.TheVariants.{QuerySelector
 use Rattle.cdp_messages.specs.declared.down.ReplyBody.{ReplyBody}
 use Rattle.cdp_messages.specs.declared.down.ReplyBody.TheVariants.{Nothing, NodeId, NodeIds, Attributes, Node as ReplyNode}
 use Rattle.cdp_messages.specs.DomAsks.{fits_ask, ask_name}
+use Rattle.cdp_messages.proofs.Commands.{IsOther, either_ask}
 use Rattle.cdp_messages.specs.Laws.{answers}
 use Rattle.cdp_messages.specs.Results.{BodyHasUtf8, body_height, fits_body}
 use Rattle.dom_agent.specs.Keepers.{Keeper, session_keeper}
@@ -52,31 +52,6 @@ document-left None pierce h = refl
 document-left (Some (pos zero)) pierce h = let bad : false ≡ true = h in cc
 document-left (Some (pos (suc d))) pierce h = refl
 document-left (Some (negsuc d)) pierce h = refl
-
--- ---- asks
-
--- an ask, but not for the document
-abbrev pub IsOther : DomAsk → Type 0
-IsOther (GetDocument depth pierce) = ⊥
-IsOther (RequestChildNodes id depth pierce) = ⊤
-IsOther (PushByPath path) = ⊤
-IsOther (PushBySerials serials) = ⊤
-IsOther (QuerySelector id text) = ⊤
-IsOther (QuerySelectorAll id text) = ⊤
-IsOther (GetAttributes id) = ⊤
-IsOther (DescribeNode id serial depth pierce) = ⊤
-
--- what holds of the ask for the document, and of all others
-pub either_ask : (P : DomAsk → Type 0) → ((depth : Option ℤ) (pierce : Option Bool) → P (GetDocument depth pierce))
-    → ((c : DomAsk) → IsOther c → P c) → (c : DomAsk) → P c
-either_ask P document others (GetDocument depth pierce) = document depth pierce
-either_ask P document others (RequestChildNodes id depth pierce) = others (RequestChildNodes id depth pierce) tt
-either_ask P document others (PushByPath path) = others (PushByPath path) tt
-either_ask P document others (PushBySerials serials) = others (PushBySerials serials) tt
-either_ask P document others (QuerySelector id text) = others (QuerySelector id text) tt
-either_ask P document others (QuerySelectorAll id text) = others (QuerySelectorAll id text) tt
-either_ask P document others (GetAttributes id) = others (GetAttributes id) tt
-either_ask P document others (DescribeNode id serial depth pierce) = others (DescribeNode id serial depth pierce) tt
 
 -- ---- pages
 

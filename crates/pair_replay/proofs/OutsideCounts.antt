@@ -29,9 +29,8 @@ use Rattle.back_end.specs.Outside.{served_outward, asked_outward, outside_all, o
 use Rattle.back_end.proofs.OwnTexts.{AskedTexts}
 use Rattle.back_end.proofs.GroupCounts.{trees_in, FewEdits, few-taken}
 use Rattle.back_end.proofs.WellSteps.{Well, HasNumbers}
-use Rattle.back_end.proofs.TreeSteps.{AsksFor, lowered-texts, lowered-asks, named-is, node-edit-planned}
+use Rattle.back_end.proofs.TreeSteps.{AsksFor, lowered-texts, lowered-asks, named-is, node-edit-planned, asks-for}
 use Rattle.back_end.proofs.StepLemmas.{Planned, with-page-is, turn-steps-well}
-use Rattle.back_end.proofs.FrameLemmas.{asks-for}
 use Rattle.back_end.proofs.OutsideSteps.{CanMake, IsDone, outside-well, trees-few, no-trees-among, asked-done}
 use Rattle.inspect_world.proofs.TurnLemmas.{TurnKeeps, turn-keeps}
 use Rattle.back_end.specs.Guests.{drawn_by_outside}

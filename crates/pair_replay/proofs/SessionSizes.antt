@@ -14,7 +14,9 @@ use Rattle.cdp_messages.specs.Asked.{json_of, command_of, method_in, command_in,
 use Rattle.cdp_messages.specs.SessionFrames.{session_name, without, without_session, session_asked}
 use Rattle.back_end.specs.Laws.{edits_asked}
 use Rattle.back_end.proofs.FrameSizes.{data_size, members_size, read-long}
-use Rattle.back_end.proofs.EditSizes.{edits_of, two-members, names-apart, then-is, field-is, method-in, with-id, utf8-read}
+use Rattle.back_end.proofs.EditSizes.{names-apart, method-in, with-id, utf8-read}
+use Rattle.back_end.proofs.CommandRows.{edits_of}
+use Rattle.back_end.proofs.MemberSizes.{two-members, then-is, field-is}
 use Rattle.back_end.proofs.EditSizes.{params_size, params-within, edits-params, frame-long, edits-few}
 use Rattle.inspect_world.specs.Links.{commands_in}
 

@@ -6,8 +6,7 @@ use Rattle.cdp_messages.specs.Asked.{fits_command}
 use Rattle.cdp_messages.specs.declared.command.Command.{Command}
 use Rattle.cdp_messages.specs.declared.command.Command.TheVariants as commands
 use Rattle.cdp_messages.specs.Methods.{needs_dom, needs_both}
-use Rattle.cdp_messages.proofs.MethodRows.{edits-need-dom, styles-need-both, style_edits-need-both}
-use Rattle.back_end.proofs.SearchSeats.{searches-need-dom}
+use Rattle.cdp_messages.proofs.Commands.{edits-need-dom, styles-need-both, style_edits-need-both, searches-need-dom}
 use Rattle.back_end.proofs.DomainLemmas.{met-on, met-css, met-ask}
 use Rattle.back_end.proofs.KeepSeats.{enables-alone, css-enables-alone, css-disables-alone, styles-alone, watches-alone, unwatches-alone}
 use Rattle.back_end.proofs.KeepSeats.{searches-alone, agent-alone, plain-both, part-both, part-sent}
@@ -76,7 +75,7 @@ returns-in-AskCss-clause-sent c = λ state both.
 pub answer_search-requires-clause-on : goal.answer_search-requires-clause-on
 answer_search-requires-clause-on c =
     met-on c.args.self.now.is_on c.args.self.now.css (commands.AskSearch c.in-AskSearch.ask)
-    c.args.command c.in-AskSearch.is (searches-need-dom c.in-AskSearch.ask) c.requires.met
+    c.args.command c.in-AskSearch.is (ap needs_dom (searches-need-dom c.in-AskSearch.ask)) c.requires.met
 
 pub answer_search-requires-clause-standing : goal.answer_search-requires-clause-standing
 answer_search-requires-clause-standing c = ∥∥₁_map c.requires.standing (λ p. (p.0, p.1.stands))
