@@ -14,7 +14,6 @@ use Rattle.cdp_messages.specs.declared.command.Why.{Why}
 use Rattle.cdp_messages.specs.declared.command.Asked.{Asked}
 use Rattle.cdp_messages.specs.declared.command.Refused.{Refused}
 use Rattle.cdp_messages.specs.declared.method.Method.{Method}
-use Rattle.cdp_messages.specs.declared.method.Method.TheVariants as method
 use Rattle.cdp_messages.specs.Methods.{known_method}
 use Rattle.cdp_messages.specs.Asked.{json_of, of_method, command_for, unless_session, or_bad_request, params_of, command_of, method_in}
 use Rattle.cdp_messages.specs.Asked.{command_in, asked_by, with_id, asked_in, asked_value, asked}

@@ -79,7 +79,8 @@ first-few x None xs n few is = absurd cc
 first-few x (Some ys) xs n few is = let same : x ∷ ys ≡ xs = cc in let h = few ys refl in let e : suc (length ys)
     ≡ length xs = ap length same in omega arith
 
-pub items-few : {T : Type 0} (reads : Data → Option T) (ds : Items) (xs : List T) → read_items reads ds ≡ Some xs → length xs ≤ items_size ds
+pub items-few : {T : Type 0} (reads : Data → Option T) (ds : Items) (xs : List T) → read_items reads ds ≡ Some xs
+    → length xs ≤ items_size ds
 items-few {T} reads no_items xs is = let same : ◌≡◌ {A = List T} [] xs = cc in let e : 0 ≡ length xs = ap length same in omega arith
 items-few reads (item d ds) xs is =
     let p = and_then_some (λ x. and_first x (read_items reads ds)) (reads d) xs is in

@@ -515,7 +515,7 @@ asks-without-css (ask.PushBySerials serials) = refl
 asks-without-css (ask.QuerySelector node selector) = refl
 asks-without-css (ask.QuerySelectorAll node selector) = refl
 asks-without-css (ask.GetAttributes node) = refl
-asks-without-css (ask.DescribeNode node serial depth pierce) = refl
+asks-without-css (ask.DescribeNode id serial depth pierce) = refl
 
 pub edits-need-dom : (e : DomEdit) → domains_of (dom_edit_form e).method ≡ Dom
 edits-need-dom (tree.SetAttributeValue node name value) = refl
@@ -533,7 +533,7 @@ styles-need-both (css.CollectClassNames sheet) = refl
 pub style_edits-need-both : (e : CssEdit) → domains_of (css_edit_form e).method ≡ DomAndCss
 style_edits-need-both (style.SetStyleTexts edits) = refl
 style_edits-need-both (style.SetRuleSelector sheet range selector) = refl
-style_edits-need-both (style.SetStyleSheetText sheet text) = refl
+style_edits-need-both (style.SetStyleSheetText sheet said) = refl
 style_edits-need-both (style.AddRule sheet rule_text location) = refl
 style_edits-need-both (style.SetMediaText sheet range text) = refl
 

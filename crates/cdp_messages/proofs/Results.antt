@@ -349,4 +349,3 @@ body_utf8 (Selectors selectors) f u = new_selectors_sound.utf8 selectors f u
 body_utf8 (Rule rule) f u = new_rule_sound.utf8 rule f u
 body_utf8 (Media media) f u = new_media_sound.utf8 media f u
 body_utf8 (Matched matched) f u = matched_sound.utf8 matched f u
-

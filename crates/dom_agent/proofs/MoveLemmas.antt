@@ -41,8 +41,8 @@ is_no_view c body other is = at (tale_of body) (tale_is body) where
   at (matched_styles matched) e = refl
   at answer_alone e = refl
 
-plain : (c : DomAsk) (id : ℕ) (body : ReplyBody) → TellsNoView (ask_name c) → is_counted id ≡ true → CanSpell body → answers (ask_name c) body ≡ true
-    → IsPlainReply id body
+plain : (c : DomAsk) (id : ℕ) (body : ReplyBody) → TellsNoView (ask_name c) → is_counted id ≡ true → CanSpell body
+    → answers (ask_name c) body ≡ true → IsPlainReply id body
 plain c id body other small spells is = record {
   id_fits = small;
   plain = is_no_view c body other is;

@@ -31,7 +31,8 @@ use Rattle.inspect_world.specs.Fits.{kept_styles}
 
 -- ---- moves that tell none
 
-no-matched : (method : List ℕ) (id : ℕ) (found : ReplyBody) → TellsNoStyles method → answers method found ≡ true → matched_told id found ≡ []
+no-matched : (method : List ℕ) (id : ℕ) (found : ReplyBody) → TellsNoStyles method → answers method found ≡ true
+    → matched_told id found ≡ []
 no-matched method id found never is = at (tale_of found) (tale_is found) where
   at : (t : Tale) → IsTaleOf found t → matched_by id t ≡ []
   at no_result e = refl
