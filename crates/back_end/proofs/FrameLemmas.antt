@@ -40,7 +40,6 @@ use Rattle.dom_agent.proofs.RepliedLemmas.{description-keeps}
 use Rattle.dom_agent.proofs.OutcomeLemmas.{OutcomeGoes, root-opened, asks-go, depth-fits, stays_session, draws_few}
 use Rattle.dom_agent.proofs.MoveLemmas.{steps_are_moves, replies_answer}
 use Rattle.dom_breakpoints.specs.Watched.{Watched, with_watch, without_watch}
-use Rattle.cdp_messages.specs.declared.dom_edit.DomEdit.TheVariants as tree
 use Rattle.cdp_messages.specs.declared.method.Domains.{Domains}
 use Rattle.cdp_messages.specs.Methods.{needs_dom, needs_both, turns_dom_on}
 use Rattle.cdp_messages.proofs.Commands.{styles-need-both, either_ask, ask_by_need}

@@ -1,5 +1,5 @@
 -- The text of a message is UTF-8 where the texts of its nodes are.
-use Rattle.std.proofs.Common.{◌≡◌, ◌-◌, true, false, ◌&&◌, refl}
+use Rattle.std.proofs.Common.{◌≡◌, true, false, ◌&&◌, refl}
 use Rattle.std.specs.Prelude.{codes, IsUtf8}
 use Rattle.json.proofs.Printed.Utf8.{IsUtf8-are_ascii}
 use Rattle.cdp_json.specs.Plain.{HasUtf8}
