@@ -1,5 +1,5 @@
 // Replies with matched styles, written and read token by token. A text in any other form is left to `serde_json`.
-ghost use Rattle.std.specs.Prelude.{◌≡◌, ◌++◌, Some, true, IfOk, OnOk, OnErr, IsUtf8};
+ghost use Rattle.std.specs.Prelude.{◌≡◌, ◌++◌, [], Some, true, IfOk, OnOk, OnErr, IsUtf8};
 ghost use Rattle.serde_json.specs.Written.{compact_text};
 ghost use Rattle.pipe_frames.specs.Frames.{framed};
 ghost use Rattle.cdp_json.specs.Kinds.{is_counted};
@@ -9,7 +9,6 @@ ghost use Rattle.cdp_messages.specs.declared.down.ReplyBody.TheVariants.{Matched
 ghost use Rattle.cdp_messages.specs.Replies.{reply, message_data, down_of};
 ghost use Rattle.cdp_messages.specs.Results.{body_data};
 
-use crate::root_scan::take_end;
 use cdp_json::{
     ScanErr, take_begin_object, take_counted_field, take_end_object, take_key, write_whole_field,
 };
@@ -51,6 +50,16 @@ pub(crate) fn append_matched(
     let (mut writer, start) = begin_frame(alloc, out);
     let written = write_matched_reply(alloc, &mut writer, id, matched);
     end_frame(writer, start, written, out)
+}
+
+// That nothing is left.
+fn take_end(reader: &mut Reader<'_>) -> Result<(), ScanErr>
+    ensures { OnOk result (reader.old ≡ []) }
+{
+    match reader.next() {
+        None => Ok(()),
+        Some(_) => Err(ScanErr::OtherForm),
+    }
 }
 
 // A reply with matched styles, and nothing behind it.

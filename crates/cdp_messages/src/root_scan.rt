@@ -9,27 +9,31 @@ ghost use Rattle.cdp_messages.specs.Replies.{reply, message_data, down_of};
 ghost use Rattle.cdp_messages.specs.Results.{body_data};
 ghost use Rattle.dom_objects.specs.Tokens.{data_tokens};
 
-use cdp_json::{ScanErr, take_begin_object, take_end_object, take_key};
-use dom_objects::{DownErr, NodeTree, is_counted, scan_node, take_whole_field};
-use json::{Reader, Scratch};
+use cdp_json::ScanErr;
+use dom_objects::{
+    DownErr, NodeTree, is_counted, scan_node, take_begin_object, take_end_object, take_key,
+    take_whole_field,
+};
 use node_tree::MOST_TOLD;
+use short_json::UsualReader;
 use std::alloc::Global;
 
 // The most levels that a document's message tells.
 const LEVELS: u64 = MOST_TOLD + 1;
 
 // That nothing is left.
-pub(crate) fn take_end(reader: &mut Reader<'_>) -> Result<(), ScanErr>
+fn take_end(reader: &mut UsualReader<'_>) -> Result<(), ScanErr>
     ensures { OnOk result (reader.old ≡ []) }
 {
-    match reader.next() {
-        None => Ok(()),
-        Some(_) => Err(ScanErr::OtherForm),
+    if reader.is_over() {
+        Ok(())
+    } else {
+        Err(ScanErr::OtherForm)
     }
 }
 
 // A reply with a document, and nothing behind it.
-fn scan_reply(alloc: Global, reader: &mut Reader<'_>) -> Result<(u64, NodeTree), ScanErr>
+fn scan_reply(alloc: Global, reader: &mut UsualReader<'_>) -> Result<(u64, NodeTree), ScanErr>
     ensures read { IfOk result (λ p. reader.old ≡ data_tokens (message_data (reply p.0 (body_data (Root p.1))))) }
     ensures counted { IfOk result (λ p. is_counted p.0 ≡ true) }
     ensures fits { IfOk result (λ p. fits_tree true p.1 ≡ true) }
@@ -57,8 +61,7 @@ pub fn read_root(alloc: Global, text: &str) -> Result<(u64, NodeTree), DownErr>
     ensures told { IfOk result (λ p. down_of text.now ≡ Some (reply p.0 (body_data (Root p.1)))) }
     ensures fits { IfOk result (λ p. fits_tree true p.1 ≡ true) }
 {
-    let mut scratch = Scratch::new(alloc);
-    let mut reader = Reader::new(text, &mut scratch)?;
+    let mut reader = UsualReader::new(text);
     match scan_reply(alloc, &mut reader) {
         Ok(found) => Ok(found),
         Err(ScanErr::OtherForm) => Err(DownErr::NotMessage),

@@ -10,4 +10,5 @@ pub mod ScannedTokens
 pub mod TellableLaws
 pub mod TokenLists
 mod TreesRead
+mod UpperCase
 mod Written

@@ -1,22 +1,23 @@
 -- Tokens that are read one after the other.
 use Rattle.std.proofs.Common.{◌≡◌, ℕ, ◌<◌, List, [], ◌∷◌, ◌++◌, length, Bool, Option, Some, None, option_map, decimal}
-use Rattle.std.proofs.Common.{append_assoc, sym, ap, ap₂, ◌∙◌, arith}
+use Rattle.std.proofs.Common.{append_assoc, sym, ap, ◌∙◌, arith}
 use Rattle.std.specs.Prelude.{codes}
 use Rattle.json.specs.Json.{after_end_array}
-use Rattle.json.specs.Token.{Token, begin_object, begin_array, key, string, number}
+use Rattle.json.specs.Token.{Token, begin_object, end_object, begin_array, key, string, number}
 use Rattle.serde_json.specs.Data.{Data, array, Items}
-use Rattle.cdp_json.specs.Kinds.{whole}
+use Rattle.cdp_json.specs.Kinds.{whole, text}
 use Rattle.cdp_json.proofs.TakenTokens.{items_step, items_over, shorter}
 pub use Rattle.cdp_json.proofs.TakenTokens.{IsRead, none_yet}
 use Rattle.node_tree.specs.Labels.{Pair}
 use Rattle.node_tree.specs.Nodes.{Branch, nodes_of}
 use Rattle.dom_objects.specs.declared.node_read.NodeParts.{NodeParts}
 use Rattle.dom_objects.specs.declared.node_read.Behind.{Behind}
+use Rattle.dom_objects.specs.declared.node_read.Names.{Names}
 use Rattle.dom_objects.specs.Told.{Told}
 use Rattle.dom_objects.specs.NodeObject.{NodeObject, attribute_list, node_fields}
 use Rattle.dom_objects.specs.NodeData.{tree_items, tree_data}
 use Rattle.dom_objects.specs.Tokens.{data_tokens, field_tokens}
-use Rattle.dom_objects.specs.Raw.{object_over, object_behind, behind_tokens, next_name}
+use Rattle.dom_objects.specs.Raw.{object_over, object_behind, names_tokens, behind_tokens, next_name}
 use Rattle.dom_objects.proofs.TokenLists.{object_tokens, pair_tokens, branch_tokens, pairs_tokens, branches_tokens}
 
 -- ---- the items of an array
@@ -55,10 +56,31 @@ branch_shorter left new b e = shorter begin_object _ left new e
 -- ---- a node's object
 
 -- the attributes, and the name behind them
-pub attributes_read : (ps : List Pair) (name : List ℕ) {old r1 r2 new : List Token} → name ≡ codes "attributes" → old ≡ key name ∷ r1
+pub attributes_read : (ps : List Pair) {old r1 r2 new : List Token} → old ≡ key (codes "attributes") ∷ r1
     → r1 ≡ data_tokens (attribute_list.spell ps) ++ r2 → r2 ≡ key (codes "backendNodeId") ∷ new
     → old ≡ field_tokens (codes "attributes") (Some (attribute_list.spell ps)) ++ (key (codes "backendNodeId") ∷ new)
-attributes_read ps name is e0 e1 e2 = e0 ∙ ap₂ (λ n r. key n ∷ r) is (e1 ∙ ap (λ r. data_tokens (attribute_list.spell ps) ++ r) e2)
+attributes_read ps e0 e1 e2 = e0 ∙ ap (λ r. key (codes "attributes") ∷ r) (e1 ∙ ap (λ r. data_tokens (attribute_list.spell ps) ++ r) e2)
+
+-- three parts, one behind the other
+in_parts : (a b c new : List Token) {old r1 r2 : List Token} → old ≡ a ++ r1 → r1 ≡ b ++ r2 → r2 ≡ c ++ new
+    → old ≡ (a ++ (b ++ c)) ++ new
+in_parts a b c new e0 e1 e2 = rw (e0, e1, e2) (simp append_assoc)
+
+-- the last fields by each of the calls that read them
+pub behind_read : (n : Names) (value shown : List ℕ) (parent : Option ℕ) (b : Behind) (new : List Token) {old r1 r2 : List Token}
+    → shown ≡ value
+    → behind_tokens b ≡ names_tokens n ++ (field_tokens (codes "nodeValue") (Some (text.spell shown))
+    ++ (field_tokens (codes "parentId") (option_map whole.spell parent) ++ end_object ∷ []))
+    → key (codes "localName") ∷ old ≡ names_tokens n ++ r1
+    → r1 ≡ field_tokens (codes "nodeValue") (Some (text.spell value)) ++ r2
+    → r2 ≡ field_tokens (codes "parentId") (option_map whole.spell parent) ++ (end_object ∷ new)
+    → key (codes "localName") ∷ old ≡ behind_tokens b ++ new
+behind_read n value shown parent b new is all e0 e1 e2 =
+    let last : List Token = field_tokens (codes "parentId") (option_map whole.spell parent) ++ end_object ∷ [] in
+    in_parts (names_tokens n) (field_tokens (codes "nodeValue") (Some (text.spell value))) last new e0 e1
+    (e2 ∙ sym (append_assoc (field_tokens (codes "parentId") (option_map whole.spell parent)) (end_object ∷ []) new))
+    ∙ ap (λ ts. ts ++ new) (ap (λ v. names_tokens n ++ (field_tokens (codes "nodeValue") (Some (text.spell v)) ++ last)) (sym is)
+    ∙ sym all)
 
 abbrev with_children : NodeObject → Option Items → NodeObject
 with_children o k = record o { children = k }

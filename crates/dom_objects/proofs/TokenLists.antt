@@ -1,5 +1,5 @@
 -- Nodes that are written, as tokens one after the other.
-use Rattle.std.proofs.Common.{◌≡◌, ℕ, ◌≤◌, List, [], ◌∷◌, ◌++◌, length, take, map, Option, Some, None, Result, Ok, Err}
+use Rattle.std.proofs.Common.{◌≡◌, ℕ, ◌≤◌, List, [], ◌∷◌, ◌++◌, length, take, map, Option, Some, Result, Ok, Err}
 use Rattle.std.proofs.Common.{Vec, Global, OnOk, IsOk, IsUtf8, append_assoc, refl, sym, ap, ap₂, ◌∙◌, subst}
 use Rattle.std.specs.Prelude.{codes, nat_lt, flat_map, option_map}
 use Rattle.json.specs.Token.{Token, begin_object, end_object, begin_array, end_array, key, string}

@@ -10,6 +10,7 @@ use Rattle.node_tree.specs.Nodes.{Branch, nodes_of}
 use Rattle.dom_objects.specs.declared.node_read.NodeParts.{NodeParts}
 use Rattle.dom_objects.specs.declared.node_read.RawNode.{RawNode}
 use Rattle.dom_objects.specs.declared.node_read.Behind.{Behind}
+use Rattle.dom_objects.specs.declared.node_read.Names.{Names}
 use Rattle.dom_objects.specs.Told.{Told, hold_of, shown_children}
 use Rattle.dom_objects.specs.NodeObject.{NodeObject, LastFields, node_type, label_in}
 use Rattle.dom_objects.specs.NodeData.{tree_items}
@@ -65,6 +66,14 @@ object_behind attributes serial count b = record {
 -- the last fields of a node as pairs
 abbrev pub last_fields : Behind → LastFields
 last_fields b = (b.local_name.now, (b.id, (b.name.now, (b.kind, (b.value.now, (b.parent, tt))))))
+
+-- the tokens of the fields from `localName` to `nodeType`
+abbrev pub names_tokens : Names → List Token
+names_tokens n =
+    field_tokens (codes "localName") (Some (text.spell n.local_name.now))
+    ++ (field_tokens (codes "nodeId") (Some (whole.spell n.id))
+    ++ (field_tokens (codes "nodeName") (Some (text.spell n.name.now))
+    ++ field_tokens (codes "nodeType") (Some (node_type.spell n.kind))))
 
 -- the tokens of these last fields, and the end of the object
 abbrev pub behind_tokens : Behind → List Token

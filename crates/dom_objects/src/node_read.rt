@@ -1,5 +1,5 @@
 // A tree of nodes out of a JSON value.
-ghost use Rattle.std.specs.Prelude.{◌≡◌, [], codes, option_map, unwrap_or, bytes_eq, IfOk};
+ghost use Rattle.std.specs.Prelude.{◌≡◌, [], codes, option_map, unwrap_or, IfOk};
 ghost use Rattle.serde_json.specs.Events.{items_len};
 ghost use Rattle.serde_json.specs.Data.{array};
 ghost use Rattle.serde_json.specs.View.{view, items_view};
@@ -8,12 +8,12 @@ ghost use Rattle.cdp_json.specs.Rows.{left_with, need, may};
 ghost use Rattle.node_tree.specs.Nodes.{nodes_of};
 ghost use Rattle.dom_objects.specs.Answers.{GivesMessage};
 ghost use Rattle.dom_objects.specs.NodeData.{tree_told, trees_of};
-ghost use Rattle.dom_objects.specs.NodeObject.{attribute_list, kind_of_type, node_type, node_name, node_fields, last_row, later_row};
+ghost use Rattle.dom_objects.specs.NodeObject.{attribute_list, kind_of_type, node_type, node_fields, last_row, later_row};
 ghost use Rattle.dom_objects.specs.Raw.{last_fields};
 
 use crate::down_err::DownErr;
 use crate::node_rules::{Manner, fits_hold, is_formed_label, is_named_label};
-use crate::node_write::{local_name, node_name};
+use crate::node_write::{local_name, shows_name};
 use crate::tree::NodeTree;
 use cdp_json::{Cursor, text_of};
 use node_tree::{Attributes, Kind, Text};
@@ -43,6 +43,15 @@ pub(crate) struct Behind<'a> {
     pub(crate) kind: Kind,
     pub(crate) value: &'a str,
     pub(crate) parent: Option<u64>,
+}
+
+// What stands in a node's object from `localName` to `nodeType`.
+#[derive(Clone, Copy)]
+pub(crate) struct Names<'a> {
+    pub(crate) local_name: &'a str,
+    pub(crate) id: u64,
+    pub(crate) name: &'a str,
+    pub(crate) kind: Kind,
 }
 
 // The fields of a node's object.
@@ -201,28 +210,19 @@ impl<'a> NodeParts<'a> {
         }
     }
 
-    // Whether the name that is shown is that of the node.
-    fn shows_name(&self, alloc: Global) -> Result<bool, AllocError>
-        ensures { IfOk result (λ b. b
-            ≡ bytes_eq self.now.name.now (node_name (label_in (object_over self.now None)))) }
-    {
-        let shown = node_name(alloc, self.kind, self.label_name())?;
-        Ok(self.name == shown.as_str())
-    }
-
     // Whether the fields say the same as the row that they tell.
-    fn agrees(&self, alloc: Global) -> Result<bool, AllocError>
-        ensures { IfOk result (λ b. b ≡ agrees (object_over self.now None)) }
+    fn agrees(&self) -> bool
+        ensures { result ≡ agrees (object_over self.now None) }
     {
         let same_parts = self.attributes.is_some() == self.kind.is_element()
             && self.count.is_some() == self.kind.is_container();
         let same_local_name = self.local_name == local_name(self.kind, self.label_name());
-        let named = self.shows_name(alloc)?;
+        let named = shows_name(self.kind, self.label_name(), self.name);
         let parent = match self.parent {
             Some(parent) => parent > 0,
             None => true,
         };
-        Ok(same_parts && same_local_name && named && parent)
+        same_parts && same_local_name && named && parent
     }
 
     // Whether the node may stand here, at the top of a document or below it.
@@ -265,17 +265,11 @@ impl<'a> NodeParts<'a> {
     }
 
     // Whether the fields tell a node, with that many children shown.
-    pub(crate) fn tells(
-        &self,
-        alloc: Global,
-        manner: Manner,
-        top: bool,
-        shown: Option<u64>,
-    ) -> Result<bool, AllocError>
-        ensures { IfOk result (λ b. b ≡ (agrees (object_over self.now None)
-            && fits_told manner top (unwrap_or shown 0) (told_over self.now (is_some shown)))) }
+    pub(crate) fn tells(&self, manner: Manner, top: bool, shown: Option<u64>) -> bool
+        ensures { result ≡ (agrees (object_over self.now None)
+            && fits_told manner top (unwrap_or shown 0) (told_over self.now (is_some shown))) }
     {
-        Ok(self.agrees(alloc)? && self.fits_told(manner, top, shown))
+        self.agrees() && self.fits_told(manner, top, shown)
     }
 
     // The node with these children.
@@ -306,11 +300,10 @@ impl<'a> RawNode<'a> {
     ghost use Rattle.dom_objects.specs.NodeObject.{tells};
     ghost use Rattle.dom_objects.specs.Raw.{object_in, tree_over};
 
-    fn tells(&self, alloc: Global, manner: Manner, top: bool) -> Result<bool, AllocError>
-        ensures { IfOk result (λ b. b ≡ tells manner top (object_in self.now)) }
+    fn tells(&self, manner: Manner, top: bool) -> bool
+        ensures { result ≡ tells manner top (object_in self.now) }
     {
-        self.parts
-            .tells(alloc, manner, top, count_of(self.children))
+        self.parts.tells(manner, top, count_of(self.children))
     }
 
     // The node with these children.
@@ -344,8 +337,7 @@ pub fn tree_of(alloc: Global, value: &Value, manner: Manner, top: bool) -> Resul
         Ok(raw) => raw,
         Err(error) => return Err(error),
     };
-    let told = raw.tells(alloc, manner, top)?;
-    if !told {
+    if !raw.tells(manner, top) {
         return Err(DownErr::NotMessage);
     }
     match raw.children {

@@ -1,5 +1,5 @@
 // A node's object as the tokens of its text, with no JSON values in between.
-ghost use Rattle.std.specs.Prelude.{◌≡◌, ◌++◌, [], IfOk, OnOk, nat_lt, codes, option_map, string_bytes, Some};
+ghost use Rattle.std.specs.Prelude.{◌≡◌, ◌++◌, [], bytes_eq, OnOk, nat_lt, codes, option_map, string_bytes, Some};
 ghost use Rattle.std.specs.Str.{str_to_ascii_uppercase};
 ghost use Rattle.cdp_json.specs.Kinds.{whole, text};
 ghost use Rattle.node_tree.specs.Labels.{is_element, holds};
@@ -50,13 +50,36 @@ fn push_upper_case(held: &mut String, name: &str) -> Result<(), AllocError>
     Ok(())
 }
 
-// What is shown as the name of a node of that kind and name.
-pub(crate) fn node_name(alloc: Global, kind: Kind, name: &str) -> Result<String, AllocError>
-    ensures { IfOk result (λ text. string_bytes text ≡ name_shown kind name.now) }
+// Whether a text is a name in ASCII upper case.
+fn is_upper_case(text: &str, name: &str) -> bool
+    ensures { result ≡ bytes_eq text.now (str_to_ascii_uppercase name.now) }
 {
-    let mut shown = String::new(alloc);
-    put_name(&mut shown, kind, name)?;
-    Ok(shown)
+    let text = text.as_bytes();
+    let name = name.as_bytes();
+    if text.len() != name.len() {
+        return false;
+    }
+    let mut at = 0;
+    while at < text.len() {
+        if text[at] != name[at].to_ascii_uppercase() {
+            return false;
+        }
+        at += 1;
+    }
+    true
+}
+
+// Whether a text is what is shown as the name of a node of that kind and name.
+pub(crate) fn shows_name(kind: Kind, name: &str, text: &str) -> bool
+    ensures { result ≡ bytes_eq text.now (name_shown kind name.now) }
+{
+    match kind {
+        Kind::Document => text == "#document",
+        Kind::Element => is_upper_case(text, name),
+        Kind::Text => text == "#text",
+        Kind::Comment => text == "#comment",
+        Kind::Doctype => text == name,
+    }
 }
 
 // The local name of a node of that kind and name.

@@ -3,7 +3,7 @@ use Rattle.std.proofs.Common.{◌≡◌, ℕ, ◌⊎◌, inl, inr, true, false, 
 use Rattle.std.proofs.lemmas.Bool.{false≢true}
 use Rattle.json.specs.Token.{begin_object, end_object, begin_array, end_array, key, string, number}
 use Rattle.json.specs.Word.{ends_word}
-use Rattle.json.specs.Lex.{Place, token, between, lex, fresh, after_value, after_comma, after_key, may_begin, may_close, begins_colon}
+use Rattle.json.specs.Lex.{Place, token, colon, between, lex, fresh, after_value, after_comma, after_key, may_begin, may_close, begins_colon}
 use Rattle.json.specs.Lex.{place_token, punctuate}
 
 -- ---- single bytes
@@ -85,6 +85,14 @@ name_next after_value text mark rest s e m h = absurd (false≢true h)
 name_next after_comma text mark rest s e m h =
     ap (punctuate after_comma) e ∙ ap (λ t. punctuate after_comma (token (string s) ∷ lex between t)) m
 name_next after_key text mark rest s e m h = absurd (false≢true h)
+
+pub named_next : (p : Place) (text rest s : List ℕ) → lex between text ≡ token (string s) ∷ colon ∷ lex between rest → may_begin p ≡ true
+    → punctuate p (lex between text) ≡ key s ∷ punctuate fresh (lex between rest)
+unfolding punctuate
+named_next fresh text rest s e h = ap (punctuate fresh) e
+named_next after_value text rest s e h = absurd (false≢true h)
+named_next after_comma text rest s e h = ap (punctuate after_comma) e
+named_next after_key text rest s e h = absurd (false≢true h)
 
 pub text_next : (p : Place) (text rest s : List ℕ) → lex between text ≡ token (string s) ∷ lex between rest
     → begins_colon (lex between rest) ≡ false → may_begin p ≡ true

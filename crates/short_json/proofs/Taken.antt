@@ -1,16 +1,20 @@
 -- Lexemes at the front of a text.
-use Rattle.std.proofs.Common.{◌≡◌, ℕ, ◌+◌, ◌<◌, ◌^◌, suc, Bool, true, false, cond, ◌||◌, ◌==◌, List, [], ◌∷◌, ◌++◌, take, drop, Option}
+use Rattle.std.proofs.Common.{◌≡◌, ℕ, ◌+◌, ◌-◌, ◌*◌, ◌/◌, ◌%◌, ◌<◌, ◌≤◌, ◌^◌, ◌⊎◌, inl, inr, get_or, zero, suc, length, Bool, true, false, cond, ◌||◌, ◌==◌, List, [], ◌∷◌, ◌++◌, take, drop, Option}
 use Rattle.std.proofs.Common.{Some, None, append_assoc}
 use Rattle.std.proofs.Common.{decimal, refl, sym, ap, ◌∙◌, arith, append-nil}
-use Rattle.std.proofs.lemmas.Bool.{or_parts, not-true}
-use Rattle.std.proofs.lemmas.List.{take-append-drop}
-use Rattle.std.specs.List.{prefix_len}
+use Rattle.std.proofs.lemmas.Bool.{or_parts, not-true, and_parts, cases_lt}
+use Rattle.std.proofs.lemmas.List.{take-append-drop, take_more}
+use Rattle.std.proofs.lemmas.Fmt.{decimal_digit, decimal_step}
+use Rattle.std.proofs.Math.Seq.{take-append_seam, drop-append_seam}
+use Rattle.std.specs.List.{prefix_len, list_all}
 use Rattle.json.specs.Token.{string, number}
 use Rattle.json.specs.Text.{content, plain, after_backslash, prepend}
 use Rattle.json.specs.Word.{is_operator, is_space, ends_word}
-use Rattle.json.specs.Lex.{Lexeme, Mode, token, operator, space, other, between, in_string, lex_byte, lex, string_token}
+use Rattle.json.specs.Lex.{Lexeme, Mode, token, colon, operator, space, other, between, in_string, lex_byte, lex, string_token}
 use Rattle.json.specs.Run.{is_plain}
+use Rattle.json.specs.Print.{quoted, escape, print, print_from}
 use Rattle.json.proofs.Printed.Numbers.{lex-number}
+use Rattle.json.proofs.Printed.Strings.{content-escape, lex-escape}
 use Rattle.json.proofs.Printed.Decimals.{IsNumber-decimal}
 
 -- a byte of a string that is neither quote nor backslash
@@ -85,6 +89,83 @@ string_taken text inner s closing rest n e is front back ends =
     ∙ ap (λ j. Some (take j inner)) (sym is) ∙ ap Some (sym front) in
     ap (lex between) e ∙ opens inner
     ∙ (λ i. token (string_token (found i)) ∷ (string_run inner ∙ closes (drop k inner) rest behind) i)
+
+-- a text that begins with another
+pub front_found : (text front found rest : List ℕ) (n : ℕ) → found ≡ take n text → rest ≡ drop n text → found ≡ front → text ≡ front ++ rest
+front_found text front found rest n first later same =
+    sym (take-append-drop n text) ∙ (λ i. sym first i ++ sym later i) ∙ ap (λ f. f ++ rest) same
+
+-- a name that needs no escapes ends at its quote
+plain_front : (name mark : List ℕ) → list_all is_plain name ≡ true → length name ≡ prefix_len is_plain (name ++ 34 ∷ mark)
+plain_front [] mark all = refl
+plain_front (x ∷ xs) mark all =
+    let both = and_parts (is_plain x) _ all in
+    let next : suc (length xs) ≡ 1 + length xs = omega arith in
+    next ∙ (λ i. cond (sym both.0 i) (1 + plain_front xs mark both.1 i) 0)
+
+colon_next : (mark rest : List ℕ) → mark ≡ 58 ∷ rest → lex between mark ≡ colon ∷ lex between rest
+unfolding lex
+colon_next mark rest e = ap (lex between) e
+
+pub name_taken : (text inner name closing mark rest : List ℕ) → text ≡ 34 ∷ inner → inner ≡ name ++ closing → closing ≡ 34 ∷ mark
+    → mark ≡ 58 ∷ rest → list_all is_plain name ≡ true
+    → lex between text ≡ token (string name) ∷ colon ∷ lex between rest
+name_taken text inner name closing mark rest e whole quote behind all =
+    let n : length name ≡ prefix_len is_plain inner =
+    plain_front name mark all ∙ ap (λ c. prefix_len is_plain (name ++ c)) (sym quote) ∙ ap (prefix_len is_plain) (sym whole) in
+    let front : name ≡ take (length name) inner =
+    sym (take-append_seam name closing) ∙ ap (take (length name)) (sym whole) in
+    let back : closing ≡ drop (length name) inner =
+    sym (drop-append_seam name closing) ∙ ap (drop (length name)) (sym whole) in
+    string_taken text inner name closing mark (length name) e n front back quote
+    ∙ ap (λ ls. token (string name) ∷ ls) (colon_next mark rest behind)
+
+lex-quoted : (s rest : List ℕ) → lex between (quoted s ++ rest) ≡ token (string s) ∷ lex between rest
+unfolding lex
+lex-quoted s rest =
+    let e = append_assoc (escape s) (34 ∷ []) rest in
+    ap (λ l. lex between (34 ∷ l)) e
+    ∙ (λ i. token (string_token (content-escape s rest i)) ∷ lex-escape s rest i)
+
+-- what a writer gives for one string
+pub string_printed : (s : List ℕ) → print (string s ∷ []) ≡ quoted s
+unfolding print_from
+string_printed s = append-nil (quoted s)
+
+-- a string that stands there as it is written
+pub written_taken : (text front rest s : List ℕ) (n : ℕ) → front ≡ take n text → rest ≡ drop n text → front ≡ quoted s
+    → lex between text ≡ token (string s) ∷ lex between rest
+written_taken text front rest s n first later same =
+    let whole : text ≡ quoted s ++ rest = sym (take-append-drop n text) ∙ (λ i. sym first i ++ sym later i) ∙ ap (λ f. f ++ rest) same in
+    ap (lex between) whole ∙ lex-quoted s rest
+
+pub some_digits : (at n : ℕ) → ((0 < at) × (n ≡ 0 → ⊥)) ⊎ (at ≤ 0) → 0 < at → 0 < n
+some_digits at zero (inl both) some = absurd (both.1 refl)
+some_digits at (suc n) (inl both) some = omega arith
+some_digits at n (inr none) some = let no : ⊥ = omega arith in absurd no
+
+-- one more digit
+pub digit_more : (bytes : List ℕ) (at n : ℕ) → at < length bytes → 48 ≤ get_or bytes at 0 → get_or bytes at 0 < 58
+    → (at ≡ 0 → n ≡ 0) → (0 < at → 0 < n) → (0 < at → take at bytes ≡ decimal n) → n < 10 ^ 18
+    → take (at + 1) bytes ≡ decimal (n * 10 + (get_or bytes at 0 - 48))
+digit_more bytes at n within low high first later found small =
+    take_more bytes at 0 within ∙ by (cases_lt at 1)
+  where
+    by : (at < 1) ⊎ (1 ≤ at) → take at bytes ++ get_or bytes at 0 ∷ [] ≡ decimal (n * 10 + (get_or bytes at 0 - 48))
+    by (inl less) =
+        let e : at ≡ 0 = omega arith in
+        let none = first e in
+        let one : 48 + (n * 10 + (get_or bytes at 0 - 48)) ≡ get_or bytes at 0 = omega arith in
+        ap (λ k. take k bytes ++ get_or bytes at 0 ∷ []) e ∙ ap (λ x. x ∷ []) (sym one)
+        ∙ sym (decimal_digit (n * 10 + (get_or bytes at 0 - 48)) (omega arith))
+    by (inr some) =
+        let m = n * 10 + (get_or bytes at 0 - 48) in
+        let has = later some in
+        let tens : m / 10 ≡ n = omega arith in
+        let ones : 48 + m % 10 ≡ get_or bytes at 0 = omega arith in
+        ap (λ f. f ++ get_or bytes at 0 ∷ []) (found some)
+        ∙ (λ i. decimal (sym tens i) ++ sym ones i ∷ [])
+        ∙ sym (decimal_step m (omega arith) (omega arith))
 
 pub whole_taken : (text digits rest : List ℕ) (end n : ℕ) → digits ≡ take end text → rest ≡ drop end text → digits ≡ decimal n
     → n < 2 ^ 64 → ends_word rest ≡ true

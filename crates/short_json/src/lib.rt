@@ -1,17 +1,20 @@
-//! Short JSON texts as values, read byte by byte.
+//! JSON texts in their usual form, read off their front: token by token, or short ones as values.
 //!
 //! The readers of `json` and `serde_json` begin each text with a table of 16 kB, which finds the tokens of a long one fast: of a message
-//! of a hundred bytes it takes longer than all else. Here a text is read off its front, with no table.
+//! of a hundred bytes it takes longer than all else. Here there is no table, and a reader that knows what has to come next compares.
 //!
-//! Promise: what is read is the value that `serde_json` reads. Only the usual form is read: no escapes, whole numbers spelled as they are
-//! written, at most one space behind a comma or a colon. Any other text is left to `serde_json`.
+//! Promise: the tokens are those that `json` reads, and the value that which `serde_json` reads. Only the usual form is read: whole
+//! numbers spelled as they are written, at most one space behind a comma or a colon, and in values no escapes. Any other text is left to
+//! `serde_json`.
 //!
-//! Way in: `read_short`.
+//! Ways in: `UsualReader`, `read_short`.
 #![tactic(auto)]
 
+mod escapes;
 mod lexemes;
 mod reader;
 mod short_err;
 mod value;
 
+pub use reader::UsualReader;
 pub use value::read_short;

@@ -1,10 +1,16 @@
 // The tokens of a text, taken one by one.
-ghost use Rattle.std.specs.Prelude.{◌≡◌, ◌∷◌, decimal, true, [], Some, IfSome};
+ghost use Rattle.std.specs.Prelude.{◌≡◌, ◌∷◌, decimal, true, false, string_bytes, [], Some, IfSome, IfNone, IfOk};
+ghost use Rattle.std.specs.Bool.{MatchBool};
+ghost use Rattle.std.specs.List.{list_all};
+ghost use Rattle.json.specs.Run.{is_plain};
+ghost use Rattle.json.specs.Json.{after_end_array};
 ghost use Rattle.json.specs.Token.{begin_object, end_object, begin_array, end_array, key, string, number, boolean};
 ghost use Rattle.json.specs.Lex.{between, lex, after_value, may_begin, may_close, punctuate, tokens};
 ghost use Rattle.short_json.specs.Places.{place_seen, tokens_at};
 
-use crate::lexemes::{behind, behind_space, string_in, value_ends, whole_in};
+use crate::escapes::escaped_in;
+use crate::lexemes::{behind, behind_name, behind_space, string_in, value_ends, whole_in};
+use std::alloc::{AllocError, Global};
 use std::marker::Model;
 
 /// Where a reader stands.
@@ -38,12 +44,12 @@ impl Place {
 
 /// A reader of a text in its usual form. A clause sees the tokens that are still to come.
 #[derive(Drop)]
-pub(crate) struct ShortReader<'a> {
+pub struct UsualReader<'a> {
     left: &'a str,
     place: Place,
 }
 
-impl<'a> Model for ShortReader<'a> {
+impl<'a> Model for UsualReader<'a> {
     ghost use Rattle.std.specs.Prelude.{List};
     ghost use Rattle.json.specs.Token.{Token, tokens_code};
 
@@ -66,25 +72,25 @@ fn after_value<'a>(left: &'a str) -> (Place, &'a str)
     }
 }
 
-impl<'a> ShortReader<'a> {
+impl<'a> UsualReader<'a> {
     /// At the first token.
-    pub(crate) fn new(text: &'a str) -> ShortReader<'a>
+    pub fn new(text: &'a str) -> UsualReader<'a>
         ensures { result ≡ tokens text.now }
     {
-        ShortReader {
+        UsualReader {
             left: text,
             place: Place::Fresh,
         }
     }
 
-    /// The byte that comes next, or a space at the end.
+    // The byte that comes next, or a space at the end.
     pub(crate) fn peek(&self) -> u8 {
         let bytes = self.left.as_bytes();
         if bytes.is_empty() { b' ' } else { bytes[0] }
     }
 
     /// Whether nothing is left.
-    pub(crate) fn is_over(&self) -> bool
+    pub fn is_over(&self) -> bool
         ensures { result ≡ true → self.now ≡ [] }
     {
         if !self.left.is_empty() {
@@ -103,8 +109,9 @@ impl<'a> ShortReader<'a> {
     }
 
     /// The beginning of an object.
-    pub(crate) fn begin_object(&mut self) -> Option<()>
-        ensures { IfSome result (λ _. self.old ≡ begin_object ∷ self.new) }
+    pub fn begin_object(&mut self) -> Option<()>
+        ensures some { IfSome result (λ _. self.old ≡ begin_object ∷ self.new) }
+        ensures none { IfNone result (self.new ≡ self.old) }
     {
         let rest = behind(self.left, b'{')?;
         if !self.place.may_begin() {
@@ -116,8 +123,9 @@ impl<'a> ShortReader<'a> {
     }
 
     /// The beginning of an array.
-    pub(crate) fn begin_array(&mut self) -> Option<()>
-        ensures { IfSome result (λ _. self.old ≡ begin_array ∷ self.new) }
+    pub fn begin_array(&mut self) -> Option<()>
+        ensures some { IfSome result (λ _. self.old ≡ begin_array ∷ self.new) }
+        ensures none { IfNone result (self.new ≡ self.old) }
     {
         let rest = behind(self.left, b'[')?;
         if !self.place.may_begin() {
@@ -129,8 +137,9 @@ impl<'a> ShortReader<'a> {
     }
 
     /// The end of an object.
-    pub(crate) fn end_object(&mut self) -> Option<()>
-        ensures { IfSome result (λ _. self.old ≡ end_object ∷ self.new) }
+    pub fn end_object(&mut self) -> Option<()>
+        ensures some { IfSome result (λ _. self.old ≡ end_object ∷ self.new) }
+        ensures none { IfNone result (self.new ≡ self.old) }
     {
         let rest = behind(self.left, b'}')?;
         if !self.place.may_close() {
@@ -141,8 +150,9 @@ impl<'a> ShortReader<'a> {
     }
 
     /// The end of an array.
-    pub(crate) fn end_array(&mut self) -> Option<()>
-        ensures { IfSome result (λ _. self.old ≡ end_array ∷ self.new) }
+    pub fn end_array(&mut self) -> Option<()>
+        ensures some { IfSome result (λ _. self.old ≡ end_array ∷ self.new) }
+        ensures none { IfNone result (self.new ≡ self.old) }
     {
         let rest = behind(self.left, b']')?;
         if !self.place.may_close() {
@@ -153,8 +163,9 @@ impl<'a> ShortReader<'a> {
     }
 
     /// The name of a member.
-    pub(crate) fn name(&mut self) -> Option<&'a str>
-        ensures { IfSome result (λ name. self.old ≡ key name.now ∷ self.new) }
+    pub fn name(&mut self) -> Option<&'a str>
+        ensures some { IfSome result (λ name. self.old ≡ key name.now ∷ self.new) }
+        ensures none { IfNone result (self.new ≡ self.old) }
     {
         let (name, mark) = string_in(self.left)?;
         let rest = behind(mark, b':')?;
@@ -166,9 +177,36 @@ impl<'a> ShortReader<'a> {
         Some(name)
     }
 
-    /// A text.
-    pub(crate) fn text(&mut self) -> Option<&'a str>
-        ensures { IfSome result (λ text. self.old ≡ string text.now ∷ self.new) }
+    /// Passes the name of a member and its colon, where that name comes next, and else nothing.
+    pub fn take_name(&mut self, name: &str) -> bool
+        requires { list_all is_plain name.now ≡ true }
+        ensures { MatchBool result (self.old ≡ key name.now ∷ self.new) (self.new ≡ self.old) }
+    {
+        let Some(rest) = behind_name(self.left, name) else {
+            return false;
+        };
+        if !self.place.may_begin() {
+            return false;
+        }
+        self.place = Place::Fresh;
+        self.left = behind_space(rest);
+        true
+    }
+
+    /// Passes the end of an array, where that comes next, and else nothing.
+    pub fn take_end_array(&mut self) -> bool
+        ensures { MatchBool result (after_end_array self.old ≡ Some self.new) (self.new ≡ self.old) }
+    {
+        match self.end_array() {
+            Some(()) => true,
+            None => false,
+        }
+    }
+
+    /// A text without escapes.
+    pub fn text(&mut self) -> Option<&'a str>
+        ensures some { IfSome result (λ text. self.old ≡ string text.now ∷ self.new) }
+        ensures none { IfNone result (self.new ≡ self.old) }
     {
         let (text, rest) = string_in(self.left)?;
         if !value_ends(rest) {
@@ -181,9 +219,29 @@ impl<'a> ShortReader<'a> {
         Some(text)
     }
 
+    /// A text, with the escapes that are usual.
+    pub fn escaped_text(&mut self, alloc: Global) -> Result<Option<String>, AllocError>
+        ensures some { IfOk result (λ found. IfSome found (λ text. self.old ≡ string (string_bytes text) ∷ self.new)) }
+        ensures none { IfOk result (λ found. IfNone found (self.new ≡ self.old)) }
+    {
+        let found = escaped_in(alloc, self.left)?;
+        let Some((text, rest)) = found else {
+            return Ok(None);
+        };
+        if !value_ends(rest) {
+            return Ok(None);
+        }
+        if !self.place.may_begin() {
+            return Ok(None);
+        }
+        self.passed(rest);
+        Ok(Some(text))
+    }
+
     /// A whole number.
-    pub(crate) fn whole(&mut self) -> Option<u64>
-        ensures { IfSome result (λ n. self.old ≡ number (decimal n) ∷ self.new) }
+    pub fn whole(&mut self) -> Option<u64>
+        ensures some { IfSome result (λ n. self.old ≡ number (decimal n) ∷ self.new) }
+        ensures none { IfNone result (self.new ≡ self.old) }
     {
         let (whole, rest) = whole_in(self.left)?;
         if !self.place.may_begin() {

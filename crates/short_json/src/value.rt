@@ -5,7 +5,7 @@ ghost use Rattle.serde_json.specs.Data.{no_members};
 ghost use Rattle.serde_json.specs.Read.{of_json, of_items, of_members, converted, read as read_text};
 ghost use Rattle.serde_json.specs.View.{view, items_view, members_view};
 
-use crate::reader::ShortReader;
+use crate::reader::UsualReader;
 use crate::short_err::ShortErr;
 use serde_json::{Map, Value};
 use std::alloc::{AllocError, Global};
@@ -15,7 +15,7 @@ const MAX_DEPTH: usize = 127;
 
 // The next value of the reader. Arrays and objects may nest `depth` deep.
 #[cycle(read)]
-fn read(alloc: Global, reader: &mut ShortReader<'_>, depth: usize) -> Result<Value, ShortErr>
+fn read(alloc: Global, reader: &mut UsualReader<'_>, depth: usize) -> Result<Value, ShortErr>
     ensures ok { IfOk result
         (λ v. converted of_json (value depth reader.old) ≡ Some (view v, reader.new)) }
     ensures shorter { OnOk result (length reader.new < length reader.old) }
@@ -32,7 +32,7 @@ fn read(alloc: Global, reader: &mut ShortReader<'_>, depth: usize) -> Result<Val
 #[cycle(read)]
 fn object_value(
     alloc: Global,
-    reader: &mut ShortReader<'_>,
+    reader: &mut UsualReader<'_>,
     depth: usize,
 ) -> Result<Value, ShortErr>
     ensures ok { IfOk result
@@ -51,7 +51,7 @@ fn object_value(
 
 // An array.
 #[cycle(read)]
-fn array_value(alloc: Global, reader: &mut ShortReader<'_>, depth: usize) -> Result<Value, ShortErr>
+fn array_value(alloc: Global, reader: &mut UsualReader<'_>, depth: usize) -> Result<Value, ShortErr>
     ensures ok { IfOk result
         (λ v. converted of_json (value depth reader.old) ≡ Some (view v, reader.new)) }
     ensures shorter { OnOk result (length reader.new < length reader.old) }
@@ -67,7 +67,7 @@ fn array_value(alloc: Global, reader: &mut ShortReader<'_>, depth: usize) -> Res
 }
 
 // A text.
-fn text_value(alloc: Global, reader: &mut ShortReader<'_>) -> Result<Value, ShortErr>
+fn text_value(alloc: Global, reader: &mut UsualReader<'_>) -> Result<Value, ShortErr>
     ensures ok { (depth : ℕ) → IfOk result
         (λ v. converted of_json (value depth reader.old) ≡ Some (view v, reader.new)) }
     ensures shorter { OnOk result (length reader.new < length reader.old) }
@@ -80,7 +80,7 @@ fn text_value(alloc: Global, reader: &mut ShortReader<'_>) -> Result<Value, Shor
 }
 
 // A whole number.
-fn whole_value(reader: &mut ShortReader<'_>) -> Result<Value, ShortErr>
+fn whole_value(reader: &mut UsualReader<'_>) -> Result<Value, ShortErr>
     ensures ok { (depth : ℕ) → IfOk result
         (λ v. converted of_json (value depth reader.old) ≡ Some (view v, reader.new)) }
     ensures shorter { OnOk result (length reader.new < length reader.old) }
@@ -95,7 +95,7 @@ fn whole_value(reader: &mut ShortReader<'_>) -> Result<Value, ShortErr>
 #[cycle(read)]
 fn read_items(
     alloc: Global,
-    reader: &mut ShortReader<'_>,
+    reader: &mut UsualReader<'_>,
     depth: usize,
 ) -> Result<Vec<Value>, ShortErr>
     ensures ok { IfOk result
@@ -118,7 +118,7 @@ fn read_items(
 #[cycle(read)]
 fn read_members(
     alloc: Global,
-    reader: &mut ShortReader<'_>,
+    reader: &mut UsualReader<'_>,
     depth: usize,
 ) -> Result<Map<String, Value>, ShortErr>
     ensures ok { IfOk result
@@ -146,7 +146,7 @@ fn read_members(
 fn read_all(alloc: Global, text: &str) -> Result<Value, ShortErr>
     ensures { IfOk result (λ v. read_text text.now ≡ Some (view v)) }
 {
-    let mut reader = ShortReader::new(text);
+    let mut reader = UsualReader::new(text);
     let found = read(alloc, &mut reader, MAX_DEPTH)?;
     if !reader.is_over() {
         return Err(ShortErr::OtherForm);

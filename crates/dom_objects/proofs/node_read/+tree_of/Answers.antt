@@ -22,28 +22,28 @@ tree_of-trees_of-requires t c = (
 
 pub tree_of-returns-in_ok-tree-in-Ok-trees_of : goal.tree_of-returns-in_ok-tree-in-Ok-trees_of
 tree_of-returns-in_ok-tree-in-Ok-trees_of t c =
-    let yes : c.in_ok-told.told ≡ true = search rules in
+    let yes : c.tells.result ≡ true = search rules in
     read_shown c.args.manner c.args.top (view c.args.value.now) (object_in c.in-Ok.raw)
     (items_view c.in-Some.values.now) c.in-Ok-trees_of.trees c.in_ok-tree-in-Ok-trees_of.tree c.in-Ok.ensures
-    (sym c.in_ok-told.ensures ∙ yes)
+    (sym c.tells.ensures ∙ yes)
     (ap (option_map (λ (xs : Bor (List Value)). items_view xs.now)) c.in-Some.is) c.in-Ok-trees_of.ensures
     c.in_ok-tree-in-Ok-trees_of.ensures
 
 pub tree_of-returns-in-Err-trees_of : goal.tree_of-returns-in-Err-trees_of
 tree_of-returns-in-Err-trees_of t c =
-    let yes : c.in_ok-told.told ≡ true = search rules in
+    let yes : c.tells.result ≡ true = search rules in
     Gives-error {X = Vec (Branch Told) Global} (λ trees. nodes_of trees.items) (λ tree. tree) c.in-Err-trees_of.error
     (trees_of c.args.manner (items_view c.in-Some.values.now)) (tree_told c.args.manner c.args.top (view c.args.value.now))
     (tree_of-childless c.args.manner c.args.top (view c.args.value.now) (object_in c.in-Ok.raw)
-    (items_view c.in-Some.values.now) c.in-Ok.ensures (sym c.in_ok-told.ensures ∙ yes)
+    (items_view c.in-Some.values.now) c.in-Ok.ensures (sym c.tells.ensures ∙ yes)
     (ap (option_map (λ (xs : Bor (List Value)). items_view xs.now)) c.in-Some.is))
     c.in-Err-trees_of.ensures
 
 pub tree_of-returns-in_ok-tree-in-None : goal.tree_of-returns-in_ok-tree-in-None
 tree_of-returns-in_ok-tree-in-None t c =
-    let yes : c.in_ok-told.told ≡ true = search rules in
+    let yes : c.tells.result ≡ true = search rules in
     read_hidden c.args.manner c.args.top (view c.args.value.now) (object_in c.in-Ok.raw) c.in_ok-tree-in-None.tree c.in-Ok.ensures
-    (sym c.in_ok-told.ensures ∙ yes)
+    (sym c.tells.ensures ∙ yes)
     (ap (option_map (λ (xs : Bor (List Value)). items_view xs.now)) c.in-None.is) c.in_ok-tree-in-None.ensures
 
 pub trees_of-tree_of-requires : goal.trees_of-tree_of-requires

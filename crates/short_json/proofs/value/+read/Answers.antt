@@ -13,13 +13,13 @@ use Rattle.short_json.proofs.value.+read.Goals as goal
 pub object_value-returns-clause-ok : goal.object_value-returns-clause-ok
 object_value-returns-clause-ok t c =
     object_read c.args.depth c.args.reader.now c.begin_object.new.self c.read_members.new.reader
-    (members_view c.in_ok-found.found.entries) (omega arith) c.in-Some.ensures c.in_ok-found.ensures.ok
+    (members_view c.in_ok-found.found.entries) (omega arith) c.in-Some.ensures.some c.in_ok-found.ensures.ok
     ∙ ap (λ d. Some (d, c.read_members.new.reader)) (sym (view-Object c.in_ok-found.found))
 
 pub array_value-returns-clause-ok : goal.array_value-returns-clause-ok
 array_value-returns-clause-ok t c =
     array_read c.args.depth c.args.reader.now c.begin_array.new.self c.read_items.new.reader
-    (items_view c.in_ok-found.found.items) (omega arith) c.in-Some.ensures c.in_ok-found.ensures.ok
+    (items_view c.in_ok-found.found.items) (omega arith) c.in-Some.ensures.some c.in_ok-found.ensures.ok
     ∙ ap (λ d. Some (d, c.read_items.new.reader)) (sym (view-Array c.in_ok-found.found))
 
 pub read_items-items-init : goal.read_items-items-init
@@ -56,7 +56,7 @@ read_items-returns-clause-ok t c =
     let n = l.invariant.0 in
     let r = c.end_array.new.self in
     l.invariant.2
-    ∙ ap (parse_map (items_before l.found.items)) (items_over p n l.reader r l.invariant.1 (ap after_end_array c.in-Some.ensures))
+    ∙ ap (parse_map (items_before l.found.items)) (items_over p n l.reader r l.invariant.1 (ap after_end_array c.in-Some.ensures.some))
     ∙ ap (λ ds. Some (ds, r)) (items_before-no_items l.found.items)
 
 pub read_members-members-init : goal.read_members-members-init
@@ -76,7 +76,7 @@ read_members-members-preserved t c =
     let old = members_view l.found.entries in
     let k = c.in-Some.name.now in
     let s = c.name.new.self in
-    let named : read_key l.reader ≡ Some (Some k, s) = ap read_key c.in-Some.ensures in
+    let named : read_key l.reader ≡ Some (Some k, s) = ap read_key c.in-Some.ensures.some in
     let done = c.in_ok-member.ensures in
     let v = c.in_ok-member.member in
     let r = c.read.new.reader in
@@ -100,4 +100,4 @@ read_members-returns-clause-ok t c =
     let n = l.invariant.0 in
     let old = members_view l.found.entries in
     l.invariant.2
-    ∙ members_over p old n l.reader c.end_object.new.self l.invariant.1 (ap read_key c.in-Some-end_object.ensures)
+    ∙ members_over p old n l.reader c.end_object.new.self l.invariant.1 (ap read_key c.in-Some-end_object.ensures.some)

@@ -1,9 +1,9 @@
 use Rattle.std.proofs.Common.{rules, sym, ◌∙◌}
 use Rattle.short_json.specs.Places.{place_seen}
 use Rattle.short_json.proofs.Places.{array_begins}
-use Rattle.short_json.proofs.reader.ShortReader.begin_array.Goals as goal
+use Rattle.short_json.proofs.reader.UsualReader.begin_array.Goals as goal
 
-pub returns : goal.returns
-returns c =
+pub returns-clause-some : goal.returns-clause-some
+returns-clause-some c =
     sym c.self.view_is
     ∙ array_begins (place_seen c.self.inside.place) c.self.inside.left.now c.in_ok-rest.rest.now c.in_ok-rest.ensures (search rules)

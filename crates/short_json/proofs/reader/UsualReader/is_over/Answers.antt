@@ -1,7 +1,7 @@
 use Rattle.std.proofs.Common.{rules, sym, ◌∙◌}
 use Rattle.short_json.specs.Places.{place_seen}
 use Rattle.short_json.proofs.Places.{nothing_left}
-use Rattle.short_json.proofs.reader.ShortReader.is_over.Goals as goal
+use Rattle.short_json.proofs.reader.UsualReader.is_over.Goals as goal
 
 pub returns : goal.returns
 returns c =

@@ -2,10 +2,10 @@ use Rattle.std.proofs.Common.{rules, ◌∷◌, sym, ap, ◌∙◌}
 use Rattle.json.specs.Token.{end_array}
 use Rattle.short_json.specs.Places.{place_seen}
 use Rattle.short_json.proofs.Places.{array_ends}
-use Rattle.short_json.proofs.reader.ShortReader.end_array.Goals as goal
+use Rattle.short_json.proofs.reader.UsualReader.end_array.Goals as goal
 
-pub returns : goal.returns
-returns c =
+pub returns-clause-some : goal.returns-clause-some
+returns-clause-some c =
     sym c.self.view_is
     ∙ array_ends (place_seen c.self.inside.place) c.self.inside.left.now c.in_ok-rest.rest.now c.in_ok-rest.ensures (search rules)
     ∙ ap (λ ts. end_array ∷ ts) (sym c.passed.ensures)
