@@ -69,6 +69,7 @@ pub mod OldMedia
 pub mod NewKeys
 pub mod NewMedia
 pub mod LineEnds
+mod LineStarts
 pub mod SealedSeams
 pub mod MediaStarts
 pub mod MediaPreludes

@@ -1,11 +1,12 @@
 //! Places in a text as lines and columns. A line ends at a line feed alone; a column counts UTF-16 units.
 
-ghost use Rattle.std.specs.Prelude.{◌≡◌, ℕ, ◌+◌, ◌<◌, ◌≤◌, true, false, IfSome, IfNone};
+ghost use Rattle.std.specs.Prelude.{◌≡◌, ℕ, ◌+◌, ◌<◌, ◌≤◌, length, take, true, false, IfSome, IfNone};
 ghost use Rattle.std.specs.Str.{IsCharBoundary};
 ghost use Rattle.node_tree.specs.Numbers.{number_limit};
-ghost use Rattle.sheet_reader.specs.Positions.{units_at, position, position_of, behind_byte};
+ghost use Rattle.sheet_reader.specs.Positions.{units_at, line_of, position, position_of, behind_byte};
 
 use crate::place::Position;
+use memchr::memchr;
 
 fn units_at(byte: u8) -> u64
     ensures value { result ≡ units_at byte }
@@ -50,18 +51,35 @@ pub fn position(text: &str, byte: usize) -> Position
     place
 }
 
-/// Whether this place is the wanted one, and the byte is a character's edge or the text's end.
-fn is_there(text: &str, byte: usize, place: Position, line: u64, column: u64) -> bool
-    ensures yes { result ≡ true → (place ≡ position line column) × IsCharBoundary text.now byte }
-    ensures no { result ≡ false → IsCharBoundary text.now byte → place ≡ position line column → ⊥ }
+/// Whether the column is the wanted one, and the byte is a character's edge or the text's end.
+fn is_there(text: &str, byte: usize, column: u64, wanted: u64) -> bool
+    ensures yes { result ≡ true → (column ≡ wanted) × IsCharBoundary text.now byte }
+    ensures no { result ≡ false → IsCharBoundary text.now byte → column ≡ wanted → ⊥ }
 {
-    if place.line != line {
-        return false;
-    }
-    if place.column != column {
+    if column != wanted {
         return false;
     }
     text.is_char_boundary(byte)
+}
+
+/// The byte at which a line begins; none where the text has no such line.
+fn line_start(text: &str, line: u64) -> Option<usize>
+    ensures inside { IfSome result (λ byte. byte ≤ length text.now) }
+    ensures begins { IfSome result (λ byte. position_of text.now byte ≡ position line 0) }
+    ensures before { IfSome result (λ byte. (k : ℕ) → k < byte → line_of (take k text.now) < line) }
+    ensures none { IfNone result ((k : ℕ) → k ≤ length text.now → line_of (take k text.now) < line) }
+{
+    let bytes = text.as_bytes();
+    let mut start = 0;
+    let mut passed = 0;
+    while passed < line {
+        let Some(len) = memchr(b'\n', &bytes[start..]) else {
+            return None;
+        };
+        start += len + 1;
+        passed += 1;
+    }
+    Some(start)
 }
 
 /// The byte at a character's edge, or the text's end, that has this position. None where the line has no such column: past
@@ -71,15 +89,18 @@ pub fn byte_at(text: &str, line: u64, column: u64) -> Option<usize>
     ensures there { IfSome result (λ byte. position_of text.now byte ≡ position line column) }
     ensures no_place { IfNone result ((byte : ℕ) → IsCharBoundary text.now byte → position_of text.now byte ≡ position line column → ⊥) }
 {
-    let mut place = Position { line: 0, column: 0 };
-    for (byte, code) in text.as_bytes().iter().enumerate() {
-        if is_there(text, byte, place, line, column) {
+    let bytes = text.as_bytes();
+    let mut byte = line_start(text, line)?;
+    let mut units = 0;
+    while byte < bytes.len() && bytes[byte] != b'\n' {
+        if is_there(text, byte, units, column) {
             return Some(byte);
         }
-        place = behind_byte(place, *code);
+        units += units_at(bytes[byte]);
+        byte += 1;
     }
-    if is_there(text, text.len(), place, line, column) {
-        Some(text.len())
+    if is_there(text, byte, units, column) {
+        Some(byte)
     } else {
         None
     }

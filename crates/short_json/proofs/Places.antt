@@ -3,7 +3,8 @@ use Rattle.std.proofs.Common.{◌≡◌, ℕ, ◌⊎◌, inl, inr, true, false, 
 use Rattle.std.proofs.lemmas.Bool.{false≢true}
 use Rattle.json.specs.Token.{begin_object, end_object, begin_array, end_array, key, string, number}
 use Rattle.json.specs.Word.{ends_word}
-use Rattle.json.specs.Lex.{Place, token, colon, between, lex, fresh, after_value, after_comma, after_key, may_begin, may_close, begins_colon}
+use Rattle.json.specs.Lex.{Place, token, colon, between, lex, fresh, after_value, after_comma, after_key, may_begin, may_close}
+use Rattle.json.specs.Lex.{begins_colon}
 use Rattle.json.specs.Lex.{place_token, punctuate}
 
 -- ---- single bytes

@@ -6,7 +6,8 @@ use Rattle.dom_objects.proofs.node_write.is_upper_case.Goals as goal
 
 pub returns-then-text-at : goal.returns-then-text-at
 returns-then-text-at c =
-    one_differs c.as_bytes-text.result.now c.as_bytes-name.result.now c.loop-at.at (omega (arith, c.loop-at-test.true, c.if-text-name.false))
+    one_differs c.as_bytes-text.result.now c.as_bytes-name.result.now c.loop-at.at
+    (omega (arith, c.loop-at-test.true, c.if-text-name.false))
     (λ e. c.if-text-at.true (e ∙ sym c.to_ascii_uppercase.ensures.value))
     ∙ ap₂ (λ t n. bytes_eq t (str_to_ascii_uppercase n)) c.as_bytes-text.ensures.value c.as_bytes-name.ensures.value
 

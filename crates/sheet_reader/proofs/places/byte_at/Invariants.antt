@@ -1,10 +1,14 @@
-use Rattle.std.proofs.Common.{◌≡◌, ℕ, ◌<◌}
+use Rattle.std.proofs.Common.{◌≡◌, ℕ, ◌-◌, ◌<◌, ◌≤◌, length}
 use Rattle.std.specs.Str.{IsCharBoundary}
 use Rattle.sheet_reader.specs.Positions.{position, position_of}
 use Rattle.sheet_reader.proofs.places.byte_at.Given as goal
 
 abbrev pub invariant-loop-byte : goal.invariant-loop-byte
 invariant-loop-byte l = record {
-  place : l.place ≡ position_of l.text l.byte;
+  within : l.byte ≤ length l.bytes;
+  place : position l.line l.units ≡ position_of l.text l.byte;
   none_before : (k : ℕ) → k < l.byte → IsCharBoundary l.text k → position_of l.text k ≡ position l.line l.column → ⊥;
 }
+
+abbrev pub decreases-loop-byte : goal.decreases-loop-byte
+decreases-loop-byte l = length l.bytes - l.byte
