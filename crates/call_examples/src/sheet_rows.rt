@@ -3,12 +3,14 @@
 //! `at [TEXT,LINE,COLUMN]` the byte there with that byte's line and column, and `book [STEP,..]` what steps on a book come to:
 //! `["put",ID,TEXT]`, `["copy",PLACE]`, `["change",ID,TEXT]`, `["place",ID]`, `["get",ID]`, `["remove",ID]` and `["len"]`.
 
+ghost use Rattle.std.specs.Prelude.{IfSome};
+ghost use Rattle.std.specs.Str.{IsCharBoundary};
+
 use crate::row_parts::{Answer, number_or_zero, push_layers, text_or_empty, values_from};
-use node_tree::Text;
 use serde_json::Value;
 use sheet_reader::{
-    MediaRule, Origin, Property, Sheet, SheetBook, SheetEntry, StyleRule, byte_at, position,
-    read_sheet, read_style, sealed,
+    MediaRule, Origin, Property, Sheet, SheetBook, SheetEntry, SheetText, StyleRule, byte_at,
+    position, read_sheet, read_style, sealed,
 };
 use std::alloc::{AllocError, Global};
 
@@ -31,10 +33,7 @@ pub(crate) fn told(
         "long" => push_long(alloc, number_or_zero(args, 0), answer),
         "style" => push_style(alloc, text, answer),
         "sealed" => push_sealed(alloc, text, answer),
-        "at" => {
-            push_there_and_back(text, args, answer);
-            Ok(())
-        }
+        "at" => push_there_and_back(alloc, text, args, answer),
         "book" => take_steps(alloc, values_from(args, 0), answer),
         _ => {
             answer.push("no such call");
@@ -134,19 +133,48 @@ fn push_long(alloc: Global, count: u64, answer: &mut Answer) -> Result<(), Alloc
     Ok(())
 }
 
-/// The byte at a line and a column, and that byte's line and column.
-fn push_there_and_back(text: &str, args: &Value, answer: &mut Answer) {
-    match byte_at(text, number_or_zero(args, 1), number_or_zero(args, 2)) {
-        Some(byte) => {
+/// The byte at a line and a column, and that byte's line and column, as a search of the whole text finds them; and whether the text of
+/// a sheet, which looks near its marks alone, finds the same.
+fn push_there_and_back(
+    alloc: Global,
+    text: &str,
+    args: &Value,
+    answer: &mut Answer,
+) -> Result<(), AllocError> {
+    let kept = SheetText::copied(alloc, text)?;
+    let line = number_or_zero(args, 1);
+    let column = number_or_zero(args, 2);
+    let found = byte_at(text, line, column);
+    let near = kept.byte_at(line, column);
+    push_byte(text, found, answer);
+    match (found, near) {
+        (Some(byte), Some(other)) => {
             let place = position(text, byte);
-            answer.push_number(byte as u64);
-            answer.push(" ");
-            answer.push_number(place.line);
-            answer.push(":");
-            answer.push_number(place.column);
+            let beside = kept.position(other);
+            if byte != other || place.line != beside.line || place.column != beside.column {
+                answer.push(" elsewhere");
+            }
         }
-        None => answer.push("none"),
+        (None, None) => {}
+        _ => answer.push(" elsewhere"),
     }
+    Ok(())
+}
+
+/// A byte, and its line and column.
+fn push_byte(text: &str, byte: Option<usize>, answer: &mut Answer)
+    requires { IfSome byte (IsCharBoundary text.now) }
+{
+    let Some(byte) = byte else {
+        answer.push("none");
+        return;
+    };
+    let place = position(text, byte);
+    answer.push_number(byte as u64);
+    answer.push(" ");
+    answer.push_number(place.line);
+    answer.push(":");
+    answer.push_number(place.column);
 }
 
 /// What each step on an empty book comes to.
@@ -227,7 +255,7 @@ pub(crate) fn put_sheet(
     book.put(SheetEntry {
         id,
         origin,
-        text: Text::copied(alloc, text)?,
+        text: SheetText::copied(alloc, text)?,
         reading: read_sheet(alloc, text)?,
     })?;
     Ok(true)
@@ -252,7 +280,7 @@ fn change_step(
     let old = book.change(SheetEntry {
         id,
         origin: Origin::Regular,
-        text: Text::copied(alloc, text)?,
+        text: SheetText::copied(alloc, text)?,
         reading: read_sheet(alloc, text)?,
     });
     push_entry(Some(&old), answer);

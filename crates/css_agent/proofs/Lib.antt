@@ -1,7 +1,6 @@
 pub mod NameLemmas
 pub mod ToldLemmas
 pub mod StyleLemmas
-pub mod MarkLemmas
 pub mod AroundLemmas
 pub mod UnescapedTexts
 pub mod SelectorNames

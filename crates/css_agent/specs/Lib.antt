@@ -2,8 +2,6 @@ pub mod Told
 pub mod ClassNames
 pub mod Texts
 pub mod MediaAround
-pub mod Marks
-pub mod SheetRulers
 pub mod RuleObjects
 pub mod MatchedStyles
 pub mod Asks

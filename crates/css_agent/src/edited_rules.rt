@@ -3,7 +3,6 @@ ghost use Rattle.std.specs.Prelude.{◌≡◌, map, option_map, slice_get, IfOk}
 ghost use Rattle.sheet_reader.specs.Books.{IsEntry};
 ghost use Rattle.sheet_reader.specs.Sheets.{sheet_of};
 ghost use Rattle.css_agent.specs.RuleObjects.{told_rule};
-ghost use Rattle.css_agent.specs.SheetRulers.{AreRulers};
 ghost use Rattle.css_agent.specs.MediaAround.{told_media};
 ghost use Rattle.css_agent.specs.Edits.{found_at, empty_rule, told_at, found_media, empty_media, media_told};
 
@@ -11,7 +10,6 @@ use crate::matched_styles::rule_at;
 use crate::media_around::{media_at, told_media_of};
 use crate::rulers::Ruler;
 use crate::rules::told_rule;
-use crate::sheet_rulers::{SheetRuler, ruler_of};
 use css_objects::{Listed, Media, Rule, RuleSelectors, SourceRange, Style};
 use node_tree::{Origin, Text};
 use sheet_reader::{SheetBook, SheetEntry};
@@ -36,21 +34,14 @@ fn found_in(
 }
 
 /// The style rule at that place, if it is there.
-fn found_at<'a>(
-    alloc: Global,
-    book: &'a SheetBook,
-    rulers: &mut Vec<SheetRuler<'a>>,
-    place: RulePlace,
-) -> Result<Option<Rule>, AllocError>
-    requires { AreRulers book.now rulers.old.items }
-    ensures value { IfOk result (λ o. o ≡ found_at book.now place) }
-    ensures rulers { AreRulers book.now rulers.new.items }
+fn found_at(alloc: Global, book: &SheetBook, place: RulePlace) -> Result<Option<Rule>, AllocError>
+    ensures { IfOk result (λ o. o ≡ found_at book.now place) }
 {
     let Some(entry) = book.get(place.sheet) else {
         return Ok(None);
     };
-    let own = ruler_of(alloc, rulers, book, entry)?;
-    found_in(alloc, &mut rulers[own].ruler, entry, place.rule)
+    let mut ruler = Ruler::new(&entry.text);
+    found_in(alloc, &mut ruler, entry, place.rule)
 }
 
 /// The empty range at the start of a sheet.
@@ -88,23 +79,6 @@ fn empty_rule(alloc: Global, sheet: u64) -> Rule
     }
 }
 
-/// The style rule that an edit made, where each sheet is measured by its ruler.
-fn told_by<'a>(
-    alloc: Global,
-    book: &'a SheetBook,
-    rulers: &mut Vec<SheetRuler<'a>>,
-    place: &RulePlace,
-) -> Result<Rule, AllocError>
-    requires { AreRulers book.now rulers.old.items }
-    ensures value { IfOk result (λ r. r ≡ told_at book.now place.now) }
-    ensures rulers { AreRulers book.now rulers.new.items }
-{
-    match found_at(alloc, book, rulers, *place)? {
-        Some(rule) => Ok(rule),
-        None => Ok(empty_rule(alloc, place.sheet)),
-    }
-}
-
 /// The style rule that an edit made.
 pub(crate) fn told_at(
     alloc: Global,
@@ -113,25 +87,20 @@ pub(crate) fn told_at(
 ) -> Result<Rule, AllocError>
     ensures { IfOk result (λ r. r ≡ told_at book.now place.now) }
 {
-    let mut rulers = Vec::new(alloc);
-    told_by(alloc, book, &mut rulers, place)
+    match found_at(alloc, book, *place)? {
+        Some(rule) => Ok(rule),
+        None => Ok(empty_rule(alloc, place.sheet)),
+    }
 }
 
-fn style_at<'a>(
-    alloc: Global,
-    book: &'a SheetBook,
-    rulers: &mut Vec<SheetRuler<'a>>,
-    place: &RulePlace,
-) -> Result<Style, AllocError>
-    requires { AreRulers book.now rulers.old.items }
-    ensures value { IfOk result (λ s. s ≡ (told_at book.now place.now).style) }
-    ensures rulers { AreRulers book.now rulers.new.items }
+fn style_at(alloc: Global, book: &SheetBook, place: &RulePlace) -> Result<Style, AllocError>
+    ensures { IfOk result (λ s. s ≡ (told_at book.now place.now).style) }
 {
-    let rule = told_by(alloc, book, rulers, place)?;
+    let rule = told_at(alloc, book, place)?;
     Ok(rule.style)
 }
 
-/// The styles of the rules that edits made. Each sheet is measured once.
+/// The styles of the rules that edits made.
 pub(crate) fn styles_at(
     alloc: Global,
     book: &SheetBook,
@@ -139,10 +108,9 @@ pub(crate) fn styles_at(
 ) -> Result<Vec<Style>, AllocError>
     ensures { IfOk result (λ v. v.items ≡ map (λ p. (told_at book.now p).style) places.now) }
 {
-    let mut rulers = Vec::new(alloc);
     let mut styles = Vec::new(alloc);
     for place in places {
-        styles.push(style_at(alloc, book, &mut rulers, place)?)?;
+        styles.push(style_at(alloc, book, place)?)?;
     }
     Ok(styles)
 }

@@ -24,7 +24,6 @@ mod media_around;
 mod outcomes;
 mod rulers;
 mod rules;
-mod sheet_rulers;
 mod styles;
 mod units;
 

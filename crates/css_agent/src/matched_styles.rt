@@ -9,13 +9,11 @@ ghost use Rattle.sheet_reader.specs.Books.{IsEntry};
 ghost use Rattle.sheet_reader.specs.Forms.{rule_seen};
 ghost use Rattle.sheet_reader.specs.Sheets.{sheet_of};
 ghost use Rattle.sheet_reader.specs.Usable.{IsRuleOf};
-ghost use Rattle.css_agent.specs.SheetRulers.{AreRulers};
 ghost use Rattle.css_agent.specs.RuleObjects.{inline_style};
 ghost use Rattle.css_agent.specs.MatchedStyles.{told_inline, told_match, told_hit, told_matches, told_inherited, matched_styles};
 
 use crate::rulers::Ruler;
 use crate::rules::told_rule;
-use crate::sheet_rulers::{SheetRuler, ruler_of};
 use crate::styles::inline_style;
 use cascade_match::{Hit, matched_on};
 use css_objects::{Inherited, Listed, Matched, RuleMatch, Style};
@@ -89,21 +87,14 @@ fn told_match(
     }))
 }
 
-fn told_hit<'a>(
-    alloc: Global,
-    book: &'a SheetBook,
-    rulers: &mut Vec<SheetRuler<'a>>,
-    hit: &Hit,
-) -> Result<Option<RuleMatch>, AllocError>
-    requires { AreRulers book.now rulers.old.items }
-    ensures value { IfOk result (λ o. o ≡ told_hit book.now hit.now) }
-    ensures rulers { AreRulers book.now rulers.new.items }
+fn told_hit(alloc: Global, book: &SheetBook, hit: &Hit) -> Result<Option<RuleMatch>, AllocError>
+    ensures { IfOk result (λ o. o ≡ told_hit book.now hit.now) }
 {
     let Some(entry) = book.get(hit.sheet) else {
         return Ok(None);
     };
-    let place = ruler_of(alloc, rulers, book, entry)?;
-    told_match(alloc, &mut rulers[place].ruler, entry, hit)
+    let mut ruler = Ruler::new(&entry.text);
+    told_match(alloc, &mut ruler, entry, hit)
 }
 
 fn push_some(found: &mut Vec<RuleMatch>, one: Option<RuleMatch>) -> Result<(), AllocError>
@@ -115,97 +106,82 @@ fn push_some(found: &mut Vec<RuleMatch>, one: Option<RuleMatch>) -> Result<(), A
     Ok(())
 }
 
-fn matches_among<'a>(
+fn matches_among(
     alloc: Global,
-    book: &'a SheetBook,
-    rulers: &mut Vec<SheetRuler<'a>>,
+    book: &SheetBook,
     hits: &[Hit],
 ) -> Result<Vec<RuleMatch>, AllocError>
-    requires { AreRulers book.now rulers.old.items }
-    ensures value { IfOk result (λ v. v.items ≡ filter_map (told_hit book.now) hits.now) }
-    ensures rulers { AreRulers book.now rulers.new.items }
+    ensures { IfOk result (λ v. v.items ≡ filter_map (told_hit book.now) hits.now) }
 {
     let mut found = Vec::new(alloc);
     for hit in hits {
-        push_some(&mut found, told_hit(alloc, book, rulers, hit)?)?;
+        push_some(&mut found, told_hit(alloc, book, hit)?)?;
     }
     Ok(found)
 }
 
 /// The rules that match an element.
-fn told_matches<'a>(
+fn told_matches(
     alloc: Global,
-    book: &'a SheetBook,
-    rulers: &mut Vec<SheetRuler<'a>>,
+    book: &SheetBook,
     subject: &mut Subject<'_>,
     medium: &Medium,
 ) -> Result<Vec<RuleMatch>, AllocError>
-    requires { AreRulers book.now rulers.old.items }
     ensures value { IfOk result (λ v. v.items ≡ told_matches medium.now book.now subject.old) }
     ensures same { subject.new ≡ subject.old }
-    ensures rulers { AreRulers book.now rulers.new.items }
 {
     let hits = matched_on(alloc, book, subject, medium)?;
-    matches_among(alloc, book, rulers, hits.as_slice())
+    matches_among(alloc, book, hits.as_slice())
 }
 
 /// What an ancestor has.
-fn told_inherited<'a>(
+fn told_inherited(
     alloc: Global,
-    book: &'a SheetBook,
-    rulers: &mut Vec<SheetRuler<'a>>,
+    book: &SheetBook,
     node: NodeRef<'_>,
     medium: &Medium,
 ) -> Result<Inherited, AllocError>
-    requires { AreRulers book.now rulers.old.items }
-    ensures value { IfOk result (λ i. i ≡ told_inherited medium.now book.now node.entry) }
-    ensures rulers { AreRulers book.now rulers.new.items }
+    ensures { IfOk result (λ i. i ≡ told_inherited medium.now book.now node.entry) }
 {
     let inline = told_inline(alloc, &node)?;
     let mut subject = Subject::new(alloc, node)?;
-    let rules = told_matches(alloc, book, rulers, &mut subject, medium)?;
+    let rules = told_matches(alloc, book, &mut subject, medium)?;
     Ok(Inherited {
         inline,
         rules: Listed::new(rules),
     })
 }
 
-fn add_ancestor<'a>(
+fn add_ancestor(
     alloc: Global,
-    book: &'a SheetBook,
-    rulers: &mut Vec<SheetRuler<'a>>,
+    book: &SheetBook,
     node: NodeRef<'_>,
     medium: &Medium,
     entries: &mut Vec<Inherited>,
 ) -> Result<(), AllocError>
-    requires { AreRulers book.now rulers.old.items }
-    ensures added { OnOk result (entries.new.items
+    ensures { OnOk result (entries.new.items
         ≡ entries.old.items ++ cond (is_element_node node.entry) (told_inherited medium.now book.now node.entry ∷ []) []) }
-    ensures rulers { AreRulers book.now rulers.new.items }
 {
     if node.kind() == Kind::Element {
-        entries.push(told_inherited(alloc, book, rulers, node, medium)?)?;
+        entries.push(told_inherited(alloc, book, node, medium)?)?;
     }
     Ok(())
 }
 
 /// What the ancestors have that are elements, from the parent upwards.
-fn inherited_by<'a>(
+fn inherited_by(
     alloc: Global,
-    book: &'a SheetBook,
-    rulers: &mut Vec<SheetRuler<'a>>,
+    book: &SheetBook,
     node: &NodeRef<'_>,
     medium: &Medium,
 ) -> Result<Vec<Inherited>, AllocError>
-    requires { AreRulers book.now rulers.old.items }
-    ensures value { IfOk result (λ v. v.items ≡ map (told_inherited medium.now book.now) (elements (ancestors node.now))) }
-    ensures rulers { AreRulers book.now rulers.new.items }
+    ensures { IfOk result (λ v. v.items ≡ map (told_inherited medium.now book.now) (elements (ancestors node.now))) }
 {
     let mut entries = Vec::new(alloc);
     let mut at = node.parent();
     while let Some(ancestor) = at {
         at = ancestor.parent();
-        add_ancestor(alloc, book, rulers, ancestor, medium, &mut entries)?;
+        add_ancestor(alloc, book, ancestor, medium, &mut entries)?;
     }
     Ok(entries)
 }
@@ -219,9 +195,8 @@ pub(crate) fn matched_styles(
 ) -> Result<Matched, AllocError>
     ensures { IfOk result (λ m. m ≡ matched_styles medium.now book.now node.entry) }
 {
-    let mut rulers = Vec::new(alloc);
-    let inherited = inherited_by(alloc, book, &mut rulers, &node, medium)?;
-    let own = told_inherited(alloc, book, &mut rulers, node, medium)?;
+    let inherited = inherited_by(alloc, book, &node, medium)?;
+    let own = told_inherited(alloc, book, node, medium)?;
     Ok(Matched {
         inline: own.inline,
         rules: own.rules,

@@ -49,7 +49,7 @@ fn told_media(
     ensures value { IfOk result (λ m. m ≡ told_media sheet ruler.old rule) }
     ensures same { ruler.new ≡ ruler.old }
 {
-    let range = ruler.range_of(rule.prelude)?;
+    let range = ruler.range_of(rule.prelude);
     let text = told_part(alloc, ruler.text(), rule.prelude)?;
     Ok(Media { range, sheet, text })
 }
@@ -123,6 +123,6 @@ pub(crate) fn told_media_of(
     requires { IsRangeOf entry.now.text rule.prelude }
     ensures { IfOk result (λ m. m ≡ told_media entry.now.id entry.now.text rule) }
 {
-    let mut ruler = Ruler::new(alloc, entry.text.as_str());
+    let mut ruler = Ruler::new(&entry.text);
     told_media(alloc, &mut ruler, entry.id, rule)
 }

@@ -12,6 +12,7 @@ use crate::matched_styles::matched_styles;
 use cdp_messages::{CssAsk, Listed, ReplyBody, Why};
 use css_objects::sheet_in;
 use media_rules::Medium;
+use node_tree::Text;
 use page_tree::{NodeRef, Page};
 use sheet_reader::{SheetBook, SheetEntry};
 use std::alloc::{AllocError, Global};
@@ -25,13 +26,18 @@ pub fn sheet_named<'a>(book: &'a SheetBook, text: &str) -> Option<&'a SheetEntry
     book.get(id)
 }
 
-fn told_text(book: &SheetBook, sheet: &str) -> Result<Result<ReplyBody, Why>, AllocError>
+fn told_text(
+    alloc: Global,
+    book: &SheetBook,
+    sheet: &str,
+) -> Result<Result<ReplyBody, Why>, AllocError>
     ensures { IfOk result (λ o. o ≡ if_sheet (λ e. SheetText e.text) (sheet_named sheet.now book.now)) }
 {
     let Some(entry) = sheet_named(book, sheet) else {
         return Ok(Err(Why::NoSheet));
     };
-    Ok(Ok(ReplyBody::SheetText(entry.text.try_clone()?)))
+    let text = Text::copied(alloc, entry.text.as_str())?;
+    Ok(Ok(ReplyBody::SheetText(text)))
 }
 
 fn told_class_names(
@@ -76,7 +82,7 @@ pub(crate) fn css_outcome(
         CssAsk::GetMatchedStyles { node: _ } => {
             told_matched(alloc, book, page.node_ref(node), medium)
         }
-        CssAsk::GetStyleSheetText { sheet } => told_text(book, sheet.as_str()),
+        CssAsk::GetStyleSheetText { sheet } => told_text(alloc, book, sheet.as_str()),
         CssAsk::CollectClassNames { sheet } => told_class_names(alloc, book, sheet.as_str()),
     }
 }

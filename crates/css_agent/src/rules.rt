@@ -37,7 +37,7 @@ fn told_selector(
     ensures value { IfOk result (λ v. v ≡ told_selector ruler.old (selector_seen selector.now)) }
     ensures same { ruler.new ≡ ruler.old }
 {
-    let range = ruler.range_of(selector.range)?;
+    let range = ruler.range_of(selector.range);
     let text = told_part(alloc, ruler.text(), selector.range)?;
     Ok(SelectorValue {
         range,

@@ -77,7 +77,7 @@ fn sheet_property(
     ensures value { IfOk result (λ p. p ≡ sheet_property ruler.old property.now) }
     ensures same { ruler.new ≡ ruler.old }
 {
-    let range = ruler.range_of(property.whole)?;
+    let range = ruler.range_of(property.whole);
     property_with(alloc, Some(range), ruler.text(), property)
 }
 
@@ -108,9 +108,9 @@ pub(crate) fn rule_style(
     ensures value { IfOk result (λ s. s ≡ rule_style sheet ruler.old (rule_seen rule.now)) }
     ensures same { ruler.new ≡ ruler.old }
 {
-    let start = ruler.at(rule.body.start)?;
+    let start = ruler.at(rule.body.start);
     let properties = sheet_properties(alloc, ruler, rule.properties.as_slice())?;
-    let end = ruler.at(rule.body.end)?;
+    let end = ruler.at(rule.body.end);
     Ok(Style {
         properties: Listed::new(properties),
         text: told_part(alloc, ruler.text(), rule.body)?,

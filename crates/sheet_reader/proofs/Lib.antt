@@ -69,11 +69,13 @@ pub mod OldMedia
 pub mod NewKeys
 pub mod NewMedia
 pub mod LineEnds
-mod LineStarts
+mod MarkForms
+mod MarkMoves
 pub mod SealedSeams
 pub mod MediaStarts
 pub mod MediaPreludes
 mod LateForms
 mod BodyOrder
 mod OpenedForms
+mod OrderForms
 pub mod FilingForms

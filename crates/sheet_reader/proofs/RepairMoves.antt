@@ -49,7 +49,7 @@ among P front r back all e holds = by front (subst (λ (rs : List StyleRule). Al
     by (x ∷ front) holds = by front (All-tail P (rule_seen x) (map rule_seen (front ++ r ∷ back)) holds)
 
 -- where the bodies of rules start that are seen so
-starts_seen : (rules : List StyleRule) → map (λ r. r.body.start) rules ≡ body_starts (map rule_seen rules)
+pub starts_seen : (rules : List StyleRule) → map (λ r. r.body.start) rules ≡ body_starts (map rule_seen rules)
 starts_seen [] = refl
 starts_seen (r ∷ rules) = ap (λ (xs : List ℕ). r.body.start ∷ xs) (starts_seen rules)
 

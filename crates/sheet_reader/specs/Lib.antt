@@ -7,6 +7,7 @@ pub mod Sheets
 pub mod Frames
 pub mod Sealing
 pub mod Positions
+pub mod Marks
 pub mod Seen
 pub mod Books
 pub mod Grammar

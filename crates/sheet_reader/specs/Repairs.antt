@@ -2,6 +2,7 @@
 use Rattle.std.specs.Prelude.{◌≡◌, ◌⊎◌, ℕ, ◌+◌, ◌-◌, ◌<◌, ◌≤◌, nat_le, true, Bool, All, List, [], ◌++◌, IfSome, option_map}
 use Rattle.std.specs.Prelude.{map, take, drop, length, slice_get, Some, vec_capacity}
 use Rattle.std.specs.List.{prefix_len}
+use Rattle.std.specs.List.Sorted.{IsNonDecreasing}
 use Rattle.node_tree.specs.Numbers.{number_limit}
 use Rattle.css_tokens.specs.declared.token.Range.{Range}
 use Rattle.selectors.specs.Moves.{Cut, cut, moved_place, placed_range, placed_selector, CanPlace}
@@ -143,6 +144,12 @@ body_starts rs = map (λ r. r.body.start) rs
 -- where the preludes of media rules end
 abbrev pub prelude_ends : List MediaRule → List ℕ
 prelude_ends ms = map (λ m. m.prelude.end) ms
+
+-- what a sheet has stands in the order of the text: its style rules by their bodies, its places, and its media rules by their preludes
+pub record IsInOrder (s : Sheet) : Type 0 where
+  pub rules : IsNonDecreasing (body_starts s.rules)
+  pub places : IsNonDecreasing s.places
+  pub media : IsNonDecreasing (prelude_ends s.media)
 
 -- the share of what has these places that a stretch has: behind its start, and not behind its end
 pub record IsShareOf (places : List ℕ) (stretch : Range) (share : Share) : Type 0 where

@@ -11,8 +11,9 @@ use crate::lists::{MediaRules, Places, StyleRules};
 use crate::rereads::{Rereading, carry_out};
 use crate::rules::read_sheet;
 use crate::sheet::Sheet;
+use crate::sheet_texts::SheetText;
 use indexmap::IndexMap;
-use node_tree::{Origin, Text};
+use node_tree::Origin;
 use std::alloc::{AllocError, Global};
 use std::marker::Model;
 
@@ -21,7 +22,7 @@ use std::marker::Model;
 pub struct SheetEntry {
     pub id: u64,
     pub origin: Origin,
-    pub text: Text,
+    pub text: SheetText,
     pub reading: Sheet,
 }
 
@@ -144,7 +145,7 @@ impl SheetBook {
     }
 
     /// Makes the text of the sheet with this id another one, of which the reading is planned. Takes no memory.
-    pub fn retell(&mut self, id: u64, text: Text, plan: Rereading)
+    pub fn retell(&mut self, id: u64, text: SheetText, plan: Rereading)
         requires there { IsSomeAnd (entry_of id self.old) (CanRetell text plan) }
         ensures changed { IfSome (entry_of id self.old) (λ e. self.new ≡ book_changed (retold text e) self.old) }
     {
@@ -186,7 +187,7 @@ fn no_entry(alloc: Global, id: u64) -> SheetEntry {
     SheetEntry {
         id,
         origin: Origin::Regular,
-        text: Text::empty(alloc),
+        text: SheetText::new(alloc, String::new(alloc)),
         reading: Sheet {
             rules: StyleRules::new(Vec::new(alloc)),
             places: Places::new(Vec::new(alloc)),
@@ -196,7 +197,7 @@ fn no_entry(alloc: Global, id: u64) -> SheetEntry {
 }
 
 /// The sheet with this text, as its reading was planned. Takes no memory.
-fn retold(entry: SheetEntry, text: Text, plan: Rereading) -> SheetEntry
+fn retold(entry: SheetEntry, text: SheetText, plan: Rereading) -> SheetEntry
     requires can { CanRetell text plan entry }
     requires old { IsEntry entry }
     ensures entry { result ≡ retold text entry }

@@ -8,8 +8,8 @@
 //! which a part was replaced: where that is the body of a rule, no more than the new body is read, and else no more than what stands
 //! between the ends of rules with blocks at top level around it. `plan_reread` takes the memory that it wants, `carry_out` and
 //! `SheetBook::retell` take none.
-//! An `OpenSheet` is a sheet whose rules get new bodies one after the other: its text is copied once, and bodies in the order of the text
-//! move each rule once.
+//! An `OpenSheet` is a sheet whose rules get new bodies one after the other: its text is edited in place, and bodies in the order of the
+//! text move each rule once. A `SheetText` is the text of a sheet: it finds bytes and positions near marks that it keeps.
 //!
 //! Way in: those, `reread` for a text of which a part was replaced, `sealed` for one that may stand between braces, and `lone_rule`
 //! for one that is one rule.
@@ -30,6 +30,7 @@ mod late;
 mod laws;
 mod lists;
 mod lone;
+mod marks;
 mod media;
 mod moves;
 mod opened;
@@ -42,6 +43,7 @@ mod rereads;
 mod rules;
 mod sealing;
 mod sheet;
+mod sheet_texts;
 
 pub use book::{SheetBook, SheetEntry};
 pub use declarations::read_style;
@@ -51,13 +53,15 @@ pub use laws::{
 };
 pub use lists::{MediaRules, Places, Properties, StyleRules};
 pub use lone::{LoneRule, lone_rule};
+pub use marks::byte_at;
 pub use moves::move_body;
 pub use node_tree::Origin;
 pub use opened::OpenSheet;
 pub use place::Position;
-pub use places::{byte_at, position};
+pub use places::{position, position_from};
 pub use repairs::{NewPart, Share};
 pub use rereads::{NewBody, Rereading, carry_out, plan_reread, reread};
 pub use rules::read_sheet;
 pub use sealing::{sealed, sealed_prelude};
 pub use sheet::{MediaRule, Property, Sheet, StyleRule};
+pub use sheet_texts::SheetText;

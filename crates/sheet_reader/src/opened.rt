@@ -1,13 +1,15 @@
 //! A sheet whose rules get new bodies, one after the other.
 
-ghost use Rattle.std.specs.Prelude.{◌≡◌, ◌≤◌, ◌+◌, length, All, true, IfOk, IfSome, IfNone, OnOk, OnErr, IsSomeAnd, slice_get};
+ghost use Rattle.std.specs.Prelude.{◌≡◌, ℕ, ◌≤◌, ◌+◌, length, All, true, IfSome, IfNone, OnOk, OnErr, IsSomeAnd, slice_get};
 ghost use Rattle.node_tree.specs.Numbers.{max_sheet_bytes};
+ghost use Rattle.std.specs.Str.{IsCharBoundary};
 ghost use Rattle.selectors.specs.Ranges.{IsRangeOf};
 ghost use Rattle.sheet_reader.specs.Books.{IsEntry, IsStored};
 ghost use Rattle.sheet_reader.specs.Declarations.{style_of};
 ghost use Rattle.sheet_reader.specs.Forms.{range};
 ghost use Rattle.sheet_reader.specs.Late.{HasOther};
 ghost use Rattle.sheet_reader.specs.Moves.{replaced};
+ghost use Rattle.sheet_reader.specs.Positions.{position, position_of};
 ghost use Rattle.sheet_reader.specs.Rereads.{HasBody, retold};
 ghost use Rattle.sheet_reader.specs.Sealing.{is_sealed};
 
@@ -16,47 +18,48 @@ use crate::late::LateRules;
 use crate::lists::{MediaRules, Places, Properties};
 use crate::moves::Gap;
 use crate::sheet::{Property, Sheet};
+use crate::sheet_texts::SheetText;
 use css_tokens::Range;
-use node_tree::{Origin, Text};
-use std::alloc::{AllocError, Global};
+use node_tree::Origin;
+use std::alloc::AllocError;
 use std::marker::Model;
 
-/// A sheet whose rules get new bodies one after the other, which contracts see as the sheet. Its text is copied once and edited in place,
+/// A sheet whose rules get new bodies one after the other, which contracts see as the sheet. Its text is edited in place,
 /// and the rules behind the last new body are moved when they are asked for: bodies in the order of the text move each rule once.
 #[derive(Drop)]
 pub struct OpenSheet {
     id: u64,
     origin: Origin,
-    text: String,
+    text: SheetText,
     rules: LateRules,
     places: Places,
     media: MediaRules,
 }
 
 impl Model for OpenSheet {
-    ghost use Rattle.std.specs.Prelude.{string_bytes};
     ghost use Rattle.sheet_reader.specs.declared.book.SheetEntry.{SheetEntry};
     ghost use Rattle.sheet_reader.specs.Books.{IsStored};
     ghost use Rattle.sheet_reader.specs.Opened.{reading_with, entry_with};
 
     ghost Value = { SheetEntry };
 
-    ghost view = { λ o. entry_with o.id o.origin (string_bytes o.text) (reading_with o.rules o.places o.media) };
+    ghost view = { λ o. entry_with o.id o.origin o.text (reading_with o.rules o.places o.media) };
 
-    ghost invariant = { λ o. IsStored (entry_with o.id o.origin (string_bytes o.text) (reading_with o.rules o.places o.media)) };
+    ghost invariant = { λ o. IsStored (entry_with o.id o.origin o.text (reading_with o.rules o.places o.media)) };
 }
 
 impl OpenSheet {
-    /// The sheet, to be edited. Copies its text.
-    pub fn new(alloc: Global, entry: SheetEntry) -> Result<OpenSheet, AllocError>
+    /// The sheet, to be edited. Takes no memory.
+    pub fn new(entry: SheetEntry) -> OpenSheet
         requires { IsEntry entry }
-        ensures { IfOk result (λ o. o ≡ entry) }
+        ensures { result ≡ entry }
     {
-        let text = String::from_str(alloc, entry.text.as_str())?;
+        // Read for the proof alone: a text is UTF-8.
+        let _text = entry.text.as_str();
         let SheetEntry {
             id,
             origin,
-            text: _old,
+            text,
             reading,
         } = entry;
         let Sheet {
@@ -64,14 +67,14 @@ impl OpenSheet {
             places,
             media,
         } = reading;
-        Ok(OpenSheet {
+        OpenSheet {
             id,
             origin,
             text,
             rules: LateRules::new(rules),
             places,
             media,
-        })
+        }
     }
 
     /// The sheet as it is now. Takes no memory.
@@ -90,7 +93,7 @@ impl OpenSheet {
         SheetEntry {
             id,
             origin,
-            text: Text::new(text),
+            text,
             reading: Sheet {
                 rules: rules.into_rules(),
                 places,
@@ -112,6 +115,16 @@ impl OpenSheet {
         ensures stored { IsStored self.now }
     {
         self.text.as_str()
+    }
+
+    /// The byte of the text with this line and this column, as `SheetText::byte_at` finds it.
+    pub fn byte_at(&self, line: u64, column: u64) -> Option<usize>
+        ensures edge { IfSome result (λ byte. IsCharBoundary self.now.text byte) }
+        ensures there { IfSome result (λ byte. position_of self.now.text byte ≡ position line column) }
+        ensures no_place { IfNone result ((byte : ℕ) → IsCharBoundary self.now.text byte
+            → position_of self.now.text byte ≡ position line column → ⊥) }
+    {
+        self.text.byte_at(line, column)
     }
 
     /// The number of the rule that has its body there, from 0.
@@ -142,7 +155,7 @@ impl OpenSheet {
     {
         // Read for the proof alone: a text is UTF-8.
         let _old = self.text.as_str();
-        self.text.replace_range(body.start..body.end, put)?;
+        self.text.replace(body, put)?;
         // Read for the proof alone: a text is UTF-8.
         let _new = self.text.as_str();
         let gap = Gap {

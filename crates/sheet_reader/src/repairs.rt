@@ -3,6 +3,7 @@
 ghost use Rattle.std.specs.Prelude.{◌≡◌, ◌<◌, ◌≤◌, ◌+◌, ◌-◌, ◌++◌, [], All, length, map, take, drop, slice_get, vec_capacity, IfOk, IfSome};
 ghost use Rattle.std.specs.Prelude.{nat_le, ◌==◌, ◌&&◌, true, false, Some};
 ghost use Rattle.std.specs.List.{prefix_len};
+ghost use Rattle.std.specs.List.Sorted.{IsNonDecreasing, IsNonDecreasingBy};
 ghost use Rattle.node_tree.specs.Numbers.{number_limit};
 ghost use Rattle.selectors.specs.Moves.{cut, moved_place, CanPlace};
 ghost use Rattle.sheet_reader.specs.Around.{IsBelow};
@@ -11,7 +12,7 @@ ghost use Rattle.sheet_reader.specs.Moves.{IsWithin};
 ghost use Rattle.sheet_reader.specs.Repairs.{IsShare, HasRoom, CanRepair, repaired, shared, IsRuleWithin, IsShutPlace, IsSeam};
 ghost use Rattle.sheet_reader.specs.Repairs.{IsSecondSeam};
 ghost use Rattle.sheet_reader.specs.Repairs.{moved_number, renumbered_rule, renumbered_media, CanRenumberRule, CanRenumberMedia};
-ghost use Rattle.sheet_reader.specs.Repairs.{IsStretch, StandsAlone, IsShareOf, IsNewPart};
+ghost use Rattle.sheet_reader.specs.Repairs.{IsStretch, StandsAlone, IsInOrder, IsShareOf, IsNewPart};
 
 use crate::lists::{MediaRules, Places, StyleRules};
 use crate::moves::{Gap, move_places};
@@ -47,46 +48,47 @@ pub struct NewPart {
     pub places: Vec<usize>,
     /// Its media rules, with their places in the sheet.
     pub media: Vec<MediaRule>,
-    /// Memory for all the rules of the new reading, and for those behind the part.
+    /// Memory for all the rules of the new reading, where that of the old one is not enough, and for those behind the part.
     pub rule_room: Vec<StyleRule>,
     pub rule_rest: Vec<StyleRule>,
-    /// Memory for all its places, and for those behind the part.
+    /// Memory for all its places, where that of the old ones is not enough, and for those behind the part.
     pub place_room: Vec<usize>,
     pub place_rest: Vec<usize>,
-    /// Memory for all its media rules, and for those behind the part.
+    /// Memory for all its media rules, where that of the old ones is not enough, and for those behind the part.
     pub media_room: Vec<MediaRule>,
     pub media_rest: Vec<MediaRule>,
 }
 
-/// Moves the elements of a list before a share of it to one list, and those behind it to another.
-fn divided<T: Drop>(old: Vec<T>, share: Share, front: &mut Vec<T>, back: &mut Vec<T>)
-    requires share { IsShare (length old.items) share }
-    requires front { (front.old.items ≡ []) × (share.before ≤ vec_capacity front.old) }
-    requires back { (back.old.items ≡ []) × (length old.items - share.to ≤ vec_capacity back.old) }
-    ensures front { front.new.items ≡ take share.before old.items }
-    ensures back { back.new.items ≡ drop share.to old.items }
-    ensures room { vec_capacity front.new ≡ vec_capacity front.old }
+/// Moves the elements of a list from a place on to another list. It begins with the last, so what stands before them costs nothing.
+fn taken_behind<T>(list: &mut Vec<T>, to: usize, back: &mut Vec<T>)
+    requires inside { to ≤ length list.old.items }
+    requires back { (back.old.items ≡ []) × (length list.old.items - to ≤ vec_capacity back.old) }
+    ensures front { list.new.items ≡ take to list.old.items }
+    ensures back { back.new.items ≡ drop to list.old.items }
 {
-    let mut at = 0;
-    for element in old {
-        if at < share.before {
-            front.push_reserved(element);
-        } else if at >= share.to {
-            back.push_reserved(element);
-        }
-        at += 1;
+    while list.len() > to {
+        back.push_reserved(list.take_last());
     }
+    back.reverse();
 }
 
-/// Three lists one behind the other, where the first has room for the others.
-fn joined<T: Drop>(mut front: Vec<T>, mut new: Vec<T>, mut back: Vec<T>) -> Vec<T>
-    requires { length front.items + length new.items + length back.items ≤ vec_capacity front }
-    ensures { result.items ≡ front.items ++ (new.items ++ back.items) }
+/// Leaves the elements before a share of a list in it, and moves those behind the share to another list.
+fn divided<T: Drop>(list: &mut Vec<T>, share: Share, back: &mut Vec<T>)
+    requires share { IsShare (length list.old.items) share }
+    requires back { (back.old.items ≡ []) × (length list.old.items - share.to ≤ vec_capacity back.old) }
+    ensures front { list.new.items ≡ take share.before list.old.items }
+    ensures back { back.new.items ≡ drop share.to list.old.items }
 {
-    match front.append(&mut new) {
-        Ok(()) => {}
-        Err(_) => unreachable!(),
-    }
+    taken_behind(list, share.to, back);
+    list.truncate(share.before);
+}
+
+/// Two lists one behind the other, where the first has room for the second.
+fn appended<T: Drop>(mut front: Vec<T>, mut back: Vec<T>) -> Vec<T>
+    requires { length front.items + length back.items ≤ vec_capacity front }
+    ensures items { result.items ≡ front.items ++ back.items }
+    ensures room { vec_capacity front ≤ vec_capacity result }
+{
     match front.append(&mut back) {
         Ok(()) => {}
         Err(_) => unreachable!(),
@@ -94,12 +96,25 @@ fn joined<T: Drop>(mut front: Vec<T>, mut new: Vec<T>, mut back: Vec<T>) -> Vec<
     front
 }
 
+/// Three lists one behind the other, in the memory of the first where that has room for all, and else in other memory, which has: so
+/// what stands in the first is mostly not moved.
+fn joined<T: Drop>(front: Vec<T>, new: Vec<T>, back: Vec<T>, room: Vec<T>) -> Vec<T>
+    requires empty { room.items ≡ [] }
+    requires room { length front.items + length new.items + length back.items ≤ vec_capacity room }
+    ensures { result.items ≡ front.items ++ (new.items ++ back.items) }
+{
+    if new.len() + back.len() <= front.capacity() - front.len() {
+        return appended(appended(front, new), back);
+    }
+    appended(appended(appended(room, front), new), back)
+}
+
 /// The rules of a sheet with new ones in the place of a share of them, and those behind moved.
 fn repaired_rules(
     mut old: StyleRules,
     share: Share,
     new: Vec<StyleRule>,
-    mut room: Vec<StyleRule>,
+    room: Vec<StyleRule>,
     mut rest: Vec<StyleRule>,
     shift: Shift,
 ) -> StyleRules
@@ -113,9 +128,10 @@ fn repaired_rules(
 {
     let mut digests = old.take_digests();
     digests.truncate(share.before);
-    divided(old.into_vec(), share, &mut room, &mut rest);
+    let mut front = old.into_vec();
+    divided(&mut front, share, &mut rest);
     renumber_rules(&mut rest, shift);
-    StyleRules::with_digests(joined(room, new, rest), digests)
+    StyleRules::with_digests(joined(front, new, rest, room), digests)
 }
 
 /// The media rules of a sheet with new ones in the place of a share of them, and those behind moved.
@@ -123,7 +139,7 @@ fn repaired_media(
     old: MediaRules,
     share: Share,
     new: Vec<MediaRule>,
-    mut room: Vec<MediaRule>,
+    room: Vec<MediaRule>,
     mut rest: Vec<MediaRule>,
     shift: Shift,
 ) -> MediaRules
@@ -136,9 +152,10 @@ fn repaired_media(
         ≡ shared (renumbered_media (moved_place (cut shift.gap.start shift.gap.end shift.gap.size)) (moved_number shift.share shift.count))
         share new.items old }
 {
-    divided(old.into_vec(), share, &mut room, &mut rest);
+    let mut front = old.into_vec();
+    divided(&mut front, share, &mut rest);
     renumber_media(&mut rest, shift);
-    MediaRules::new(joined(room, new, rest))
+    MediaRules::new(joined(front, new, rest, room))
 }
 
 /// The places of a sheet with new ones in the place of a share of them, and those behind moved.
@@ -146,7 +163,7 @@ fn repaired_places(
     old: Places,
     share: Share,
     new: Vec<usize>,
-    mut room: Vec<usize>,
+    room: Vec<usize>,
     mut rest: Vec<usize>,
     gap: Gap,
 ) -> Places
@@ -156,9 +173,10 @@ fn repaired_places(
     requires behind { All (CanPlace (cut gap.start gap.end gap.size)) (drop share.to old) }
     ensures { result ≡ shared (moved_place (cut gap.start gap.end gap.size)) share new.items old }
 {
-    divided(old.into_vec(), share, &mut room, &mut rest);
+    let mut front = old.into_vec();
+    divided(&mut front, share, &mut rest);
     move_places(&mut rest, gap);
-    Places::new(joined(room, new, rest))
+    Places::new(joined(front, new, rest, room))
 }
 
 /// The reading with the part that was read anew. Takes no memory.
@@ -329,35 +347,33 @@ pub(crate) fn stands_alone(text: &[u8], places: &[usize], last: bool) -> bool
     last || ends_shut(text, places)
 }
 
-/// How many places do not stand behind one.
+/// How many places do not stand behind one. They ascend, so the count is sought by halves.
 fn places_up_to(places: &[usize], end: usize) -> usize
+    requires { IsNonDecreasing places.now }
     ensures count { result ≡ prefix_len (λ place. nat_le place end) places.now }
 {
-    places.iter().take_while(|place| **place <= end).count()
+    places.partition_point(|place| *place <= end)
 }
 
-/// How many bodies do not start behind a place.
+/// How many bodies do not start behind a place. They stand one behind the other, so the count is sought by halves.
 fn bodies_up_to(rules: &[StyleRule], end: usize) -> usize
+    requires { IsNonDecreasingBy (λ (r : StyleRule). r.body.start) rules.now }
     ensures count { result ≡ prefix_len (λ r. nat_le r.body.start end) rules.now }
 {
-    rules
-        .iter()
-        .take_while(|rule| rule.body.start <= end)
-        .count()
+    rules.partition_point(|rule| rule.body.start <= end)
 }
 
-/// How many preludes of media rules do not end behind a place.
+/// How many preludes of media rules do not end behind a place. They stand one behind the other, so the count is sought by halves.
 fn preludes_up_to(rules: &[MediaRule], end: usize) -> usize
+    requires { IsNonDecreasingBy (λ (m : MediaRule). m.prelude.end) rules.now }
     ensures count { result ≡ prefix_len (λ m. nat_le m.prelude.end end) rules.now }
 {
-    rules
-        .iter()
-        .take_while(|rule| rule.prelude.end <= end)
-        .count()
+    rules.partition_point(|rule| rule.prelude.end <= end)
 }
 
 /// The share of the places that a stretch has.
 fn share_of_places(places: &[usize], stretch: Range) -> Share
+    requires { IsNonDecreasing places.now }
     ensures share { IsShareOf places.now stretch result }
     ensures front { result.before ≤ length places.now }
     ensures inside { result.to ≤ length places.now }
@@ -370,6 +386,7 @@ fn share_of_places(places: &[usize], stretch: Range) -> Share
 
 /// The share of the style rules that a stretch has.
 fn share_of_rules(rules: &[StyleRule], stretch: Range) -> Share
+    requires { IsNonDecreasingBy (λ (r : StyleRule). r.body.start) rules.now }
     ensures share { IsShareOf (map (λ r. r.body.start) rules.now) stretch result }
     ensures front { result.before ≤ length rules.now }
     ensures inside { result.to ≤ length rules.now }
@@ -382,6 +399,7 @@ fn share_of_rules(rules: &[StyleRule], stretch: Range) -> Share
 
 /// The share of the media rules that a stretch has.
 fn share_of_media(rules: &[MediaRule], stretch: Range) -> Share
+    requires { IsNonDecreasingBy (λ (m : MediaRule). m.prelude.end) rules.now }
     ensures share { IsShareOf (map (λ m. m.prelude.end) rules.now) stretch result }
     ensures front { result.before ≤ length rules.now }
     ensures inside { result.to ≤ length rules.now }
@@ -402,6 +420,13 @@ fn but_first(places: &[usize]) -> &[usize]
     }
 }
 
+/// For how many elements memory is taken where there are so many: half as many again, so that later edits at the end find room.
+fn with_reserve(count: usize) -> usize
+    ensures { count ≤ result }
+{
+    count.saturating_add(count / 2)
+}
+
 /// A part that was read anew, to be put into a sheet; all memory that this wants is taken.
 pub(crate) fn new_part(
     alloc: Global,
@@ -410,6 +435,7 @@ pub(crate) fn new_part(
     own: Sheet,
     size: usize,
 ) -> Result<NewPart, AllocError>
+    requires sorted { IsInOrder old.now }
     requires rules { All (IsRuleWithin size) own.rules }
     requires places { All (λ place. place ≤ size) own.places }
     requires media { All (λ m. IsWithin size m.prelude) own.media }
@@ -440,11 +466,11 @@ pub(crate) fn new_part(
         rule_share,
         place_share,
         media_share,
-        rule_room: Vec::with_capacity(alloc, rules.len() + new_rules.len())?,
+        rule_room: Vec::with_capacity(alloc, with_reserve(rules.len() + new_rules.len()))?,
         rule_rest: Vec::with_capacity(alloc, rules.len() - rule_share.to)?,
-        place_room: Vec::with_capacity(alloc, places.len() + new_places.len())?,
+        place_room: Vec::with_capacity(alloc, with_reserve(places.len() + new_places.len()))?,
         place_rest: Vec::with_capacity(alloc, places.len() - place_share.to)?,
-        media_room: Vec::with_capacity(alloc, media.len() + new_media.len())?,
+        media_room: Vec::with_capacity(alloc, with_reserve(media.len() + new_media.len()))?,
         media_rest: Vec::with_capacity(alloc, media.len() - media_share.to)?,
         rules: new_rules,
         places: new_places,

@@ -85,7 +85,7 @@ Takes edit = (book : List SheetEntry) (e : SheetEntry) (s : Splice) → entry_of
 
 style_takes : (x : StyleEdit) → IsUtf8 x.text → Takes (style_in x)
 style_takes x utf8 book e s found stored h = by (body_at e.text x.range)
-    (body_range e e.text x.range (body_at e.text x.range) refl stored.utf8 refl) h
+    (body_range e x.range (body_at e.text x.range) stored.utf8 refl) h
   where
     by : (o : Option Range) → IfSome o (IsRangeOf e.text) → style_by x e o ≡ Ok s → TakesSplice s book
     by None r k = absurd (cc)
@@ -94,7 +94,7 @@ style_takes x utf8 book e s found stored h = by (body_at e.text x.range)
 
 selector_takes : (lines : LineRange) (text : List ℕ) → IsUtf8 text → Takes (selector_in lines text)
 selector_takes lines text utf8 book e s found stored h = by (prelude_at e.text lines)
-    (prelude_range e e.text lines (prelude_at e.text lines) refl stored.utf8 refl) h
+    (prelude_range e lines (prelude_at e.text lines) stored.utf8 refl) h
   where
     by : (o : Option Range) → IfSome o (IsRangeOf e.text) → selector_by text e o ≡ Ok s → TakesSplice s book
     by None r k = absurd (cc)
@@ -110,7 +110,7 @@ text_takes text utf8 book e s found stored h = placed_takes book e (whole_range 
 
 rule_takes : (lines : LineRange) (text : List ℕ) → IsUtf8 text → Takes (rule_in lines text)
 rule_takes lines text utf8 book e s found stored h =
-    by (lone_rule text) (place_at e.text lines) (place_range e e.text lines (place_at e.text lines) refl stored.utf8 refl)
+    by (lone_rule text) (place_at e.text lines) (place_range e lines (place_at e.text lines) stored.utf8 refl)
     (sealed_takes (is_sealed text) (added_by text e (place_at e.text lines) (lone_rule text)) BadText s h)
   where
     put : (o : Option Range) → IfSome o (IsRangeOf e.text) → put_by text e o ≡ Ok s → TakesSplice s book
@@ -136,7 +136,7 @@ spaces_utf8 text place = by (find (ends_keyword place) (pieces text))
 
 media_takes : (lines : LineRange) (text : List ℕ) → IsUtf8 text → Takes (media_in lines text)
 media_takes lines text utf8 book e s found stored h = by (media_at e.text lines)
-    (media_range e e.text lines (media_at e.text lines) refl stored.utf8 refl) h
+    (media_range e lines (media_at e.text lines) stored.utf8 refl) h
   where
     by : (o : Option Range) → IfSome o (IsRangeOf e.text) → media_by text e o ≡ Ok s → TakesSplice s book
     by None r k = absurd (cc)

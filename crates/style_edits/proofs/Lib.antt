@@ -1,5 +1,7 @@
 pub mod BookForms
 pub mod LineForms
+pub mod Halves
+pub mod SheetOrder
 pub mod DraftForms
 pub mod EditForms
 pub mod SpliceForms

@@ -41,7 +41,7 @@ both : (a b : Bool) → a ≡ true → b ≡ true → (a && b) ≡ true
 both true b e f = f
 both false b e f = absurd (cc)
 
-no_longer : (b : Bool) → (b ≡ true → ⊥) → b ≡ false
+pub no_longer : (b : Bool) → (b ≡ true → ⊥) → b ≡ false
 no_longer true none = absurd (none refl)
 no_longer false none = refl
 
@@ -65,7 +65,7 @@ is_position_at line column p e =
 abbrev pub IsCut : List ℕ → Range → Type 0
 IsCut text r = IsCharBoundary text r.start × IsCharBoundary text r.end
 
-same_is : (a b : Range) → is_same_range a b ≡ true → a ≡ b
+pub same_is : (a b : Range) → is_same_range a b ≡ true → a ≡ b
 same_is a b e =
     let k = and_is (nat_eq a.start b.start) (nat_eq a.end b.end) e in
     let s = eqb-true a.start b.start k.0 in
@@ -169,11 +169,11 @@ places_usable text utf8 = let s = sheet_usable text utf8 in edges_usable text (s
 pub all_cut : (text : List ℕ) (rs : List Range) → All (IsRangeOf text) rs → All (IsCut text) rs
 all_cut text rs all = All-weaker (IsRangeOf text) (IsCut text) (λ r is. (is.front, is.back)) rs all
 
-seen_bodies : (rules : List StyleRule) → map (λ r. r.body) rules ≡ bodies (map rule_seen rules)
+pub seen_bodies : (rules : List StyleRule) → map (λ r. r.body) rules ≡ bodies (map rule_seen rules)
 seen_bodies [] = refl
 seen_bodies (r ∷ rules) = ap (λ (rs : List Range). r.body ∷ rs) (seen_bodies rules)
 
-seen_preludes : (rules : List StyleRule) → map (λ r. r.prelude) rules ≡ preludes (map rule_seen rules)
+pub seen_preludes : (rules : List StyleRule) → map (λ r. r.prelude) rules ≡ preludes (map rule_seen rules)
 seen_preludes [] = refl
 seen_preludes (r ∷ rules) = ap (λ (rs : List Range). r.prelude ∷ rs) (seen_preludes rules)
 
@@ -186,79 +186,73 @@ media_usable text utf8 = between_each text 0 (length text) (media_preludes (shee
 
 -- ---- what the code finds in an entry
 
-pub body_found : (e : SheetEntry) (text : List ℕ) (lines : LineRange) (wanted : Range) (rules : List StyleRule) → IsEntry e → text ≡ e.text
-    → IsUtf8 text → IsAt text lines wanted → map rule_seen rules ≡ e.reading.rules
+pub body_found : (e : SheetEntry) (lines : LineRange) (wanted : Range) (rules : List StyleRule) → IsEntry e → IsUtf8 e.text
+    → IsAt e.text lines wanted → map rule_seen rules ≡ e.reading.rules
     → find (is_same_range wanted) (map (λ r. r.body) rules) ≡ body_at e.text lines
-body_found e text lines wanted rules own is utf8 at seen =
+body_found e lines wanted rules own utf8 at seen =
     let read = ap (λ (x : Sheet). x.rules) own.read in
-    let utf : IsUtf8 e.text = subst IsUtf8 is utf8 in
     ap (find (is_same_range wanted)) (seen_bodies rules ∙ ap bodies (seen ∙ read))
-    ∙ found_at e.text lines wanted (bodies (sheet_of e.text).rules) (subst (λ (t : List ℕ). IsAt t lines wanted) is at)
-    (all_cut e.text (bodies (sheet_of e.text).rules) (bodies_usable e.text utf))
+    ∙ found_at e.text lines wanted (bodies (sheet_of e.text).rules) at
+    (all_cut e.text (bodies (sheet_of e.text).rules) (bodies_usable e.text utf8))
 
-pub prelude_found : (e : SheetEntry) (text : List ℕ) (lines : LineRange) (wanted : Range) (rules : List StyleRule) → IsEntry e
-    → text ≡ e.text → IsUtf8 text → IsAt text lines wanted → map rule_seen rules ≡ e.reading.rules
+pub prelude_found : (e : SheetEntry) (lines : LineRange) (wanted : Range) (rules : List StyleRule) → IsEntry e → IsUtf8 e.text
+    → IsAt e.text lines wanted → map rule_seen rules ≡ e.reading.rules
     → find (is_same_range wanted) (map (λ r. r.prelude) rules) ≡ prelude_at e.text lines
-prelude_found e text lines wanted rules own is utf8 at seen =
+prelude_found e lines wanted rules own utf8 at seen =
     let read = ap (λ (x : Sheet). x.rules) own.read in
-    let utf : IsUtf8 e.text = subst IsUtf8 is utf8 in
     ap (find (is_same_range wanted)) (seen_preludes rules ∙ ap preludes (seen ∙ read))
-    ∙ found_at e.text lines wanted (preludes (sheet_of e.text).rules) (subst (λ (t : List ℕ). IsAt t lines wanted) is at)
-    (all_cut e.text (preludes (sheet_of e.text).rules) (preludes_usable e.text utf))
+    ∙ found_at e.text lines wanted (preludes (sheet_of e.text).rules) at
+    (all_cut e.text (preludes (sheet_of e.text).rules) (preludes_usable e.text utf8))
 
-pub place_found : (e : SheetEntry) (text : List ℕ) (lines : LineRange) (wanted : Range) (places : List ℕ) → IsEntry e → text ≡ e.text
-    → IsUtf8 text → IsAt text lines wanted → places ≡ e.reading.places
+pub place_found : (e : SheetEntry) (lines : LineRange) (wanted : Range) (places : List ℕ) → IsEntry e → IsUtf8 e.text
+    → IsAt e.text lines wanted → places ≡ e.reading.places
     → find (is_same_range wanted) (map (λ p. range p p) places) ≡ place_at e.text lines
-place_found e text lines wanted places own is utf8 at seen =
+place_found e lines wanted places own utf8 at seen =
     let read = ap (λ (x : Sheet). x.places) own.read in
-    let utf : IsUtf8 e.text = subst IsUtf8 is utf8 in
     ap (λ (ps : List ℕ). find (is_same_range wanted) (empties ps)) (seen ∙ read)
-    ∙ found_at e.text lines wanted (empties (sheet_of e.text).places) (subst (λ (t : List ℕ). IsAt t lines wanted) is at)
-    (all_cut e.text (empties (sheet_of e.text).places) (places_usable e.text utf))
+    ∙ found_at e.text lines wanted (empties (sheet_of e.text).places) at
+    (all_cut e.text (empties (sheet_of e.text).places) (places_usable e.text utf8))
 
 unfoldable pub NoneThere : List ℕ → LineRange → Type 0
 NoneThere text lines = (r : Range) → IsCharBoundary text r.start → IsCharBoundary text r.end → is_at text lines r ≡ false
 
-pub body_none : (e : SheetEntry) (text : List ℕ) (lines : LineRange) → text ≡ e.text → IsUtf8 text → NoneThere text lines
-    → None ≡ body_at e.text lines
+pub body_none : (e : SheetEntry) (lines : LineRange) → IsUtf8 e.text → NoneThere e.text lines → None ≡ body_at e.text lines
 unfolding NoneThere
-body_none e text lines is utf8 none =
-    none_at e.text lines (bodies (sheet_of e.text).rules) (subst (λ (t : List ℕ). NoneThere t lines) is none)
-    (all_cut e.text (bodies (sheet_of e.text).rules) (bodies_usable e.text (subst IsUtf8 is utf8)))
+body_none e lines utf8 none =
+    none_at e.text lines (bodies (sheet_of e.text).rules) none
+    (all_cut e.text (bodies (sheet_of e.text).rules) (bodies_usable e.text utf8))
 
-pub prelude_none : (e : SheetEntry) (text : List ℕ) (lines : LineRange) → text ≡ e.text → IsUtf8 text → NoneThere text lines
-    → None ≡ prelude_at e.text lines
+pub prelude_none : (e : SheetEntry) (lines : LineRange) → IsUtf8 e.text → NoneThere e.text lines → None ≡ prelude_at e.text lines
 unfolding NoneThere
-prelude_none e text lines is utf8 none =
-    none_at e.text lines (preludes (sheet_of e.text).rules) (subst (λ (t : List ℕ). NoneThere t lines) is none)
-    (all_cut e.text (preludes (sheet_of e.text).rules) (preludes_usable e.text (subst IsUtf8 is utf8)))
+prelude_none e lines utf8 none =
+    none_at e.text lines (preludes (sheet_of e.text).rules) none
+    (all_cut e.text (preludes (sheet_of e.text).rules) (preludes_usable e.text utf8))
 
-pub place_none : (e : SheetEntry) (text : List ℕ) (lines : LineRange) → text ≡ e.text → IsUtf8 text → NoneThere text lines
-    → None ≡ place_at e.text lines
+pub place_none : (e : SheetEntry) (lines : LineRange) → IsUtf8 e.text → NoneThere e.text lines → None ≡ place_at e.text lines
 unfolding NoneThere
-place_none e text lines is utf8 none =
-    none_at e.text lines (empties (sheet_of e.text).places) (subst (λ (t : List ℕ). NoneThere t lines) is none)
-    (all_cut e.text (empties (sheet_of e.text).places) (places_usable e.text (subst IsUtf8 is utf8)))
+place_none e lines utf8 none =
+    none_at e.text lines (empties (sheet_of e.text).places) none
+    (all_cut e.text (empties (sheet_of e.text).places) (places_usable e.text utf8))
 
 found_range : (text : List ℕ) (lines : LineRange) (rs : List Range) (o : Option Range) → o ≡ find (is_at text lines) rs
     → All (IsRangeOf text) rs → IfSome o (IsRangeOf text)
 found_range text lines rs o e all = subst (λ (x : Option Range). IfSome x (IsRangeOf text)) (sym e)
     (found_is (IsRangeOf text) (is_at text lines) rs all)
 
-pub body_range : (e : SheetEntry) (text : List ℕ) (lines : LineRange) (o : Option Range) → text ≡ e.text → IsUtf8 text
-    → o ≡ body_at e.text lines → IfSome o (IsRangeOf e.text)
-body_range e text lines o is utf8 found = found_range e.text lines (bodies (sheet_of e.text).rules) o found
-    (bodies_usable e.text (subst IsUtf8 is utf8))
+pub body_range : (e : SheetEntry) (lines : LineRange) (o : Option Range) → IsUtf8 e.text → o ≡ body_at e.text lines
+    → IfSome o (IsRangeOf e.text)
+body_range e lines o utf8 found =
+    found_range e.text lines (bodies (sheet_of e.text).rules) o found (bodies_usable e.text utf8)
 
-pub prelude_range : (e : SheetEntry) (text : List ℕ) (lines : LineRange) (o : Option Range) → text ≡ e.text → IsUtf8 text
-    → o ≡ prelude_at e.text lines → IfSome o (IsRangeOf e.text)
-prelude_range e text lines o is utf8 found = found_range e.text lines (preludes (sheet_of e.text).rules) o found
-    (preludes_usable e.text (subst IsUtf8 is utf8))
+pub prelude_range : (e : SheetEntry) (lines : LineRange) (o : Option Range) → IsUtf8 e.text → o ≡ prelude_at e.text lines
+    → IfSome o (IsRangeOf e.text)
+prelude_range e lines o utf8 found =
+    found_range e.text lines (preludes (sheet_of e.text).rules) o found (preludes_usable e.text utf8)
 
-pub place_range : (e : SheetEntry) (text : List ℕ) (lines : LineRange) (o : Option Range) → text ≡ e.text → IsUtf8 text
-    → o ≡ place_at e.text lines → IfSome o (IsRangeOf e.text)
-place_range e text lines o is utf8 found = found_range e.text lines (empties (sheet_of e.text).places) o found
-    (places_usable e.text (subst IsUtf8 is utf8))
+pub place_range : (e : SheetEntry) (lines : LineRange) (o : Option Range) → IsUtf8 e.text → o ≡ place_at e.text lines
+    → IfSome o (IsRangeOf e.text)
+place_range e lines o utf8 found =
+    found_range e.text lines (empties (sheet_of e.text).places) o found (places_usable e.text utf8)
 
 -- a whole_range text can be cut out
 pub whole_usable : (text same : List ℕ) (r : Range) → same ≡ text → IsUtf8 same → r ≡ whole_range same → IsRangeOf text r
@@ -272,31 +266,29 @@ whole_usable text same r is utf8 e =
 
 -- ---- the preludes of media rules
 
-pub media_found : (e : SheetEntry) (text : List ℕ) (lines : LineRange) (wanted : Range) (media : List MediaRule) → IsEntry e → text ≡ e.text
-    → IsUtf8 text → IsAt text lines wanted → media ≡ e.reading.media
+pub media_found : (e : SheetEntry) (lines : LineRange) (wanted : Range) (media : List MediaRule) → IsEntry e → IsUtf8 e.text
+    → IsAt e.text lines wanted → media ≡ e.reading.media
     → find (is_same_range wanted) (map (λ m. m.prelude) media) ≡ media_at e.text lines
-media_found e text lines wanted media own is utf8 at seen =
+media_found e lines wanted media own utf8 at seen =
     let read = ap (λ (x : Sheet). x.media) own.read in
     ap (λ (ms : List MediaRule). find (is_same_range wanted) (media_preludes ms)) (seen ∙ read)
-    ∙ found_at e.text lines wanted (media_preludes (sheet_of e.text).media)
-    (subst (λ (t : List ℕ). IsAt t lines wanted) is at)
-    (all_cut e.text (media_preludes (sheet_of e.text).media) (media_usable e.text (subst IsUtf8 is utf8)))
+    ∙ found_at e.text lines wanted (media_preludes (sheet_of e.text).media) at
+    (all_cut e.text (media_preludes (sheet_of e.text).media) (media_usable e.text utf8))
 
-pub media_none : (e : SheetEntry) (text : List ℕ) (lines : LineRange) → text ≡ e.text → IsUtf8 text → NoneThere text lines
-    → None ≡ media_at e.text lines
+pub media_none : (e : SheetEntry) (lines : LineRange) → IsUtf8 e.text → NoneThere e.text lines → None ≡ media_at e.text lines
 unfolding NoneThere
-media_none e text lines is utf8 none =
-    none_at e.text lines (media_preludes (sheet_of e.text).media) (subst (λ (t : List ℕ). NoneThere t lines) is none)
-    (all_cut e.text (media_preludes (sheet_of e.text).media) (media_usable e.text (subst IsUtf8 is utf8)))
+media_none e lines utf8 none =
+    none_at e.text lines (media_preludes (sheet_of e.text).media) none
+    (all_cut e.text (media_preludes (sheet_of e.text).media) (media_usable e.text utf8))
 
-pub media_range : (e : SheetEntry) (text : List ℕ) (lines : LineRange) (o : Option Range) → text ≡ e.text → IsUtf8 text
-    → o ≡ media_at e.text lines → IfSome o (IsRangeOf e.text)
-media_range e text lines o is utf8 found = found_range e.text lines (media_preludes (sheet_of e.text).media) o found
-    (media_usable e.text (subst IsUtf8 is utf8))
+pub media_range : (e : SheetEntry) (lines : LineRange) (o : Option Range) → IsUtf8 e.text → o ≡ media_at e.text lines
+    → IfSome o (IsRangeOf e.text)
+media_range e lines o utf8 found =
+    found_range e.text lines (media_preludes (sheet_of e.text).media) o found (media_usable e.text utf8)
 
 -- ---- a body that an open sheet has, or has not
 
-same_range : (a b : Range) → b ≡ a → is_same_range a b ≡ true
+pub same_range : (a b : Range) → b ≡ a → is_same_range a b ≡ true
 same_range a b e =
     both (nat_eq a.start b.start) (nat_eq a.end b.end) (ap (λ (r : Range). nat_eq a.start r.start) e ∙ same_nat a.start)
     (ap (λ (r : Range). nat_eq a.end r.end) e ∙ same_nat a.end)
@@ -340,11 +332,11 @@ pub open_range : (e : SheetEntry) (lines : LineRange) (body : Range) (k : ℕ) �
     → IsSomeAnd (slice_get e.reading.rules k) (HasBody body) → IsRangeOf e.text body
 open_range e lines body k own at has =
     subst (λ (o : Option Range). IfSome o (IsRangeOf e.text)) (open_found e lines body k own at has)
-    (body_range e e.text lines (body_at e.text lines) refl own.utf8 refl)
+    (body_range e lines (body_at e.text lines) own.utf8 refl)
 
 pub open_other : (e : SheetEntry) (lines : LineRange) (body : Range) → IsStored e → IsAt e.text lines body
     → All (HasOther body) e.reading.rules → body_at e.text lines ≡ None
 open_other e lines body own at all = sym (lines_found e lines body own at) ∙ no_body_among body e.reading.rules all
 
 pub open_none : (e : SheetEntry) (lines : LineRange) → IsStored e → NoneThere e.text lines → body_at e.text lines ≡ None
-open_none e lines own none = sym (body_none e e.text lines refl own.utf8 none)
+open_none e lines own none = sym (body_none e lines own.utf8 none)

@@ -1,5 +1,6 @@
 -- A sheet as an edit leaves it, before it is in the book.
-use Rattle.std.specs.Prelude.{◌≡◌, ◌⊎◌, ℕ, [], ◌∷◌, ◌++◌, List, IsSome, Result, Ok, Err, Bool, ◌&&◌, ◌==◌}
+use Rattle.std.specs.Prelude.{◌≡◌, ◌⊎◌, ℕ, ◌≤◌, nat_lt, [], ◌∷◌, ◌++◌, List, IsSome, Option, Some, None, Result, Ok, Err}
+use Rattle.std.specs.Prelude.{Bool, ◌&&◌, ◌||◌, ◌==◌, if◌then◌else◌}
 use Rattle.std.specs.Str.{IsCharBoundary}
 use Rattle.css_tokens.specs.declared.token.Range.{Range}
 use Rattle.sheet_reader.specs.declared.book.SheetEntry.{SheetEntry}
@@ -24,6 +25,19 @@ pub record IsAt (text : List ℕ) (lines : LineRange) (r : Range) : Type 0 where
 -- two ranges have the same start and the same end
 abbrev pub is_same_range : Range → Range → Bool
 is_same_range a b = a.start == b.start && a.end == b.end
+
+-- a range starts or ends before another one; of ranges one behind the other, so does each that stands before such a one
+abbrev pub is_before_range : Range → Range → Bool
+is_before_range r wanted = nat_lt r.start wanted.start || nat_lt r.end wanted.end
+
+-- the range, if it is the same as another one
+abbrev pub if_same_range : Range → Range → Option Range
+if_same_range wanted r = if is_same_range wanted r then Some r else None
+
+-- ranges one behind the other, from a place on
+abbrev pub AreInOrder : ℕ → List Range → Type 0
+AreInOrder from [] = Unit {0}
+AreInOrder from (r ∷ rs) = (from ≤ r.start) × (r.start ≤ r.end) × AreInOrder r.end rs
 
 -- the text after the splice that was found, and the splice that leads back
 pub record IsDraft (e : SheetEntry) (found : Found) (d : Draft) : Type 0 where

@@ -1,8 +1,6 @@
 //! A sheet as an edit leaves it, before it is in the book. Making one may take memory; putting it into the book does not.
 
-ghost use Rattle.std.specs.Prelude.{◌≡◌, ◌≤◌, length, Ok, IfOk, IfSome, IsSomeAnd, string_bytes};
-ghost use Rattle.std.specs.Prelude.{nat_le};
-ghost use Rattle.std.specs.Str.{IsCharBoundary};
+ghost use Rattle.std.specs.Prelude.{◌≡◌, ◌≤◌, nat_le, length, Ok, IfOk, IfSome, IsSomeAnd};
 ghost use Rattle.node_tree.specs.Numbers.{max_sheet_bytes};
 ghost use Rattle.selectors.specs.Ranges.{IsRangeOf};
 ghost use Rattle.sheet_reader.specs.Books.{IsEntry, entry_of, book_changed};
@@ -14,34 +12,25 @@ use crate::faults::{SheetErr, SheetFault};
 use crate::splice::Splice;
 use css_tokens::Range;
 use node_tree::{MAX_SHEET_BYTES, Text};
-use sheet_reader::{Rereading, SheetBook, SheetEntry, plan_reread};
+use sheet_reader::{Rereading, SheetBook, SheetEntry, SheetText, plan_reread};
 use std::alloc::{AllocError, Global};
 
 /// The new text of the sheet with this id, how its reading becomes that text's, and the splice that leads back.
 #[derive(Drop)]
 pub(crate) struct Draft {
     pub id: u64,
-    pub text: Text,
+    pub text: SheetText,
     pub plan: Rereading,
     pub back: Splice,
 }
 
-/// The text with a new part in the place of the bytes from `start` up to `end`.
-fn spliced(
-    alloc: Global,
-    text: &str,
-    start: usize,
-    end: usize,
-    new: &str,
-) -> Result<String, AllocError>
-    requires order { start ≤ end }
-    requires front { IsCharBoundary text.now start }
-    requires back { IsCharBoundary text.now end }
-    ensures { IfOk result (λ s. string_bytes s ≡ spliced text.now start end new.now) }
+/// A copy of the text, with a new part in the place of another.
+fn spliced(text: &SheetText, part: Range, new: &str) -> Result<SheetText, AllocError>
+    requires { IsRangeOf text.now part }
+    ensures { IfOk result (λ s. s ≡ spliced text.now part.start part.end new.now) }
 {
-    let mut made = String::from_str(alloc, &text[..start])?;
-    made.push_str(new)?;
-    made.push_str(&text[end..])?;
+    let mut made = text.try_clone()?;
+    made.replace(part, new)?;
     Ok(made)
 }
 
@@ -68,7 +57,7 @@ pub(crate) fn drafted(
     ensures tells { IfOk result (IsToldBy entry.now) }
 {
     let old = entry.text.as_str();
-    let text = Text::new(spliced(alloc, old, part.start, part.end, new)?);
+    let text = spliced(&entry.text, part, new)?;
     let taken = Text::copied(alloc, &old[part.start..part.end])?;
     let plan = plan_reread(alloc, &entry.reading, old, part, new, text.as_str())?;
     Ok(Draft {

@@ -133,7 +133,7 @@ fn copied(alloc: Global, entry: &SheetEntry) -> Result<SheetEntry, AllocError>
     requires { IsEntry entry.now }
     ensures { IfOk result (λ e. e ≡ entry.now) }
 {
-    let text = Text::copied(alloc, entry.text.as_str())?;
+    let text = entry.text.try_clone()?;
     let reading = read_sheet(alloc, text.as_str())?;
     Ok(SheetEntry {
         id: entry.id,

@@ -1,8 +1,7 @@
 //! A client's edits of media rules.
 
-ghost use Rattle.std.specs.Prelude.{◌≡◌, ◌++◌, All, Ok, Err, IfOk, IfSome, OnErr, string_bytes};
+ghost use Rattle.std.specs.Prelude.{◌≡◌, ◌++◌, nat_le, All, map, Ok, Err, IfOk, IfSome, OnErr, string_bytes};
 ghost use Rattle.std.specs.List.{find, prefix_len};
-ghost use Rattle.std.specs.Prelude.{nat_le};
 ghost use Rattle.css_tokens.specs.Marks.{IsPieceOf};
 ghost use Rattle.sheet_reader.specs.Books.{IsEntry};
 ghost use Rattle.sheet_reader.specs.Sheets.{sheet_of};
@@ -10,7 +9,7 @@ ghost use Rattle.style_edits.specs.Edits.{edited, IfFault};
 ghost use Rattle.sheet_reader.specs.Preludes.{ends_keyword, takes_space, spaces_behind, spaces_at};
 ghost use Rattle.style_edits.specs.MediaEdits.{media_in, media_splice};
 ghost use Rattle.style_edits.specs.MediaEdits.{media_up_to, edited_media};
-ghost use Rattle.style_edits.specs.Drafts.{Drafts, IsToldBy};
+ghost use Rattle.style_edits.specs.Drafts.{AreInOrder, Drafts, IsToldBy};
 
 use crate::drafts::{Draft, apply, placed};
 use crate::edits::client_sheet;
@@ -125,13 +124,13 @@ pub fn set_media(
     Ok(apply(book, draft))
 }
 
+/// How many of the media rules have a prelude that does not start behind the byte. Preludes stand one behind the other, so it is sought
+/// by halves.
 fn media_among(rules: &[MediaRule], byte: usize) -> usize
+    requires { AreInOrder 0 (map (λ m. m.prelude) rules.now) }
     ensures { result ≡ prefix_len (λ m. nat_le m.prelude.start byte) rules.now }
 {
-    rules
-        .iter()
-        .take_while(|rule| rule.prelude.start <= byte)
-        .count()
+    rules.partition_point(|rule| rule.prelude.start <= byte)
 }
 
 /// How many media rules of the sheet have a prelude that does not start behind the byte.
@@ -139,6 +138,8 @@ fn media_up_to(entry: &SheetEntry, byte: usize) -> usize
     requires { IsEntry entry.now }
     ensures { result ≡ media_up_to (sheet_of entry.now.text).media byte }
 {
+    // Read for the proof alone: a text is UTF-8.
+    let _text = entry.text.as_str();
     media_among(entry.reading.media.as_slice(), byte)
 }
 

@@ -1,9 +1,10 @@
 //! Which style rules edits made.
 
-ghost use Rattle.std.specs.Prelude.{◌≡◌, nat_lt};
+ghost use Rattle.std.specs.Prelude.{◌≡◌, nat_lt, map};
 ghost use Rattle.std.specs.List.{prefix_len};
 ghost use Rattle.sheet_reader.specs.Books.{IsEntry};
 ghost use Rattle.sheet_reader.specs.Sheets.{sheet_of};
+ghost use Rattle.style_edits.specs.Drafts.{AreInOrder};
 ghost use Rattle.style_edits.specs.EditedRules.{rules_before, edited_rule};
 
 use crate::splice::Splice;
@@ -18,13 +19,12 @@ pub struct RulePlace {
     pub rule: usize,
 }
 
+/// How many of the rules have a body that starts before the byte. Bodies stand one behind the other, so it is sought by halves.
 fn rules_among(rules: &[StyleRule], byte: usize) -> usize
+    requires { AreInOrder 0 (map (λ r. r.body) rules.now) }
     ensures { result ≡ prefix_len (λ r. nat_lt r.body.start byte) rules.now }
 {
-    rules
-        .iter()
-        .take_while(|rule| rule.body.start < byte)
-        .count()
+    rules.partition_point(|rule| rule.body.start < byte)
 }
 
 /// How many style rules of the sheet have a body that starts before the byte.
@@ -32,6 +32,8 @@ fn rules_before(entry: &SheetEntry, byte: usize) -> usize
     requires { IsEntry entry.now }
     ensures { result ≡ rules_before (sheet_of entry.now.text).rules byte }
 {
+    // Read for the proof alone: a text is UTF-8.
+    let _text = entry.text.as_str();
     rules_among(entry.reading.rules.as_slice(), byte)
 }
 

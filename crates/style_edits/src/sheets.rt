@@ -7,8 +7,8 @@ ghost use Rattle.style_edits.specs.declared.faults.SheetFault.TheVariants.{NoShe
 ghost use Rattle.style_edits.specs.Edits.{is_too_big, new_sheet, IfFault};
 
 use crate::faults::{SheetErr, SheetFault};
-use node_tree::{MAX_SHEET_BYTES, MAX_SHEETS, Text};
-use sheet_reader::{Origin, SheetBook, SheetEntry, read_sheet};
+use node_tree::{MAX_SHEET_BYTES, MAX_SHEETS};
+use sheet_reader::{Origin, SheetBook, SheetEntry, SheetText, read_sheet};
 use std::alloc::{AllocError, Global};
 
 fn is_too_big(book: &SheetBook, text: &str) -> bool
@@ -32,7 +32,7 @@ pub fn add_sheet(book: &mut SheetBook, id: u64, origin: Origin, text: &str) -> R
     }
     let alloc = book.allocator();
     let reading = read_sheet(alloc, text)?;
-    let text = Text::copied(alloc, text)?;
+    let text = SheetText::copied(alloc, text)?;
     match book.put(SheetEntry {
         id,
         origin,

@@ -1,26 +1,30 @@
-//! Edits of the bodies of one sheet, one after the other. The sheet is taken out of the book once, and its text is copied once.
+//! Edits of the bodies of one sheet, one after the other. The sheet is taken out of the book once, and its text is edited in place.
 
 ghost use Rattle.std.specs.Prelude.{◌≡◌, ◌≤◌, ◌<◌, ◌++◌, ◌∷◌, [], All, Ok, Err, Some, length, take, IfOk, IfSome, IfNone, OnOk, OnErr};
-ghost use Rattle.std.specs.Prelude.{IsSome, IsSomeAnd, None, slice_get, ◌==◌};
+ghost use Rattle.std.specs.Prelude.{IsSome, IsSomeAnd, None, slice_get, ◌==◌, false};
+ghost use Rattle.std.specs.Str.{IsCharBoundary};
+ghost use Rattle.css_tokens.specs.declared.token.Range.{Range};
 ghost use Rattle.std.specs.List.{prefix_len};
 ghost use Rattle.node_tree.specs.Numbers.{counted_limit};
 ghost use Rattle.selectors.specs.Ranges.{IsRangeOf};
-ghost use Rattle.sheet_reader.specs.Books.{IsEntry, entry_of, book_changed};
+ghost use Rattle.sheet_reader.specs.Books.{IsEntry, IsStored, entry_of, book_changed};
 ghost use Rattle.sheet_reader.specs.Rereads.{HasBody};
-ghost use Rattle.style_edits.specs.Edits.{body_at, style_in, style_splice, styles_edited, IfFault, mutable};
+ghost use Rattle.style_edits.specs.Edits.{is_at, body_at, style_in, style_splice, styles_edited, IfFault, mutable};
 ghost use Rattle.style_edits.specs.EditedRules.{edited_rules};
-ghost use Rattle.style_edits.specs.Drafts.{IsOld, olds_restored, with_backs};
+ghost use Rattle.style_edits.specs.Drafts.{IsAt, IsOld, olds_restored, with_backs};
 ghost use Rattle.style_edits.specs.StyleRuns.{IsMade, IsRun, MayEdit, ChangesOnly};
 
 use crate::drafts::is_short;
 use crate::edits::{StyleEdit, client_sheet, keep};
 use crate::faults::{SheetErr, SheetFault};
-use crate::lines::{LineRange, bytes_at};
+use crate::lines::LineRange;
 use crate::rule_places::RulePlace;
 use crate::splice::Splice;
 use css_tokens::Range;
 use node_tree::Text;
-use sheet_reader::{OpenSheet, Origin, SheetBook, SheetEntry, read_sheet, read_style, sealed};
+use sheet_reader::{
+    OpenSheet, Origin, SheetBook, SheetEntry, SheetText, read_sheet, read_style, sealed,
+};
 use std::alloc::{AllocError, Global};
 
 /// The body of a rule of a sheet.
@@ -37,6 +41,20 @@ pub(crate) struct Made {
     pub rule: RulePlace,
 }
 
+/// The bytes with these lines and columns; none where a line has no such column, or the text no such line.
+fn bytes_in(opened: &OpenSheet, lines: LineRange) -> Option<Range>
+    ensures stored { IsStored opened.now }
+    ensures there { IfSome result (IsAt opened.now.text lines) }
+    ensures none { IfNone result ((r : Range) → IsCharBoundary opened.now.text r.start → IsCharBoundary opened.now.text r.end
+        → is_at opened.now.text lines r ≡ false) }
+{
+    // Read for the proof alone: the sheet is as a book has it.
+    let _text = opened.as_str();
+    let start = opened.byte_at(lines.start_line, lines.start_column)?;
+    let end = opened.byte_at(lines.end_line, lines.end_column)?;
+    Some(Range { start, end })
+}
+
 /// The rule that has its body at these lines and columns.
 fn body_of(opened: &OpenSheet, lines: LineRange) -> Option<RuleBody>
     ensures rule { IfSome result (λ f. IsSomeAnd (slice_get opened.now.reading.rules f.rule) (HasBody f.body)) }
@@ -44,7 +62,7 @@ fn body_of(opened: &OpenSheet, lines: LineRange) -> Option<RuleBody>
     ensures range { IfSome result (λ f. IsRangeOf opened.now.text f.body) }
     ensures none { IfNone result (body_at opened.now.text lines ≡ None) }
 {
-    let Some(body) = bytes_at(opened.as_str(), lines) else {
+    let Some(body) = bytes_in(opened, lines) else {
         return None;
     };
     let Some(rule) = opened.rule_with_body(body) else {
@@ -145,21 +163,19 @@ fn blank(alloc: Global, id: u64) -> Result<SheetEntry, AllocError>
     Ok(SheetEntry {
         id,
         origin: Origin::Regular,
-        text: Text::empty(alloc),
+        text: SheetText::new(alloc, String::new(alloc)),
         reading,
     })
 }
 
-/// Takes a sheet out of the book. What stands for it then has its id.
-fn take_out(book: &mut SheetBook, blank: SheetEntry) -> Result<OpenSheet, AllocError>
+/// Takes a sheet out of the book. What stands for it then has its id. Takes no memory.
+fn take_out(book: &mut SheetBook, blank: SheetEntry) -> OpenSheet
     requires blank { IsEntry blank }
     requires there { IsSomeAnd (entry_of blank.id book.old) IsEntry }
     ensures book { book.new ≡ book_changed blank book.old }
-    ensures opened { IfOk result (λ o. entry_of blank.id book.old ≡ Some o) }
+    ensures opened { entry_of blank.id book.old ≡ Some result }
 {
-    let alloc = book.allocator();
-    let entry = book.change(blank);
-    OpenSheet::new(alloc, entry)
+    OpenSheet::new(book.change(blank))
 }
 
 /// Makes edits of a sheet, which is out of the book meanwhile. On an error another one may stand in its place.
@@ -179,7 +195,7 @@ fn set_apart(
 {
     let alloc = book.allocator();
     let empty = blank(alloc, sheet)?;
-    let mut opened = take_out(book, empty)?;
+    let mut opened = take_out(book, empty);
     let result = set_all(alloc, book, &mut opened, edits, backs, rules);
     let _blank = book.change(opened.into_entry());
     result

@@ -8,25 +8,19 @@ use Rattle.css_agent.proofs.StyleLemmas.{ancestors-turn}
 use Rattle.css_agent.proofs.matched_styles.inherited_by.Goals as goal
 
 pub loop-at-init : goal.loop-at-init
-loop-at-init c = record {
-  told =
-      ap (λ (l : List Inherited). l ++ map (told_inherited c.args.medium.now c.args.book.now)
-      (elements (from ancestors c.parent-at.result))) c.new-entries.ensures.items
-      ∙ ap (λ (l : List Zipper). map (told_inherited c.args.medium.now c.args.book.now) (elements l))
-      (walk-start ancestors ancestors-from c.args.node.now c.parent-at.result c.parent-at.ensures);
-  rulers = c.requires;
-}
+loop-at-init c =
+    ap (λ (l : List Inherited). l ++ map (told_inherited c.args.medium.now c.args.book.now)
+    (elements (from ancestors c.parent-at.result))) c.new-entries.ensures.items
+    ∙ ap (λ (l : List Zipper). map (told_inherited c.args.medium.now c.args.book.now) (elements l))
+    (walk-start ancestors ancestors-from c.args.node.now c.parent-at.result c.parent-at.ensures)
 
 pub loop-at-smaller : goal.loop-at-smaller
 loop-at-smaller c = walk-smaller ancestors ancestors-from c.loop-at.at c.in-Some.ancestor c.parent-at-in-Some.result c.in-Some.is
     c.parent-at-in-Some.ensures
 
 pub loop-at-preserved : goal.loop-at-preserved
-loop-at-preserved c = record {
-  told =
-      ancestors-turn c.args.medium.now c.args.book.now c.loop-at.at c.in-Some.ancestor c.parent-at-in-Some.result c.loop-at.entries.items
-      c.add_ancestor.new.entries.items c.in-Some.is c.parent-at-in-Some.ensures
-      c.in_ok-add_ancestor.ensures.added
-      ∙ c.loop-at.invariant.told;
-  rulers = c.add_ancestor.ensures.rulers;
-}
+loop-at-preserved c =
+    ancestors-turn c.args.medium.now c.args.book.now c.loop-at.at c.in-Some.ancestor c.parent-at-in-Some.result c.loop-at.entries.items
+    c.add_ancestor.new.entries.items c.in-Some.is c.parent-at-in-Some.ensures
+    c.in_ok-add_ancestor.ensures
+    ∙ c.loop-at.invariant

@@ -6,11 +6,9 @@ use Rattle.css_agent.proofs.StyleLemmas.{found-turn}
 use Rattle.css_agent.proofs.matched_styles.matches_among.Goals as goal
 
 pub loop-hit-preserved : goal.loop-hit-preserved
-loop-hit-preserved c = record {
-  found = found-turn (told_hit c.args.book.now) c.args.hits.now c.loop-hit.hit-index c.hit-item.result c.loop-hit.found.items
-      c.push_some.new.found.items c.loop-hit-test.true c.hit-item.is
-      (c.in_ok-push_some.ensures {u = tt} ∙ ap
-      (λ (o : Option RuleMatch). c.loop-hit.found.items ++ option_to_list o) c.in_ok-told_hit.ensures.value)
-      ∙ c.loop-hit.invariant.found;
-  rulers = c.told_hit.ensures.rulers;
-}
+loop-hit-preserved c =
+    found-turn (told_hit c.args.book.now) c.args.hits.now c.loop-hit.hit-index c.hit-item.result c.loop-hit.found.items
+    c.push_some.new.found.items c.loop-hit-test.true c.hit-item.is
+    (c.in_ok-push_some.ensures {u = tt} ∙ ap
+    (λ (o : Option RuleMatch). c.loop-hit.found.items ++ option_to_list o) c.in_ok-told_hit.ensures)
+    ∙ c.loop-hit.invariant

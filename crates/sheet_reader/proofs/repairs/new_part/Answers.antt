@@ -1,9 +1,11 @@
 use Rattle.std.proofs.Common.{◌≡◌, ◌+◌, ◌≤◌, ℕ, All, List, length, map, drop, refl, ap, sym, subst, ◌∙◌, arith}
+use Rattle.std.specs.List.Sorted.{IsNonDecreasing}
 use Rattle.std.proofs.lemmas.List.{length-map}
 use Rattle.sheet_reader.specs.declared.sheet.MediaRule.{MediaRule}
 use Rattle.sheet_reader.specs.Forms.{RuleForm, rule_seen}
 use Rattle.sheet_reader.specs.Joins.{behind_rule, behind_media}
 use Rattle.sheet_reader.specs.Repairs.{IsShareOf, body_starts, prelude_ends}
+use Rattle.sheet_reader.proofs.OrderForms.{bodies_order, order_by}
 use Rattle.sheet_reader.proofs.RepairLaw.{share_within}
 use Rattle.sheet_reader.proofs.RepairMoves.{share_seen, all_behind}
 use Rattle.sheet_reader.proofs.repairs.new_part.Goals as goal
@@ -12,6 +14,18 @@ pub raised_places-requires-clause-within : goal.raised_places-requires-clause-wi
 raised_places-requires-clause-within c =
     subst (All (λ (place : ℕ). place ≤ c.args.size)) (sym (c.but_first.ensures ∙ ap (drop 1) c.as_slice.ensures))
     (all_behind c.args.size c.args.own.places c.requires.places)
+
+pub share_of_rules-rule_share-requires : goal.share_of_rules-rule_share-requires
+share_of_rules-rule_share-requires c =
+    bodies_order c.as_slice-rules.result.now c.args.old.now.rules c.as_slice-rules.ensures c.requires.sorted.rules
+
+pub share_of_places-place_share-requires : goal.share_of_places-place_share-requires
+share_of_places-place_share-requires c = subst IsNonDecreasing (sym c.as_slice-places.ensures) c.requires.sorted.places
+
+pub share_of_media-media_share-requires : goal.share_of_media-media_share-requires
+share_of_media-media_share-requires c =
+    order_by (λ (m : MediaRule). m.prelude.end) c.as_slice-media.result.now
+    (subst (λ (ms : List MediaRule). IsNonDecreasing (prelude_ends ms)) (sym c.as_slice-media.ensures) c.requires.sorted.media)
 
 pub returns : goal.returns
 returns c =
@@ -52,15 +66,39 @@ returns c =
       media = c.in_ok-new_media.ensures
           ∙ ap (map (behind_media stretch.start c.share_of_media-media_share.result.before)) own_media;
       rule_room = record {
-        front = omega (arith, c.in_ok-with_capacity.ensures.capacity, rule_size, seen_size, body_size, rules_in.order, rules_in.inside);
+        front = omega (
+          arith,
+          c.in_ok-with_capacity.ensures.capacity,
+          c.with_reserve.ensures,
+          rule_size,
+          seen_size,
+          body_size,
+          rules_in.order,
+          rules_in.inside,
+        );
         back = omega (arith, c.in_ok-with_capacity-2.ensures.capacity, rule_size, seen_size, body_size, rules_in.inside);
       };
       place_room = record {
-        front = omega (arith, c.in_ok-with_capacity-3.ensures.capacity, place_size, places_in.order, places_in.inside);
+        front = omega (
+          arith,
+          c.in_ok-with_capacity-3.ensures.capacity,
+          c.with_reserve-2.ensures,
+          place_size,
+          places_in.order,
+          places_in.inside,
+        );
         back = omega (arith, c.in_ok-with_capacity-4.ensures.capacity, place_size, places_in.inside);
       };
       media_room = record {
-        front = omega (arith, c.in_ok-with_capacity-5.ensures.capacity, media_size, prelude_size, media_in.order, media_in.inside);
+        front = omega (
+          arith,
+          c.in_ok-with_capacity-5.ensures.capacity,
+          c.with_reserve-3.ensures,
+          media_size,
+          prelude_size,
+          media_in.order,
+          media_in.inside,
+        );
         back = omega (arith, c.in_ok-with_capacity-6.ensures.capacity, media_size, prelude_size, media_in.inside);
       };
       empty = record {

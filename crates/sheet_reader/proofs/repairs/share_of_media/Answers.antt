@@ -1,4 +1,4 @@
-use Rattle.std.proofs.Common.{ℕ, ◌≤◌, ◌∙◌, arith}
+use Rattle.std.proofs.Common.{◌∙◌, arith}
 use Rattle.sheet_reader.specs.declared.sheet.MediaRule.{MediaRule}
 use Rattle.sheet_reader.proofs.RepairMoves.{count_of, count_inside}
 use Rattle.sheet_reader.proofs.repairs.share_of_media.Goals as goal

@@ -1,5 +1,5 @@
-use Rattle.std.proofs.Common.{ℕ, ◌≤◌, ◌∙◌, arith}
-use Rattle.sheet_reader.proofs.RepairMoves.{count_of, count_inside}
+use Rattle.std.proofs.Common.{ℕ, arith}
+use Rattle.sheet_reader.proofs.RepairMoves.{count_inside}
 use Rattle.sheet_reader.proofs.repairs.share_of_places.Goals as goal
 
 pub returns-clause-front : goal.returns-clause-front

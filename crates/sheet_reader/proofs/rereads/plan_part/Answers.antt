@@ -1,7 +1,11 @@
 use Rattle.std.proofs.Common.{◌+◌, ◌-◌, ◌≤◌, ◌≡◌, List, ℕ, length, refl, sym, ap, subst, ◌∙◌, arith, nat_eq}
 use Rattle.sheet_reader.specs.Repairs.{IsStretch, StandsAlone}
+use Rattle.sheet_reader.proofs.OrderForms.{sheet_order}
 use Rattle.sheet_reader.proofs.RepairForms.{part_leads, own_bounds, new_short}
 use Rattle.sheet_reader.proofs.rereads.plan_part.Goals as goal
+
+pub new_part-requires-clause-sorted : goal.new_part-requires-clause-sorted
+new_part-requires-clause-sorted c = sheet_order c.args.old_text.now c.args.old.now c.utf8.old_text c.requires.read
 
 pub new_part-requires-clause-rules : goal.new_part-requires-clause-rules
 new_part-requires-clause-rules c = (own_bounds c.in-Some-get.text.now c.in_ok-sheet.sheet c.in_ok-sheet.ensures).rules

@@ -1,7 +1,6 @@
-use Rattle.std.proofs.Common.{sym, subst, arith}
+use Rattle.std.proofs.Common.{arith}
 use Rattle.sheet_reader.proofs.PositionLemmas.{start}
-use Rattle.css_agent.specs.Marks.{mark_step, AreMarks}
 use Rattle.css_agent.proofs.rulers.Ruler.new.Goals as goal
 
 pub invariant_of-result : goal.invariant_of-result
-invariant_of-result c = (omega arith, start c.args.text.now, subst (AreMarks c.args.text.now mark_step) (sym c.new.ensures.items) tt)
+invariant_of-result c = (omega arith, start c.args.text.now)

@@ -1,0 +1,18 @@
+use Rattle.std.proofs.Common.{◌∙◌, rules}
+use Rattle.sheet_reader.specs.declared.sheet.MediaRule.{MediaRule}
+use Rattle.style_edits.proofs.Halves.{none_by_halves, one_by_halves}
+use Rattle.style_edits.proofs.lines.media_among.Goals as goal
+
+pub returns-in_default : goal.returns-in_default
+returns-in_default c =
+    none_by_halves (λ (m : MediaRule). m.prelude) c.args.wanted c.args.media.now c.partition_point-i.result c.requires
+    c.partition_point-i.ensures.bound c.partition_point-i.ensures.partitioned (λ a r q k. search rules)
+    c.in_default.ensures.lookup.3
+
+pub returns : goal.returns
+returns c =
+    let found = c.in-Some.ensures.lookup in
+    c.if_same.ensures
+    ∙ one_by_halves (λ (m : MediaRule). m.prelude) c.args.wanted c.args.media.now c.partition_point-i.result c.requires
+    c.partition_point-i.ensures.bound c.partition_point-i.ensures.partitioned (λ a r q k. search rules)
+    c.in-Some.rule.now found.3.0 found.1

@@ -1,0 +1,19 @@
+use Rattle.std.proofs.Common.{ℕ, ap, ◌∙◌, rules}
+use Rattle.sheet_reader.specs.Forms.{range}
+use Rattle.style_edits.specs.Drafts.{if_same_range}
+use Rattle.style_edits.proofs.Halves.{none_by_halves, one_by_halves}
+use Rattle.style_edits.proofs.lines.place_among.Goals as goal
+
+pub returns-in_default : goal.returns-in_default
+returns-in_default c =
+    none_by_halves (λ (p : ℕ). range p p) c.args.wanted c.args.places.now c.partition_point-i.result c.requires
+    c.partition_point-i.ensures.bound c.partition_point-i.ensures.partitioned (λ a r q k. search rules)
+    c.in_default.ensures.lookup.3
+
+pub returns : goal.returns
+returns c =
+    let found = c.in-Some.ensures.lookup in
+    c.if_same.ensures ∙ ap (if_same_range c.args.wanted) c.empty_at.ensures
+    ∙ one_by_halves (λ (p : ℕ). range p p) c.args.wanted c.args.places.now c.partition_point-i.result c.requires
+    c.partition_point-i.ensures.bound c.partition_point-i.ensures.partitioned (λ a r q k. search rules)
+    c.in-Some.place.now found.3.0 found.1
