@@ -31,8 +31,7 @@ fn attributes_value(alloc: Global, attributes: &Attributes) -> Result<Value, All
     ensures { IfOk result (λ v. view v ≡ attribute_list.spell attributes.now) }
 {
     let mut list = Vec::new(alloc);
-    let pairs = attributes.as_slice();
-    for pair in pairs {
+    for pair in attributes.iter() {
         list.push(Value::try_from_str(alloc, pair.0.as_str())?)?;
         list.push(Value::try_from_str(alloc, pair.1.as_str())?)?;
     }

@@ -22,7 +22,7 @@ use css_objects::{
     styles_of,
 };
 use dom_objects::{DownErr, Manner, are_attribute_names, attributes_of, is_ascending, tree_of};
-use node_tree::{Attributes, Text};
+use node_tree::Attributes;
 use serde_json::Value;
 use std::alloc::Global;
 
@@ -105,10 +105,10 @@ fn ids_of(alloc: Global, value: &Value) -> Result<ReplyBody, DownErr>
 }
 
 // The names have their forms, are distinct and ascend by bytes.
-fn are_attributes(pairs: &[(Text, Text)]) -> bool
-    ensures { result ≡ are_attributes pairs.now }
+fn are_attributes(attributes: &Attributes) -> bool
+    ensures { result ≡ are_attributes attributes.now }
 {
-    is_ascending(pairs) && are_attribute_names(pairs)
+    is_ascending(attributes.iter()) && are_attribute_names(attributes.iter())
 }
 
 // Names and values in turn, in the order of the names.
@@ -117,7 +117,7 @@ fn ordered_attributes(alloc: Global, values: &[Value]) -> Result<Attributes, Dow
         ((refined attribute_list are_attributes).reads (array (items_view values.now))) }
 {
     match attributes_of(alloc, values) {
-        Ok(pairs) => if are_attributes(pairs.as_slice()) {
+        Ok(pairs) => if are_attributes(&pairs) {
             Ok(pairs)
         } else {
             Err(DownErr::NotMessage)

@@ -1,8 +1,7 @@
 -- Attributes as a list of texts.
-use Rattle.std.proofs.Common.{◌≡◌, ℕ, ◌+◌, ◌<◌, ◌≤◌, ◌==◌, false, arith, option_and_then, List, [], ◌∷◌, ◌++◌, length, get_or, take, map}
-use Rattle.std.proofs.Common.{Option, Some, None, Vec, Global, refl, sym, ap, ap₂, ◌∙◌, add-one, append_assoc}
-use Rattle.std.proofs.Math.Seq.{take-suc}
-use Rattle.std.proofs.lemmas.List.{map-append, take_all}
+use Rattle.std.proofs.Common.{◌≡◌, ℕ, ◌<◌, ◌==◌, false, arith, option_and_then, List, [], ◌∷◌, ◌++◌, length, map}
+use Rattle.std.proofs.Common.{Option, Some, None, Vec, Global, refl, sym, ap, ap₂, ◌∙◌, append_assoc, append-nil}
+use Rattle.std.proofs.lemmas.List.{map-append}
 use Rattle.serde_json.proofs.Views.{view-Array}
 use Rattle.serde_json.specs.Data.{string, array}
 use Rattle.serde_json.specs.View.{view, items_of, items_view}
@@ -12,28 +11,24 @@ use Rattle.dom_objects.specs.NodeObject.{flat, paired, attribute_list}
 use Rattle.cdp_json.specs.Kinds.{and_first}
 use Rattle.serde_json.specs.Find.{as_str}
 
-flat-append : (xs ys : List Pair) → flat (xs ++ ys) ≡ flat xs ++ flat ys
-flat-append [] ys = refl
-flat-append (x ∷ xs) ys = ap (λ r. x.0 ∷ x.1 ∷ r) (flat-append xs ys)
-
 -- a turn of the writer's loop
-pub attribute_written : (done named valued : List Value) (a b : Value) (p : Pair) (ps : List Pair) (i : ℕ) → i < length ps
-    → p ≡ get_or ps i p
+pub attribute_written : (done named valued : List Value) (a b : Value) (p : Pair) (qs rest all : List Pair) → qs ≡ p ∷ rest
     → named ≡ done ++ a ∷ [] → valued ≡ named ++ b ∷ [] → view a ≡ string p.0 → view b ≡ string p.1
-    → map view done ≡ map string (flat (take i ps)) → map view valued ≡ map string (flat (take (i + 1) ps))
-attribute_written done named valued a b p ps i below at n v va vb so =
-    let more : take (i + 1) ps ≡ take i ps ++ p ∷ [] = rw add-one (take-suc ps i p below ∙ ap (λ q. take i ps ++ q ∷ []) (sym at)) in
-    let said : map string (flat (take (i + 1) ps)) ≡ map string (flat (take i ps)) ++ (string p.0 ∷ string p.1 ∷ []) =
-    ap (λ qs. map string (flat qs)) more ∙ ap (map string) (flat-append (take i ps) (p ∷ [])) ∙ map-append string (flat (take i ps))
-    (p.0 ∷ p.1 ∷ []) in
-    ap (map view) (v ∙ ap (λ l. l ++ b ∷ []) n ∙ append_assoc done (a ∷ []) (b ∷ [])) ∙ map-append view done (a ∷ b ∷ []) ∙ ap₂
-    (λ xs ys. xs ++ ys) so (ap₂ (λ x y. x ∷ y ∷ []) va vb) ∙ sym said
+    → map view done ++ map string (flat qs) ≡ map string (flat all) → map view valued ++ map string (flat rest) ≡ map string (flat all)
+attribute_written done named valued a b p qs rest all is n v va vb so =
+    let wrote : map view valued ≡ map view done ++ (string p.0 ∷ string p.1 ∷ []) =
+    ap (map view) (v ∙ ap (λ l. l ++ b ∷ []) n ∙ append_assoc done (a ∷ []) (b ∷ [])) ∙ map-append view done (a ∷ b ∷ [])
+    ∙ ap (λ xs. map view done ++ xs) (ap₂ (λ x y. x ∷ y ∷ []) va vb)
+    in
+    ap (λ l. l ++ map string (flat rest)) wrote
+    ∙ append_assoc (map view done) (string p.0 ∷ string p.1 ∷ []) (map string (flat rest))
+    ∙ ap (λ (ps : List Pair). map view done ++ map string (flat ps)) (sym is) ∙ so
 
-pub attributes_written : (list : Vec Value Global) (ps qs : List Pair) (i : ℕ) → map view list.items ≡ map string (flat (take i ps))
-    → length ps ≤ i → ps ≡ qs
-    → view (Array list) ≡ attribute_list.spell qs
-attributes_written list ps qs i so all same =
-    view-Array list ∙ ap (λ ds. array (items_of ds)) (so ∙ ap (λ l. map string (flat l)) (take_all i ps all ∙ same))
+pub attributes_written : (list : Vec Value Global) (qs all : List Pair)
+    → map view list.items ++ map string (flat qs) ≡ map string (flat all) → qs ≡ [] → view (Array list) ≡ attribute_list.spell all
+attributes_written list qs all so none =
+    view-Array list ∙ ap (λ ds. array (items_of ds)) (sym (append-nil (map view list.items))
+    ∙ ap (λ (ps : List Pair). map view list.items ++ map string (flat ps)) (sym none) ∙ so)
 
 -- ---- read
 

@@ -151,11 +151,12 @@ branches_tokens [] = refl
 branches_tokens (b ∷ bs) = ap (λ ts. branch_tokens b ++ ts) (branches_tokens bs) ∙ sym
     (append_assoc (branch_tokens b) (flat_map branch_tokens bs) (end_array ∷ []))
 
-pub pairs_end : (old start now last : List Token) (ps qs : List Pair) (i : ℕ) → length ps ≤ i → ps ≡ qs → start ≡ old ++ begin_array ∷ []
-    → now ≡ start ++ flat_map pair_tokens (take i ps) → last ≡ now ++ end_array ∷ [] → last ≡ old ++ data_tokens (attribute_list.spell qs)
-pairs_end old start now last ps qs i all same begun so framed =
-    items_end pair_tokens old start now last ps i all begun so framed
-    ∙ ap (λ ts. old ++ (begin_array ∷ ts)) (sym (pairs_tokens ps)) ∙ ap (λ rs. old ++ data_tokens (attribute_list.spell rs)) same
+pub pairs_end : (old now last : List Token) (ps : List Pair) → now ≡ (old ++ begin_array ∷ []) ++ flat_map pair_tokens ps
+    → last ≡ now ++ end_array ∷ [] → last ≡ old ++ data_tokens (attribute_list.spell ps)
+pairs_end old now last ps so framed =
+    after old (begin_array ∷ []) (flat_map pair_tokens ps ++ end_array ∷ []) refl
+    (after (old ++ begin_array ∷ []) (flat_map pair_tokens ps) (end_array ∷ []) so framed)
+    ∙ ap (λ ts. old ++ (begin_array ∷ ts)) (sym (pairs_tokens ps))
 
 pub branches_end : (old start now last : List Token) (bs cs : List (Branch Told)) (i : ℕ) → length bs ≤ i → bs ≡ cs
     → start ≡ old ++ begin_array ∷ []

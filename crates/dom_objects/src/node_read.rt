@@ -16,7 +16,7 @@ use crate::node_rules::{Manner, fits_hold, is_formed_label, is_named_label};
 use crate::node_write::{local_name, shows_name};
 use crate::tree::NodeTree;
 use cdp_json::{Cursor, text_of};
-use node_tree::{Attributes, Kind, Text};
+use node_tree::{Attributes, Kind, Pairs, Text};
 use serde_json::Value;
 use std::alloc::{AllocError, Global};
 
@@ -201,12 +201,12 @@ impl<'a> NodeParts<'a> {
         }
     }
 
-    fn pairs(&self) -> &[(Text, Text)]
-        ensures { result.now ≡ unwrap_or self.now.attributes [] }
+    fn pairs(&self) -> Pairs<'_>
+        ensures { result ≡ unwrap_or self.now.attributes [] }
     {
         match &self.attributes {
-            Some(attributes) => attributes.as_slice(),
-            None => &[],
+            Some(attributes) => attributes.iter(),
+            None => Pairs::none(),
         }
     }
 

@@ -7,7 +7,7 @@ ghost use Rattle.node_tree.specs.Names.{is_attribute_name};
 ghost use Rattle.dom_objects.specs.Told.{hold_of};
 ghost use Rattle.dom_objects.specs.NodeObject.{fits_hold};
 
-use node_tree::{Kind, Text, is_attribute_name, is_element_name};
+use node_tree::{Kind, Pairs, is_attribute_name, is_element_name};
 use std::cmp::Ordering;
 
 /// How the nodes of a message are told.
@@ -44,8 +44,8 @@ fn is_before(first: &str, second: &str) -> bool
 }
 
 /// The names are distinct and ascend by bytes.
-pub fn is_ascending(pairs: &[(Text, Text)]) -> bool
-    ensures { result ≡ is_ascending pairs.now }
+pub fn is_ascending(pairs: Pairs<'_>) -> bool
+    ensures { result ≡ is_ascending pairs.entry }
 {
     let mut last = None;
     for pair in pairs {
@@ -61,8 +61,8 @@ pub fn is_ascending(pairs: &[(Text, Text)]) -> bool
 }
 
 /// Each name has the form of an attribute's.
-pub fn are_attribute_names(pairs: &[(Text, Text)]) -> bool
-    ensures { result ≡ list_all (λ p. is_attribute_name p.0) pairs.now }
+pub fn are_attribute_names(pairs: Pairs<'_>) -> bool
+    ensures { result ≡ list_all (λ p. is_attribute_name p.0) pairs.entry }
 {
     for pair in pairs {
         if !is_attribute_name(pair.0.as_str()) {
@@ -72,22 +72,23 @@ pub fn are_attribute_names(pairs: &[(Text, Text)]) -> bool
     true
 }
 
-fn are_formed(kind: Kind, pairs: &[(Text, Text)]) -> bool
-    ensures { result ≡ (if is_element kind then is_ascending pairs.now else is_empty pairs.now) }
+fn are_formed(kind: Kind, pairs: Pairs<'_>) -> bool
+    ensures { result ≡ (if is_element kind then is_ascending pairs.entry else is_empty pairs.entry) }
 {
     if kind.is_element() {
         return is_ascending(pairs);
     }
-    match pairs {
-        [] => true,
-        _ => false,
+    let mut pairs = pairs;
+    match pairs.next() {
+        None => true,
+        Some(_) => false,
     }
 }
 
 // What stands in a label but for the forms of names.
-pub(crate) fn is_formed_label(kind: Kind, name: &str, value: &str, pairs: &[(Text, Text)]) -> bool
+pub(crate) fn is_formed_label(kind: Kind, name: &str, value: &str, pairs: Pairs<'_>) -> bool
     ensures { result ≡ is_formed_label
-        (record { kind = kind; name = name.now; value = value.now; attributes = pairs.now }) }
+        (record { kind = kind; name = name.now; value = value.now; attributes = pairs.entry }) }
 {
     are_formed(kind, pairs)
         && (has_name(kind) || is_blank(name))
@@ -95,9 +96,9 @@ pub(crate) fn is_formed_label(kind: Kind, name: &str, value: &str, pairs: &[(Tex
 }
 
 // The names of a label have their forms.
-pub(crate) fn is_named_label(kind: Kind, name: &str, pairs: &[(Text, Text)]) -> bool
+pub(crate) fn is_named_label(kind: Kind, name: &str, pairs: Pairs<'_>) -> bool
     ensures { result ≡ is_named_label
-        (record { kind = kind; name = name.now; value = []; attributes = pairs.now }) }
+        (record { kind = kind; name = name.now; value = []; attributes = pairs.entry }) }
 {
     (!has_name(kind) || is_element_name(name)) && are_attribute_names(pairs)
 }

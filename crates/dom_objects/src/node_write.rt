@@ -96,8 +96,7 @@ fn write_attributes(out: &mut Writer, attributes: &Attributes) -> Result<(), All
     ensures before { out.new.before ≡ out.old.before }
 {
     out.begin_array()?;
-    let pairs = attributes.as_slice();
-    for pair in pairs {
+    for pair in attributes.iter() {
         out.string(pair.0.as_str())?;
         out.string(pair.1.as_str())?;
     }

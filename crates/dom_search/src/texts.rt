@@ -42,9 +42,8 @@ fn has_either(part: &[u8], name: &str, value: &str) -> bool
 fn has_pair(part: &[u8], node: &NodeRef<'_>) -> bool
     ensures { result ≡ list_any (has_lowered part.now) (pair_texts node.now.branch.row.label.attributes) }
 {
-    for i in 0..node.attr_len() {
-        let (name, value) = node.attr_at(i);
-        if has_either(part, name, value) {
+    for (name, value) in node.attrs() {
+        if has_either(part, name.as_str(), value.as_str()) {
             return true;
         }
     }

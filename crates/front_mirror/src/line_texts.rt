@@ -38,7 +38,7 @@ fn push_attributes(
 ) -> Result<(), AllocError>
     ensures { OnOk result (string_bytes out.new ≡ string_bytes out.old ++ flat_map attribute_text attributes.now) }
 {
-    for (name, value) in attributes.as_slice() {
+    for (name, value) in attributes.iter() {
         out.push_str(" ")?;
         out.push_str(name.as_str())?;
         out.push_str("=")?;

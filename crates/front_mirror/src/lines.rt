@@ -64,7 +64,7 @@ fn write_attributes(
 ) -> Result<(), AllocError>
     ensures { OnOk result (out.new.items ≡ out.old.items ++ flat_map attribute_text attributes.now) }
 {
-    for (name, value) in attributes.as_slice() {
+    for (name, value) in attributes.iter() {
         out.extend_from_slice(b" ")?;
         out.extend_from_slice(name.as_str().as_bytes())?;
         out.extend_from_slice(b"=")?;

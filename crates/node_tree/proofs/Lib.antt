@@ -4,3 +4,5 @@ pub mod ArenaLemmas
 pub mod ChangeLemmas
 pub mod PairLemmas
 pub mod SearchedLemmas
+pub mod ShelfLemmas
+pub mod WalkLemmas

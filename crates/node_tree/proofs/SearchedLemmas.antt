@@ -3,6 +3,7 @@ use Rattle.std.proofs.Common.{◌≡◌, ℕ, zero, suc, ◌+◌, ◌<◌, ◌�
 use Rattle.std.proofs.Common.{Ok, Err, Ordering, Less, Equal, Greater, nat_cmp, refl, sym, ap, subst, ◌∙◌, arith}
 use Rattle.std.specs.List.{insert, remove}
 use Rattle.std.proofs.lemmas.Cmp.{nat_list_cmp_total}
+use Rattle.std.proofs.lemmas.Slice.Eq.{bytes_eq-Decides}
 use Rattle.std.specs.Ordering.{match_ordering, is_lt, ordering_reverse}
 use Rattle.std.specs.Cmp.Lexicographic.{slice_cmp}
 use Rattle.node_tree.specs.Labels.{Pair, is_ascending, is_below, is_before, value_of}
@@ -99,6 +100,35 @@ passes_first name x q b is =
     let above : slice_cmp nat_cmp q.0 name ≡ Less = nat_list_cmp_total.antisymm q.0 name ∙ ap ordering_reverse is in
     nat_list_cmp_total.antisymm name x.0
     ∙ ap ordering_reverse (nat_list_cmp_total.trans x.0 q.0 name (lt_less _ b) above)
+
+-- all before one that is not behind the name are before it
+pub passes_greater : (name : List ℕ) (q : Pair) → slice_cmp nat_cmp name q.0 ≡ Greater → (x : Pair) → is_before x.0 q.0 ≡ true
+    → slice_cmp nat_cmp name x.0 ≡ Greater
+passes_greater name q is x b = passes_first name x q b is
+
+pub passes_equal : (name : List ℕ) (q : Pair) → slice_cmp nat_cmp name q.0 ≡ Equal → (x : Pair) → is_before x.0 q.0 ≡ true
+    → slice_cmp nat_cmp name x.0 ≡ Greater
+passes_equal name q is x b =
+    let same : q.0 ≡ name = (bytes_eq-Decides q.0 name).0 (same_name name q.0 Equal is) in
+    let before : is_before x.0 name ≡ true = subst (λ (m : List ℕ). is_before x.0 m ≡ true) same b in
+    nat_list_cmp_total.antisymm name x.0 ∙ ap ordering_reverse (lt_less (slice_cmp nat_cmp x.0 name) before)
+
+-- no places further on
+pub shifted_none : (r : Result ℕ ℕ) → r ≡ shifted 0 r
+shifted_none (Ok j) = let e : j ≡ 0 + j = omega arith in ap (λ k. Ok k) e
+shifted_none (Err j) = let e : j ≡ 0 + j = omega arith in ap (λ k. Err k) e
+
+-- all before such a one are passed
+pub search_from : (name : List ℕ) (q : Pair) → ((x : Pair) → is_before x.0 q.0 ≡ true → slice_cmp nat_cmp name x.0 ≡ Greater)
+    → (qs : List Pair) (i : ℕ) → is_ascending qs ≡ true → slice_get qs i ≡ Some q
+    → search_name name qs ≡ shifted i (search_name name (drop i qs))
+search_from name q passes [] i h e = absurd (cc)
+search_from name q passes (x ∷ qs) zero h e = shifted_none (search_name name (x ∷ qs))
+search_from name q passes (x ∷ qs) (suc i) h e =
+    let rest = right (is_below x.0 qs) (is_ascending qs) h in
+    let first = passes x (later_behind x.0 qs i q (left (is_below x.0 qs) (is_ascending qs) h) rest e) in
+    ap (λ o. match_ordering o (Err 0) (Ok 0) (further (search_name name qs))) first
+    ∙ ap further (search_from name q passes qs i rest e) ∙ further_shifted i (search_name name (drop i qs))
 
 -- all up to one before the name are passed
 pub search_behind : (name : List ℕ) (qs : List Pair) (i : ℕ) (q : Pair) → is_ascending qs ≡ true → slice_get qs i ≡ Some q

@@ -6,6 +6,7 @@ pub mod Names
 pub mod Labels
 pub mod LabelChanges
 pub mod Searches
+pub mod Shelves
 pub mod Keys
 pub mod Seen
 pub mod Arena

@@ -13,15 +13,19 @@
 
 mod attribute_edits;
 mod attribute_lists;
+mod attribute_walks;
 mod limits;
+mod name_searches;
 mod names;
 mod origins;
+mod shelves;
 mod short_lists;
 mod texts;
 mod watches;
 
 pub use attribute_edits::{drop_attribute, set_attribute};
 pub use attribute_lists::Attributes;
+pub use attribute_walks::Pairs;
 pub use limits::{MAX_LEVEL, MAX_NODES, MAX_SHEET_BYTES, MAX_SHEETS, MOST_LEVELS, MOST_TOLD};
 pub use names::{is_attribute_name, is_element_name};
 pub use origins::Origin;

@@ -5,7 +5,7 @@ ghost use Rattle.node_tree.specs.Labels.{PairsHaveUtf8, LabelHasUtf8};
 ghost use Rattle.page_forms.specs.Texts.{HaveTexts, FormHasTexts, SheetsHaveTexts};
 
 use crate::sheets::SheetForm;
-use page_tree::{NodeForm, Text};
+use page_tree::{Attributes, NodeForm, Text};
 
 /// A text is UTF-8, since it can be lent as a `&str`.
 pub(crate) fn text_valid(text: &Text)
@@ -14,10 +14,10 @@ pub(crate) fn text_valid(text: &Text)
     let _ = text.as_str();
 }
 
-fn pairs_valid(pairs: &[(Text, Text)])
-    ensures { PairsHaveUtf8 pairs.now }
+fn pairs_valid(attributes: &Attributes)
+    ensures { PairsHaveUtf8 attributes.now }
 {
-    for pair in pairs {
+    for pair in attributes.iter() {
         text_valid(&pair.0);
         text_valid(&pair.1);
     }
@@ -28,7 +28,7 @@ fn label_valid(form: &NodeForm)
 {
     text_valid(&form.name);
     text_valid(&form.value);
-    pairs_valid(form.attributes.as_slice());
+    pairs_valid(&form.attributes);
 }
 
 /// The texts of these nodes are UTF-8, and of all below them.

@@ -10,7 +10,7 @@ ghost use Rattle.node_tree.specs.Keys.{first_true};
 
 use crate::faults::LoadFault;
 use crate::forms::NodeForm;
-use node_tree::{Kind, MAX_LEVEL, MAX_NODES, Text, is_attribute_name, is_element_name};
+use node_tree::{Attributes, Kind, MAX_LEVEL, MAX_NODES, is_attribute_name, is_element_name};
 
 /// The forms have no more than so many levels.
 pub fn are_within(forms: &[NodeForm], levels: u64) -> bool
@@ -55,7 +55,7 @@ pub fn has_good_name(kind: Kind, name: &str) -> bool
 }
 
 /// The names of attributes have their forms.
-pub fn have_good_names(pairs: &[(Text, Text)]) -> bool
+pub fn have_good_names(pairs: &Attributes) -> bool
     ensures { result ≡ list_all (λ p. is_attribute_name p.0) pairs.now }
 {
     pairs.iter().all(|pair| is_attribute_name(pair.0.as_str()))
@@ -64,7 +64,7 @@ pub fn have_good_names(pairs: &[(Text, Text)]) -> bool
 fn is_named(form: &NodeForm) -> bool
     ensures { result ≡ is_named_label form.now.row }
 {
-    has_good_name(form.kind, form.name.as_str()) && have_good_names(form.attributes.as_slice())
+    has_good_name(form.kind, form.name.as_str()) && have_good_names(&form.attributes)
 }
 
 /// All names have their forms.

@@ -10,7 +10,7 @@ ghost use Rattle.page_tree.specs.Arenas.{slot_row};
 use crate::arenas::Arena;
 use crate::pages::Page;
 use crate::slots::Slot;
-use node_tree::Kind;
+use node_tree::{Kind, Pairs};
 use std::marker::Model;
 
 /// A node of a page. Contracts see it as a zipper: the node with all below it, beside it and above it, so that the calls
@@ -131,6 +131,14 @@ impl<'a> NodeRef<'a> {
     {
         let slot = self.slot();
         slot.attributes.at(i)
+    }
+
+    /// The names and values of the attributes, in ascending order of the names' bytes.
+    pub fn attrs(&self) -> Pairs<'a>
+        ensures { result ≡ self.now.branch.row.label.attributes }
+    {
+        let slot = self.slot();
+        slot.attributes.iter()
     }
 
     /// A node has few siblings: this call only says so to a proof.

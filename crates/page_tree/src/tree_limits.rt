@@ -43,7 +43,7 @@ pub fn room_beside_trees(trees: &[Tree], room: usize) -> Option<usize>
 fn is_tree_named(tree: &Tree) -> bool
     ensures { result ≡ is_named_label tree.now.row.label }
 {
-    has_good_name(tree.kind, tree.name.as_str()) && have_good_names(tree.attributes.as_slice())
+    has_good_name(tree.kind, tree.name.as_str()) && have_good_names(&tree.attributes)
 }
 
 /// All names have their forms.

@@ -44,8 +44,8 @@ fn attribute_holds(own: (&str, &str), name: &str, op: AttrOp, operand: &str) -> 
 pub fn has_attribute(name: &str, op: AttrOp, operand: &str, node: &NodeRef<'_>) -> bool
     ensures { result ≡ has_attribute name.now (compares op operand.now) (attributes_of node.now) }
 {
-    for i in 0..node.attr_len() {
-        if attribute_holds(node.attr_at(i), name, op, operand) {
+    for (own, value) in node.attrs() {
+        if attribute_holds((own.as_str(), value.as_str()), name, op, operand) {
             return true;
         }
     }

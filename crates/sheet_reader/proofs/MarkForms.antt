@@ -28,11 +28,15 @@ reaches_on p q r (inr a) (inl b) = inl (omega (arith, a.0, b))
 reaches_on p q r (inr a) (inr b) = inr (a.0 ∙ b.0, omega (arith, a.1, b.1))
 
 -- the position behind one byte more
-pub next_position : (text : List ℕ) (i : ℕ) → i < length text → behind_byte (position_of text i) (get_or text i 0) ≡ position_of text (i + 1)
-next_position text i inside = behind_more text i 0 (position_of text i) (behind_byte (position_of text i) (get_or text i 0)) inside refl refl
+pub next_position : (text : List ℕ) (i : ℕ) → i < length text
+    → behind_byte (position_of text i) (get_or text i 0) ≡ position_of text (i + 1)
+next_position text i inside =
+    behind_more text i 0 (position_of text i) (behind_byte (position_of text i) (get_or text i 0)) inside refl refl
 
 ascend_by : (text : List ℕ) (i n : ℕ) → i + n ≤ length text → Reaches (position_of text i) (position_of text (i + n))
-ascend_by text i zero inside = let e : i ≡ i + 0 = omega arith in subst (λ k. Reaches (position_of text i) (position_of text k)) e (inr (refl, omega arith))
+ascend_by text i zero inside =
+    let e : i ≡ i + 0 = omega arith in
+    subst (λ k. Reaches (position_of text i) (position_of text k)) e (inr (refl, omega arith))
 ascend_by text i (suc n) inside =
     let e : (i + n) + 1 ≡ i + suc n = omega arith in
     subst (λ k. Reaches (position_of text i) (position_of text k)) e

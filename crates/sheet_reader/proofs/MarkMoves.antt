@@ -206,7 +206,8 @@ pub behind_stays : (text put : List ℕ) (r : Range) → IsRangeOf text r
     → SameBehind text (replaced text r put) r.end (r.start + length put)
 behind_stays text put r is =
     let front = take r.start text in
-    let at : r.start + length put ≡ length (front ++ put) = sym (length-append front put ∙ ap (λ n. n + length put) (front_len text r is)) in
+    let at : r.start + length put ≡ length (front ++ put) =
+    sym (length-append front put ∙ ap (λ n. n + length put) (front_len text r is)) in
     let len = new_len text put r is in
     record {
       behind = sym (ap (drop (r.start + length put)) (sym (append_assoc front put (drop r.end text)))

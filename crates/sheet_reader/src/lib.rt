@@ -58,7 +58,7 @@ pub use moves::move_body;
 pub use node_tree::Origin;
 pub use opened::OpenSheet;
 pub use place::Position;
-pub use places::{position, position_from};
+pub use places::{position, position_from, units_at};
 pub use repairs::{NewPart, Share};
 pub use rereads::{NewBody, Rereading, carry_out, plan_reread, reread};
 pub use rules::read_sheet;

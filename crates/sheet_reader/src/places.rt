@@ -7,7 +7,8 @@ ghost use Rattle.sheet_reader.specs.Positions.{units_at, position_of, behind_byt
 
 use crate::place::Position;
 
-fn units_at(byte: u8) -> u64
+/// The UTF-16 units of a character, told by the first of its bytes; its other bytes count nothing.
+pub fn units_at(byte: u8) -> u64
     ensures value { result ≡ units_at byte }
     ensures few { result ≤ 2 }
 {

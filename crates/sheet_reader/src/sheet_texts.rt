@@ -80,7 +80,8 @@ impl SheetText {
     pub fn byte_at(&self, line: u64, column: u64) -> Option<usize>
         ensures edge { IfSome result (λ byte. IsCharBoundary self.now byte) }
         ensures there { IfSome result (λ byte. position_of self.now byte ≡ position line column) }
-        ensures no_place { IfNone result ((byte : ℕ) → IsCharBoundary self.now byte → position_of self.now byte ≡ position line column → ⊥) }
+        ensures no_place { IfNone result ((byte : ℕ) → IsCharBoundary self.now byte
+            → position_of self.now byte ≡ position line column → ⊥) }
     {
         let wanted = Position { line, column };
         let text = self.text.as_str();

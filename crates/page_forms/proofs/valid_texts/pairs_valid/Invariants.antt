@@ -1,7 +1,6 @@
 -- Where the pairs that are left have such texts, all have.
-use Rattle.std.proofs.Common.{drop}
 use Rattle.node_tree.specs.Labels.{PairsHaveUtf8}
 use Rattle.page_forms.proofs.valid_texts.pairs_valid.Given as goal
 
 abbrev pub invariant-loop-pair : goal.invariant-loop-pair
-invariant-loop-pair l = PairsHaveUtf8 (drop l.pair-index l.pairs) → PairsHaveUtf8 l.pairs
+invariant-loop-pair l = PairsHaveUtf8 l.pair-iterator → PairsHaveUtf8 l.attributes
